@@ -1,5 +1,5 @@
 -- What the program does with the words that std gives it.
-use Rattle.std.specs.Prelude.{◌≡◌, ◌⊎◌, ℕ, Bool, List, drop, map, Result, Ok, Err, string_bytes}
+use Rattle.std.specs.Prelude.{◌≡◌, ◌⊎◌, ℕ, List, drop, map, Result, Ok, Err, string_bytes}
 use Rattle.std.specs.IoError.{error_kind}
 use Rattle.std.specs.Vec.Iter.{into_iter_items}
 use Rattle.std.specs.declared.alloc.Global.{Global}
@@ -9,6 +9,7 @@ use Rattle.std.specs.declared.io.ErrorKind.TheVariants as kind
 use Rattle.std.specs.declared.string.String.{String}
 use Rattle.std.specs.declared.vec.IntoIter.{IntoIter}
 use Rattle.clap.specs.Walk.{Text}
+use Rattle.segcli.specs.Streams.{Input, Output}
 use Rattle.segcli.specs.Asked.{IsReadAsCommand}
 use Rattle.segcli.specs.Faults.{fault_line, fault_status}
 use Rattle.segcli.specs.Printing.{IsPrinted, IsFlushed}
@@ -30,18 +31,12 @@ IsReadOfWords words read = IsReadAsCommand words read ⊎ (read ≡ Err refusal.
 
 -- The program is run over the words behind the first, which is its name.
 -- If std gives no words, the fault is printed, and the reader is left alone.
-abbrev pub GivenOutcome : {R W E : Type 0} → (R → List ℕ → R → Type 0) → (R → Type 0) → (R → Bool)
-    → (R → ℕ) → (W → List ℕ → W → Type 0) → (W → Bool) → (W → ℕ) → (E → List ℕ → E → Type 0)
-    → (E → Bool) → (E → ℕ) → Result (IntoIter (String Global) Global) Error → R → R → W → W → E → E
-    → ℕ → Type 0
-GivenOutcome hands is_at_end read_failed ends takes write_failed flushes error_takes error_failed
-    error_flushes (Ok given) reader reader' writer writer' errors errors' status =
+abbrev pub GivenOutcome : {R W E : Type 0} → Input R → Output W → Output E
+    → Result (IntoIter (String Global) Global) Error → ℕ → Type 0
+GivenOutcome i o errors (Ok given) status =
     (read : Result Command Refusal)
     × IsReadOfWords (map (λ word. string_bytes word) (drop 1 (into_iter_items given))) read
-    × ProgramOutcome hands is_at_end read_failed ends takes write_failed flushes error_takes
-    error_failed error_flushes read reader reader' writer writer' errors errors' status
-GivenOutcome hands is_at_end read_failed ends takes write_failed flushes error_takes error_failed
-    error_flushes (Err error) reader reader' writer writer' errors errors' status =
+    × ProgramOutcome i o errors read status
+GivenOutcome i o errors (Err error) status =
     let why = fault_of_words (error_kind error) in
-    (status ≡ fault_status why) × (reader' ≡ reader) × IsFlushed takes flushes writer writer'
-    × IsPrinted error_takes error_failed error_flushes (fault_line why) errors errors'
+    (status ≡ fault_status why) × (i.new ≡ i.old) × IsFlushed o × IsPrinted (fault_line why) errors

@@ -10,5 +10,6 @@ pub mod Printing
 pub mod Program
 pub mod Progress
 pub mod Stats
+pub mod Streams
 pub mod Totals
 pub mod Replayed

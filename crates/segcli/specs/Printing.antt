@@ -1,30 +1,29 @@
 -- A text that is written and flushed.
-use Rattle.std.specs.Prelude.{◌⊎◌, ◌≡◌, ℕ, Bool, List, [], Result, Ok, Err, is_err}
-use Rattle.segscript.specs.Words.{one_more, IsBeginning}
+use Rattle.std.specs.Prelude.{◌⊎◌, ◌≡◌, ℕ, List, [], Result, Ok, Err, is_err}
+use Rattle.segscript.specs.Words.{IsBeginning}
+use Rattle.segcli.specs.Streams.{IsFlushedOnce, IsUnflushed, output, Output, Took}
 use Rattle.segscript.specs.declared.device.Failed.{Failed}
+use Rattle.segscript.specs.declared.device.Sink as Sink
 
--- How the printing of a text ends. `Wrote` is so of the bytes that were written.
--- `before` flushes were asked for before the printing, and `flushes` after it.
--- If the printing fails, the text was cut short, or the flush failed.
-abbrev pub PrintOutcome : {E : Type 0} → List ℕ → (List ℕ → Type 0) → ℕ → ℕ → Result (Unit {0}) E
+-- How the printing of a text ends. If it fails, the text was cut short, or the flush failed.
+abbrev pub PrintOutcome : List ℕ → {W : Type 0} → Output W → {E : Type 0} → Result (Unit {0}) E
     → Type 0
-PrintOutcome text Wrote before flushes (Ok _) = Wrote text × (flushes ≡ one_more before)
-PrintOutcome text Wrote before flushes (Err _) =
-    ((part : List ℕ) × Wrote part × IsBeginning part text × (flushes ≡ before))
-    ⊎ (Wrote text × (flushes ≡ one_more before))
+PrintOutcome text o (Ok _) = Took o text × IsFlushedOnce o
+PrintOutcome text o (Err _) =
+    ((part : List ℕ) × Took o part × IsBeginning part text × IsUnflushed o)
+    ⊎ (Took o text × IsFlushedOnce o)
 
--- The text was printed to the writer, or that was tried and failed.
-abbrev pub IsPrinted : {W : Type 0} → (W → List ℕ → W → Type 0) → (W → Bool) → (W → ℕ) → List ℕ → W
-    → W → Type 0
-IsPrinted takes has_failed flushes text old new =
+-- The text was printed, or that was tried and failed.
+abbrev pub IsPrinted : List ℕ → {W : Type 0} → Output W → Type 0
+IsPrinted text o =
     (end : Result (Unit {0}) Failed)
-    × PrintOutcome text (λ part. takes old part new) (flushes old) (flushes new) end
-    × (has_failed new ≡ is_err end)
+    × PrintOutcome text o end
+    × (o.sink.has_failed o.new ≡ is_err end)
 
 -- The writer was asked to flush, whether the flush failed or not.
-abbrev pub IsFlushed : {W : Type 0} → (W → List ℕ → W → Type 0) → (W → ℕ) → W → W → Type 0
-IsFlushed takes flushes old new = takes old [] new × (flushes new ≡ one_more (flushes old))
+abbrev pub IsFlushed : {W : Type 0} → Output W → Type 0
+IsFlushed o = Took o [] × IsFlushedOnce o
 
 -- A flush led to the state that the writer is in.
-abbrev pub WasFlushed : {W : Type 0} → (W → List ℕ → W → Type 0) → (W → ℕ) → W → Type 0
-WasFlushed {W} takes flushes writer = (before : W) × IsFlushed takes flushes before writer
+abbrev pub WasFlushed : {W : Type 0} → Sink.Ghosts W → W → Type 0
+WasFlushed {W} sink writer = (before : W) × IsFlushed (output sink before writer)

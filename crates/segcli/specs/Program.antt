@@ -1,5 +1,6 @@
 -- What the program does with the words that it is given.
-use Rattle.std.specs.Prelude.{◌≡◌, ℕ, Bool, List, Result, Ok, Err, string_bytes}
+use Rattle.std.specs.Prelude.{◌≡◌, ℕ, List, Result, Ok, Err, string_bytes}
+use Rattle.segcli.specs.Streams.{Input, output, Output}
 use Rattle.segcli.specs.Commands.{CommandOutcome, Concludes}
 use Rattle.segcli.specs.Faults.{fault_line, fault_status}
 use Rattle.segcli.specs.Printing.{IsPrinted, IsFlushed}
@@ -22,17 +23,12 @@ refusal_text refusal.OutOfMemory = fault_line fault.OutOfMemory
 -- It ends with the writer at `there`, and that end is concluded.
 -- If none was read, the reader is left alone, the writer is flushed, and the text that says why is printed
 -- to the error writer.
-abbrev pub ProgramOutcome : {R W E : Type 0} → (R → List ℕ → R → Type 0) → (R → Type 0) → (R → Bool)
-    → (R → ℕ) → (W → List ℕ → W → Type 0) → (W → Bool) → (W → ℕ) → (E → List ℕ → E → Type 0)
-    → (E → Bool) → (E → ℕ) → Result Command Refusal → R → R → W → W → E → E → ℕ → Type 0
-ProgramOutcome {R} {W} hands is_at_end read_failed ends takes write_failed flushes error_takes
-    error_failed error_flushes (Ok command) reader reader' writer writer' errors errors' status =
+abbrev pub ProgramOutcome : {R W E : Type 0} → Input R → Output W → Output E
+    → Result Command Refusal → ℕ → Type 0
+ProgramOutcome {W = W} i o errors (Ok command) status =
     (there : W) × (end : Result (Unit {0}) ProgramFault)
-    × CommandOutcome hands is_at_end read_failed ends takes write_failed flushes command reader
-    reader' writer there end
-    × Concludes takes flushes error_takes error_failed error_flushes command end there writer'
-    errors errors' status
-ProgramOutcome hands is_at_end read_failed ends takes write_failed flushes error_takes error_failed
-    error_flushes (Err why) reader reader' writer writer' errors errors' status =
-    (status ≡ refusal_status why) × (reader' ≡ reader) × IsFlushed takes flushes writer writer'
-    × IsPrinted error_takes error_failed error_flushes (refusal_text why) errors errors'
+    × CommandOutcome i (output o.sink o.old there) command end
+    × Concludes (output o.sink there o.new) errors command end status
+ProgramOutcome i o errors (Err why) status =
+    (status ≡ refusal_status why) × (i.new ≡ i.old) × IsFlushed o
+    × IsPrinted (refusal_text why) errors

@@ -1,6 +1,7 @@
 //! The commands of the program, and how each ends.
 ghost use Rattle.std.specs.Prelude.{◌≡◌, false, Result, IfOk, IfErr};
 ghost use Rattle.std.specs.Int.NonZero.{non_zero_u32_get};
+ghost use Rattle.segcli.specs.Streams.{input, output};
 ghost use Rattle.segload.specs.declared.totals.Totals.{Totals};
 ghost use Rattle.segload.specs.Words.{IsLoad, IsLoadFault, knows_nothing, lets_all_through};
 ghost use Rattle.segcli.specs.declared.fault.ProgramFault.{ProgramFault};
@@ -16,12 +17,13 @@ use crate::fault::{ProgramFault, print};
 use crate::note::report_explained;
 use crate::progress::{Followed, Watch, Watched};
 use crate::replayed::{plan_of, text_of_replay};
+use crate::streams::Streams;
 use crate::totals::text_in;
 use segload::{LoadFault, OpenGate, Plan, Totals, run_crowd};
 use segreplay::{TraceFault, replay};
-use segscript::{Failed, Sink, Source, run_script};
+use segscript::{Sink, Source, run_script};
 use segword::Shape;
-use std::alloc::{AllocError, AllocGlobal, Global};
+use std::alloc::{AllocGlobal, Global};
 use std::sync::Wait;
 use std::thread::Threads;
 
@@ -58,45 +60,46 @@ pub fn run_command<R: Threads + Wait + AllocGlobal + Sync, S: Source, W: Sink, E
     rt: &R,
     alloc: Global,
     command: &Command<'_>,
-    source: &mut S,
-    writer: &mut W,
-    errors: &mut E,
+    streams: &mut Streams<S, W, E>,
     watch: &V,
 ) -> u8
-    requires source_works { S.has_failed source.old ≡ false }
-    requires writer_works { W.has_failed writer.old ≡ false }
-    requires errors_work { E.has_failed errors.old ≡ false }
+    requires source_works { S.has_failed streams.old.source ≡ false }
+    requires writer_works { W.has_failed streams.old.writer ≡ false }
+    requires errors_work { E.has_failed streams.old.errors ≡ false }
 
     // The command ends with the writer at `there`. Then its fault, if it has one, is reported.
     ensures outcome { (there : W) × (end : Result (Unit {0}) ProgramFault)
-        × CommandOutcome S.hands S.is_at_end S.has_failed S.ends W.takes W.has_failed W.flushes
-        command.now source.old source.new writer.old there end
-        × Concludes W.takes W.flushes E.takes E.has_failed E.flushes command.now end there
-        writer.new errors.old errors.new result }
+        × CommandOutcome (input S.Source streams.old.source streams.new.source)
+        (output W.Sink streams.old.writer there) command.now end
+        × Concludes (output W.Sink there streams.new.writer)
+        (output E.Sink streams.old.errors streams.new.errors) command.now end result }
 {
-    let end = perform(rt, alloc, command, source, writer, watch);
-    conclude(command, end, writer, errors)
+    let end = perform(rt, alloc, command, streams, watch);
+    conclude(command, end, &mut streams.writer, &mut streams.errors)
 }
 
-fn perform<R: Threads + Wait + AllocGlobal + Sync, S: Source, W: Sink, V: Watch>(
+// Carries out a command, and leaves the error writer alone.
+fn perform<R: Threads + Wait + AllocGlobal + Sync, S: Source, W: Sink, E, V: Watch>(
     rt: &R,
     alloc: Global,
     command: &Command<'_>,
-    source: &mut S,
-    writer: &mut W,
+    streams: &mut Streams<S, W, E>,
     watch: &V,
 ) -> Result<(), ProgramFault>
-    requires source_works { S.has_failed source.old ≡ false }
-    requires writer_works { W.has_failed writer.old ≡ false }
-    ensures { CommandOutcome S.hands S.is_at_end S.has_failed S.ends W.takes W.has_failed W.flushes
-        command.now source.old source.new writer.old writer.new result }
+    requires source_works { S.has_failed streams.old.source ≡ false }
+    requires writer_works { W.has_failed streams.old.writer ≡ false }
+    ensures outcome { CommandOutcome (input S.Source streams.old.source streams.new.source)
+        (output W.Sink streams.old.writer streams.new.writer) command.now result }
+    ensures errors { streams.new.errors ≡ streams.old.errors }
 {
     match command {
-        Command::Script { shape, .. } => perform_script(alloc, *shape, source, writer),
-        Command::Load(load) => perform_load(rt, alloc, load, watch, writer),
-        Command::Replay(replay) => perform_replay(rt, alloc, replay, source, watch, writer),
-        Command::Word(word) => perform_word(word, writer),
-        Command::Show(text) => show(text.as_bytes(), writer),
+        Command::Script { shape, .. } => {
+            perform_script(alloc, *shape, &mut streams.source, &mut streams.writer)
+        }
+        Command::Load(load) => perform_load(rt, alloc, load, watch, &mut streams.writer),
+        Command::Replay(replay) => perform_replay(rt, alloc, replay, streams, watch),
+        Command::Word(word) => perform_word(word, &mut streams.writer),
+        Command::Show(text) => show(text.as_bytes(), &mut streams.writer),
     }
 }
 
@@ -108,13 +111,10 @@ fn perform_script<S: Source, W: Sink>(
 ) -> Result<(), ProgramFault>
     requires source_works { S.has_failed source.old ≡ false }
     requires writer_works { W.has_failed writer.old ≡ false }
-    ensures { ScriptOutcome S.hands S.is_at_end S.has_failed S.ends W.takes W.has_failed W.flushes
-        shape source.old source.new writer.old writer.new result }
+    ensures { ScriptOutcome (input S.Source source.old source.new)
+        (output W.Sink writer.old writer.new) shape result }
 {
-    match run_script(alloc, source, writer, shape) {
-        Ok(()) => Ok(()),
-        Err(fault) => Err(ProgramFault::of_run(fault)),
-    }
+    Ok(run_script(alloc, source, writer, shape)?)
 }
 
 fn perform_load<R: Threads + Wait + AllocGlobal + Sync, W: Sink, V: Watch>(
@@ -125,14 +125,11 @@ fn perform_load<R: Threads + Wait + AllocGlobal + Sync, W: Sink, V: Watch>(
     writer: &mut W,
 ) -> Result<(), ProgramFault>
     requires writer_works { W.has_failed writer.old ≡ false }
-    ensures outcome { LoadOutcome load.now (λ part. W.takes writer.old part writer.new)
-        (W.flushes writer.old) (W.flushes writer.new) result }
+    ensures outcome { LoadOutcome load.now (output W.Sink writer.old writer.new) result }
     ensures failed { W.has_failed writer.new ≡ is_write_end result }
 {
-    match load_text(rt, alloc, load, watch) {
-        Ok(text) => show(text.as_slice(), writer),
-        Err(fault) => Err(fault),
-    }
+    let text = load_text(rt, alloc, load, watch)?;
+    show(text.as_slice(), writer)
 }
 
 // Runs a load, and returns the text of its totals.
@@ -148,17 +145,11 @@ fn load_text<R: Threads + Wait + AllocGlobal + Sync, V: Watch>(
         × (text.items ≡ text_in load.now.format totals)) }
     ensures fault { IfErr result (IsFaultOfLoad load.now.shape load.now.commands) }
 {
-    let totals = match totals_of(rt, alloc, load, watch) {
-        Ok(totals) => totals,
-        Err(fault) => return Err(ProgramFault::of_load(fault)),
-    };
+    let totals = totals_of(rt, alloc, load, watch)?;
     if load.stats {
         watch.ended(&totals);
     }
-    match text_in(alloc, load.format, &totals) {
-        Ok(text) => Ok(text),
-        Err(AllocError) => Err(ProgramFault::OutOfMemory),
-    }
+    Ok(text_in(alloc, load.format, &totals)?)
 }
 
 // Runs a load, at which the watch looks on if it is asked to.
@@ -187,33 +178,28 @@ fn totals_of<R: Threads + Wait + AllocGlobal + Sync, V: Watch>(
     }
 }
 
-fn perform_replay<R: Threads + Wait + AllocGlobal + Sync, S: Source, W: Sink, V: Watch>(
+fn perform_replay<R: Threads + Wait + AllocGlobal + Sync, S: Source, W: Sink, E, V: Watch>(
     rt: &R,
     alloc: Global,
     asked: &Replay<'_>,
-    source: &mut S,
+    streams: &mut Streams<S, W, E>,
     watch: &V,
-    writer: &mut W,
 ) -> Result<(), ProgramFault>
-    requires source_works { S.has_failed source.old ≡ false }
-    requires writer_works { W.has_failed writer.old ≡ false }
-    ensures outcome { ReplayOutcome S.hands asked.now source.old source.new
-        (λ part. W.takes writer.old part writer.new)
-        (W.flushes writer.old) (W.flushes writer.new) result }
-    ensures failed { W.has_failed writer.new ≡ is_write_end result }
+    requires source_works { S.has_failed streams.old.source ≡ false }
+    requires writer_works { W.has_failed streams.old.writer ≡ false }
+    ensures outcome { ReplayOutcome asked.now
+        (input S.Source streams.old.source streams.new.source)
+        (output W.Sink streams.old.writer streams.new.writer) result }
+    ensures failed { W.has_failed streams.new.writer ≡ is_write_end result }
+    ensures errors { streams.new.errors ≡ streams.old.errors }
 {
     let follow = Followed {
         watch,
         is_asked: asked.progress,
     };
-    let replayed = match replay(rt, alloc, source, &plan_of(asked), &follow) {
-        Ok(replayed) => replayed,
-        Err(fault) => return Err(ProgramFault::of_replay(fault)),
-    };
-    let Ok(text) = text_of_replay(alloc, asked.format, replayed.totals.as_slice()) else {
-        return Err(ProgramFault::OutOfMemory);
-    };
-    let shown = show(text.as_slice(), writer);
+    let replayed = replay(rt, alloc, &mut streams.source, &plan_of(asked), &follow)?;
+    let text = text_of_replay(alloc, asked.format, replayed.totals.as_slice())?;
+    let shown = show(text.as_slice(), &mut streams.writer);
     end_of_replay(shown, replayed.end)
 }
 
@@ -225,26 +211,20 @@ fn end_of_replay(
     ensures end { result ≡ end_of_replay shown end }
     ensures failed { is_write_end result ≡ is_write_end shown }
 {
-    match shown {
-        Ok(()) => end_of_trace(end),
-        Err(fault) => Err(fault),
-    }
+    shown?;
+    end_of_trace(end)
 }
 
 fn end_of_trace(end: Result<(), TraceFault>) -> Result<(), ProgramFault>
     ensures end { result ≡ end_of_trace end }
     ensures failed { is_write_end result ≡ false }
 {
-    match end {
-        Ok(()) => Ok(()),
-        Err(fault) => Err(ProgramFault::of_trace(fault)),
-    }
+    Ok(end?)
 }
 
 fn perform_word<W: Sink>(word: &Word<'_>, writer: &mut W) -> Result<(), ProgramFault>
     requires writer_works { W.has_failed writer.old ≡ false }
-    ensures outcome { WordOutcome word.now (λ part. W.takes writer.old part writer.new)
-        (W.flushes writer.old) (W.flushes writer.new) result }
+    ensures outcome { WordOutcome word.now (output W.Sink writer.old writer.new) result }
     ensures failed { W.has_failed writer.new ≡ is_write_end result }
 {
     match meaning_of(word.kind, word.text) {
@@ -256,14 +236,10 @@ fn perform_word<W: Sink>(word: &Word<'_>, writer: &mut W) -> Result<(), ProgramF
 // Prints a text to the writer.
 fn show<W: Sink>(text: &[u8], writer: &mut W) -> Result<(), ProgramFault>
     requires writer_works { W.has_failed writer.old ≡ false }
-    ensures outcome { ShowOutcome text.now (λ part. W.takes writer.old part writer.new)
-        (W.flushes writer.old) (W.flushes writer.new) result }
+    ensures outcome { ShowOutcome text.now (output W.Sink writer.old writer.new) result }
     ensures failed { W.has_failed writer.new ≡ is_write_end result }
 {
-    match print(writer, text) {
-        Ok(()) => Ok(()),
-        Err(Failed) => Err(ProgramFault::Write),
-    }
+    print(writer, text).map_err(|_| ProgramFault::Write)
 }
 
 // Returns the status of a command that ended so. A fault is reported.
@@ -274,8 +250,8 @@ fn conclude<W: Sink, E: Sink>(
     errors: &mut E,
 ) -> u8
     requires errors_work { E.has_failed errors.old ≡ false }
-    ensures { Concludes W.takes W.flushes E.takes E.has_failed E.flushes command.now end
-        writer.old writer.new errors.old errors.new result }
+    ensures { Concludes (output W.Sink writer.old writer.new)
+        (output E.Sink errors.old errors.new) command.now end result }
 {
     match end {
         Ok(()) => 0,

@@ -1,7 +1,7 @@
 //! The faults of the program, with their statuses and lines, and the printing of lines and of other texts.
 ghost use Rattle.std.specs.Prelude.{◌≡◌, false, is_err};
-ghost use Rattle.segcli.specs.Faults.{fault_line, fault_of_load, fault_of_replay, fault_of_run};
-ghost use Rattle.segcli.specs.Faults.{fault_of_trace, fault_status};
+ghost use Rattle.segcli.specs.Streams.{output};
+ghost use Rattle.segcli.specs.Faults.{fault_line, fault_status};
 ghost use Rattle.segcli.specs.Printing.{PrintOutcome, IsPrinted, IsFlushed, WasFlushed};
 
 use segindex::MakeFault;
@@ -9,6 +9,7 @@ use segload::LoadFault;
 use segreplay::{ReplayFault, TraceFault};
 use segscript::{Failed, Line, RunFault, Sink, line_of, put, put_number, write_all};
 use segword::ShapeFault;
+use std::alloc::AllocError;
 
 /// Why the program failed.
 #[derive(Clone, Copy, Debug, PartialEq, Eq)]
@@ -33,11 +34,12 @@ pub enum ProgramFault {
     Stopped(u32),
 }
 
-impl ProgramFault {
-    /// The program's fault if the run of a script had this fault.
-    pub fn of_run(fault: RunFault) -> ProgramFault
-        ensures { result ≡ fault_of_run fault }
-    {
+impl From<RunFault> for ProgramFault {
+    ghost use Rattle.segcli.specs.Faults.{fault_of_run};
+
+    ghost from_gives = { λ fault result. result ≡ fault_of_run fault };
+
+    fn from(fault: RunFault) -> ProgramFault {
         match fault {
             RunFault::Read => ProgramFault::Read,
             RunFault::Write => ProgramFault::Write,
@@ -47,11 +49,14 @@ impl ProgramFault {
             RunFault::TooLong => ProgramFault::TooLong,
         }
     }
+}
 
-    /// The program's fault if a load had this fault.
-    pub fn of_load(fault: LoadFault) -> ProgramFault
-        ensures { result ≡ fault_of_load fault }
-    {
+impl From<LoadFault> for ProgramFault {
+    ghost use Rattle.segcli.specs.Faults.{fault_of_load};
+
+    ghost from_gives = { λ fault result. result ≡ fault_of_load fault };
+
+    fn from(fault: LoadFault) -> ProgramFault {
         match fault {
             LoadFault::Make(MakeFault::Shape(fault)) => ProgramFault::BadShape(fault),
             LoadFault::Make(MakeFault::OutOfMemory) | LoadFault::OutOfMemory => {
@@ -60,11 +65,14 @@ impl ProgramFault {
             LoadFault::Stopped(pass) => ProgramFault::Stopped(pass),
         }
     }
+}
 
-    /// The program's fault if a replay had this fault.
-    pub fn of_replay(fault: ReplayFault) -> ProgramFault
-        ensures { result ≡ fault_of_replay fault }
-    {
+impl From<ReplayFault> for ProgramFault {
+    ghost use Rattle.segcli.specs.Faults.{fault_of_replay};
+
+    ghost from_gives = { λ fault result. result ≡ fault_of_replay fault };
+
+    fn from(fault: ReplayFault) -> ProgramFault {
         match fault {
             ReplayFault::Make(MakeFault::Shape(fault)) => ProgramFault::BadShape(fault),
             ReplayFault::Make(MakeFault::OutOfMemory) | ReplayFault::OutOfMemory => {
@@ -72,11 +80,14 @@ impl ProgramFault {
             }
         }
     }
+}
 
-    /// The program's fault if a trace ended with this fault.
-    pub fn of_trace(fault: TraceFault) -> ProgramFault
-        ensures { result ≡ fault_of_trace fault }
-    {
+impl From<TraceFault> for ProgramFault {
+    ghost use Rattle.segcli.specs.Faults.{fault_of_trace};
+
+    ghost from_gives = { λ fault result. result ≡ fault_of_trace fault };
+
+    fn from(fault: TraceFault) -> ProgramFault {
         match fault {
             TraceFault::Read => ProgramFault::Read,
             TraceFault::Line(number) => ProgramFault::BadLine(number),
@@ -84,7 +95,19 @@ impl ProgramFault {
             TraceFault::TooLong => ProgramFault::TooLong,
         }
     }
+}
 
+impl From<AllocError> for ProgramFault {
+    ghost use Rattle.segcli.specs.declared.fault.ProgramFault.{ProgramFault};
+
+    ghost from_gives = { λ _ result. result ≡ ProgramFault.OutOfMemory };
+
+    fn from(_error: AllocError) -> ProgramFault {
+        ProgramFault::OutOfMemory
+    }
+}
+
+impl ProgramFault {
     /// The exit status: 2 for a bad line, a bad word or bad arguments, else 3.
     pub fn status(self) -> u8
         ensures { result ≡ fault_status self }
@@ -136,24 +159,18 @@ impl ProgramFault {
 /// Writes a text and flushes.
 pub fn print<W: Sink>(writer: &mut W, text: &[u8]) -> Result<(), Failed>
     requires works { W.has_failed writer.old ≡ false }
-    ensures outcome { PrintOutcome text.now (λ part. W.takes writer.old part writer.new)
-        (W.flushes writer.old) (W.flushes writer.new) result }
+    ensures outcome { PrintOutcome text.now (output W.Sink writer.old writer.new) result }
     ensures failed { W.has_failed writer.new ≡ is_err result }
 {
-    if let Err(failed) = write_all(writer, text) {
-        return Err(failed);
-    }
-    match writer.flush() {
-        Ok(()) => Ok(()),
-        Err(failed) => Err(failed),
-    }
+    write_all(writer, text)?;
+    writer.flush()
 }
 
 // Prints the line of a fault. Before it does, the writer was asked to flush.
 pub(crate) fn print_after<W: Sink, E: Sink>(_writer: &W, errors: &mut E, text: &[u8])
-    requires flushed { WasFlushed W.takes W.flushes _writer.now }
+    requires flushed { WasFlushed W.Sink _writer.now }
     requires errors_work { E.has_failed errors.old ≡ false }
-    ensures { IsPrinted E.takes E.has_failed E.flushes text.now errors.old errors.new }
+    ensures { IsPrinted text.now (output E.Sink errors.old errors.new) }
 {
     let _ = print(errors, text);
 }
@@ -163,9 +180,8 @@ pub(crate) fn print_after<W: Sink, E: Sink>(_writer: &W, errors: &mut E, text: &
 pub fn report<W: Sink, E: Sink>(fault: ProgramFault, writer: &mut W, errors: &mut E) -> u8
     requires errors_work { E.has_failed errors.old ≡ false }
     ensures status { result ≡ fault_status fault }
-    ensures writer { IsFlushed W.takes W.flushes writer.old writer.new }
-    ensures errors { IsPrinted E.takes E.has_failed E.flushes (fault_line fault)
-        errors.old errors.new }
+    ensures writer { IsFlushed (output W.Sink writer.old writer.new) }
+    ensures errors { IsPrinted (fault_line fault) (output E.Sink errors.old errors.new) }
 {
     let _ = writer.flush();
     print_after(writer, errors, fault.line().as_slice());

@@ -2,11 +2,13 @@
 ghost use Rattle.std.specs.Prelude.{◌≡◌, false, drop, IfOk};
 ghost use Rattle.std.specs.IoError.{error_kind};
 ghost use Rattle.std.specs.Vec.Iter.{into_iter_items};
+ghost use Rattle.segcli.specs.Streams.{input, output};
 ghost use Rattle.segcli.specs.Given.{fault_of_words, GivenOutcome};
 
 use crate::fault::{ProgramFault, report};
 use crate::program::run_watched;
 use crate::progress::Watch;
+use crate::streams::Streams;
 use segscript::{Sink, Source};
 use std::alloc::{AllocError, AllocGlobal, Global};
 use std::env::Args;
@@ -24,27 +26,31 @@ pub fn run_given<R: Threads + Wait + AllocGlobal + Sync, S: Source, W: Sink, E: 
     rt: &R,
     alloc: Global,
     given: io::Result<Args>,
-    source: &mut S,
-    writer: &mut W,
-    errors: &mut E,
+    streams: &mut Streams<S, W, E>,
     watch: &V,
 ) -> u8
-    requires source_works { S.has_failed source.old ≡ false }
-    requires writer_works { W.has_failed writer.old ≡ false }
-    requires errors_work { E.has_failed errors.old ≡ false }
+    requires source_works { S.has_failed streams.old.source ≡ false }
+    requires writer_works { W.has_failed streams.old.writer ≡ false }
+    requires errors_work { E.has_failed streams.old.errors ≡ false }
 
     // The words behind the first are those that the program is run over.
-    ensures outcome { GivenOutcome S.hands S.is_at_end S.has_failed S.ends
-        W.takes W.has_failed W.flushes E.takes E.has_failed E.flushes
-        given source.old source.new writer.old writer.new errors.old errors.new result }
+    ensures outcome { GivenOutcome (input S.Source streams.old.source streams.new.source)
+        (output W.Sink streams.old.writer streams.new.writer)
+        (output E.Sink streams.old.errors streams.new.errors) given result }
 {
     let given = match given {
         Ok(given) => given,
-        Err(error) => return report(fault_of_words(&error), writer, errors),
+        Err(error) => {
+            let fault = fault_of_words(&error);
+            return report(fault, &mut streams.writer, &mut streams.errors);
+        }
     };
     match words_of(alloc, given) {
-        Ok(words) => run_watched(rt, alloc, words.as_slice(), source, writer, errors, watch),
-        Err(AllocError) => report(ProgramFault::OutOfMemory, writer, errors),
+        Ok(words) => run_watched(rt, alloc, words.as_slice(), streams, watch),
+        Err(AllocError) => {
+            let fault = ProgramFault::OutOfMemory;
+            report(fault, &mut streams.writer, &mut streams.errors)
+        }
     }
 }
 

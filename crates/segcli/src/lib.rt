@@ -15,6 +15,7 @@ mod program;
 mod progress;
 mod replayed;
 mod stats;
+mod streams;
 mod totals;
 
 pub use arguments::{Refusal, read_command};
@@ -28,3 +29,4 @@ pub use program::{run_program, run_watched};
 pub use progress::{Nobody, Watch, progress_line, replay_line};
 pub use segload::Totals;
 pub use stats::{Pace, stats_text};
+pub use streams::Streams;

@@ -1,5 +1,6 @@
 //! What `--explain` adds behind the line of a fault.
 ghost use Rattle.std.specs.Prelude.{◌≡◌, ◌++◌, [], false, is_err, length};
+ghost use Rattle.segcli.specs.Streams.{output};
 ghost use Rattle.segcli.specs.Faults.{fault_line, fault_status};
 ghost use Rattle.segcli.specs.Notes.{explains, has_prefix, kind_note, length_note, letter_from};
 ghost use Rattle.segcli.specs.Notes.{letter_note, note_of, note_of_fault, note_of_word};
@@ -135,22 +136,18 @@ fn note_of(command: &Command<'_>, fault: ProgramFault) -> Line
 fn print_both<W: Sink>(writer: &mut W, first: &[u8], second: &[u8]) -> Result<(), Failed>
     requires works { W.has_failed writer.old ≡ false }
     ensures outcome { PrintOutcome (first.now ++ second.now)
-        (λ part. W.takes writer.old part writer.new)
-        (W.flushes writer.old) (W.flushes writer.new) result }
+        (output W.Sink writer.old writer.new) result }
     ensures failed { W.has_failed writer.new ≡ is_err result }
 {
-    if let Err(failed) = write_all(writer, first) {
-        return Err(failed);
-    }
+    write_all(writer, first)?;
     print(writer, second)
 }
 
 // Prints the line of a fault and its note. Before it does, the writer was asked to flush.
 fn print_both_after<W: Sink, E: Sink>(_writer: &W, errors: &mut E, line: &[u8], note: &[u8])
-    requires flushed { WasFlushed W.takes W.flushes _writer.now }
+    requires flushed { WasFlushed W.Sink _writer.now }
     requires errors_work { E.has_failed errors.old ≡ false }
-    ensures { IsPrinted E.takes E.has_failed E.flushes (line.now ++ note.now)
-        errors.old errors.new }
+    ensures { IsPrinted (line.now ++ note.now) (output E.Sink errors.old errors.new) }
 {
     let _ = print_both(errors, line, note);
 }
@@ -165,9 +162,9 @@ pub(crate) fn report_explained<W: Sink, E: Sink>(
 ) -> u8
     requires errors_work { E.has_failed errors.old ≡ false }
     ensures status { result ≡ fault_status fault }
-    ensures writer { IsFlushed W.takes W.flushes writer.old writer.new }
-    ensures errors { IsPrinted E.takes E.has_failed E.flushes
-        (fault_line fault ++ note_of command.now fault) errors.old errors.new }
+    ensures writer { IsFlushed (output W.Sink writer.old writer.new) }
+    ensures errors { IsPrinted (fault_line fault ++ note_of command.now fault)
+        (output E.Sink errors.old errors.new) }
 {
     let note = note_of(command, fault);
     let _ = writer.flush();

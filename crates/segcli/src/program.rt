@@ -1,5 +1,6 @@
 //! The program, over the words after its name.
 ghost use Rattle.std.specs.Prelude.{◌≡◌, false, map, string_bytes, Result};
+ghost use Rattle.segcli.specs.Streams.{input, output};
 ghost use Rattle.segcli.specs.declared.arguments.Refusal.{Refusal};
 ghost use Rattle.segcli.specs.declared.command.Command.{Command as Asked};
 ghost use Rattle.segcli.specs.Printing.{IsPrinted, IsFlushed};
@@ -10,6 +11,7 @@ use crate::arguments::{Refusal, read_command};
 use crate::command::run_command;
 use crate::fault::{ProgramFault, print_after, report};
 use crate::progress::{Nobody, Watch};
+use crate::streams::Streams;
 use segscript::{Sink, Source};
 use std::alloc::{AllocGlobal, Global};
 use std::sync::Wait;
@@ -28,22 +30,20 @@ pub fn run_program<R: Threads + Wait + AllocGlobal + Sync, S: Source, W: Sink, E
     rt: &R,
     alloc: Global,
     words: &[String],
-    source: &mut S,
-    writer: &mut W,
-    errors: &mut E,
+    streams: &mut Streams<S, W, E>,
 ) -> u8
-    requires source_works { S.has_failed source.old ≡ false }
-    requires writer_works { W.has_failed writer.old ≡ false }
-    requires errors_work { E.has_failed errors.old ≡ false }
+    requires source_works { S.has_failed streams.old.source ≡ false }
+    requires writer_works { W.has_failed streams.old.writer ≡ false }
+    requires errors_work { E.has_failed streams.old.errors ≡ false }
 
     // The command that is read from the words is carried out, or the words are refused.
     ensures outcome { (read : Result Asked Refusal)
         × IsReadAsCommand (map (λ word. string_bytes word) words.now) read
-        × ProgramOutcome S.hands S.is_at_end S.has_failed S.ends W.takes W.has_failed W.flushes
-        E.takes E.has_failed E.flushes read source.old source.new writer.old writer.new
-        errors.old errors.new result }
+        × ProgramOutcome (input S.Source streams.old.source streams.new.source)
+        (output W.Sink streams.old.writer streams.new.writer)
+        (output E.Sink streams.old.errors streams.new.errors) read result }
 {
-    run_watched(rt, alloc, words, source, writer, errors, &Nobody)
+    run_watched(rt, alloc, words, streams, &Nobody)
 }
 
 /// Does what `run_program` does. If the words ask for it, the watch looks on at a load.
@@ -53,25 +53,23 @@ pub fn run_watched<R: Threads + Wait + AllocGlobal + Sync, S: Source, W: Sink, E
     rt: &R,
     alloc: Global,
     words: &[String],
-    source: &mut S,
-    writer: &mut W,
-    errors: &mut E,
+    streams: &mut Streams<S, W, E>,
     watch: &V,
 ) -> u8
-    requires source_works { S.has_failed source.old ≡ false }
-    requires writer_works { W.has_failed writer.old ≡ false }
-    requires errors_work { E.has_failed errors.old ≡ false }
+    requires source_works { S.has_failed streams.old.source ≡ false }
+    requires writer_works { W.has_failed streams.old.writer ≡ false }
+    requires errors_work { E.has_failed streams.old.errors ≡ false }
 
     // The command that is read from the words is carried out, or the words are refused.
     ensures outcome { (read : Result Asked Refusal)
         × IsReadAsCommand (map (λ word. string_bytes word) words.now) read
-        × ProgramOutcome S.hands S.is_at_end S.has_failed S.ends W.takes W.has_failed W.flushes
-        E.takes E.has_failed E.flushes read source.old source.new writer.old writer.new
-        errors.old errors.new result }
+        × ProgramOutcome (input S.Source streams.old.source streams.new.source)
+        (output W.Sink streams.old.writer streams.new.writer)
+        (output E.Sink streams.old.errors streams.new.errors) read result }
 {
     match read_command(alloc, words) {
-        Ok(command) => run_command(rt, alloc, &command, source, writer, errors, watch),
-        Err(refusal) => refuse(&refusal, writer, errors),
+        Ok(command) => run_command(rt, alloc, &command, streams, watch),
+        Err(refusal) => refuse(&refusal, &mut streams.writer, &mut streams.errors),
     }
 }
 
@@ -79,9 +77,8 @@ pub fn run_watched<R: Threads + Wait + AllocGlobal + Sync, S: Source, W: Sink, E
 fn refuse<W: Sink, E: Sink>(refusal: &Refusal, writer: &mut W, errors: &mut E) -> u8
     requires errors_work { E.has_failed errors.old ≡ false }
     ensures status { result ≡ refusal_status refusal.now }
-    ensures writer { IsFlushed W.takes W.flushes writer.old writer.new }
-    ensures errors { IsPrinted E.takes E.has_failed E.flushes (refusal_text refusal.now)
-        errors.old errors.new }
+    ensures writer { IsFlushed (output W.Sink writer.old writer.new) }
+    ensures errors { IsPrinted (refusal_text refusal.now) (output E.Sink errors.old errors.new) }
 {
     match refusal {
         Refusal::Usage(text) => {

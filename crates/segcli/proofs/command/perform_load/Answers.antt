@@ -1,8 +1,8 @@
+use Rattle.segcli.specs.Streams.{output}
 use Rattle.segcli.proofs.Showing.{load_shown}
 use Rattle.segcli.proofs.command.perform_load.Goals as goal
 
-pub returns-in-Ok-clause-outcome : goal.returns-in-Ok-clause-outcome
-returns-in-Ok-clause-outcome g c =
-    load_shown c.args.load.now (λ part. g.W.Sink.takes c.args.writer.now part c.show.new.writer)
-    (g.W.Sink.flushes c.args.writer.now) (g.W.Sink.flushes c.show.new.writer) c.show.result
-    c.in-Ok.ensures.text c.as_slice.ensures.value c.show.ensures.outcome
+pub returns-clause-outcome : goal.returns-clause-outcome
+returns-clause-outcome g c =
+    load_shown c.args.load.now (output g.W.Sink c.args.writer.now c.show.new.writer) c.show.result
+    c.in_ok-text.ensures.text c.as_slice.ensures.value c.show.ensures.outcome

@@ -2,18 +2,19 @@ use Rattle.std.proofs.Common.{◌≡◌, ◌∙◌, Err, inl, inr, map, refl, ap
 use Rattle.segcli.specs.Asked.{IsReadAsCommand}
 use Rattle.segcli.specs.Faults.{fault_line, fault_status}
 use Rattle.segcli.specs.Printing.{IsPrinted}
+use Rattle.segcli.specs.Streams.{output}
 use Rattle.segcli.specs.declared.arguments.Refusal.TheVariants as refusal
 use Rattle.segcli.proofs.given.run_given.Goals as goal
 
 pub returns-in-Err : goal.returns-in-Err
 returns-in-Err g c =
-    let why = c.fault_of_words.ensures in
+    let why = c.fault_of_words-fault.ensures in
     record {
       outcome = rw c.in-Err.is (
         c.report.ensures.status ∙ ap fault_status why,
         refl,
         c.report.ensures.writer,
-        subst (λ f. IsPrinted g.E.Sink.takes g.E.Sink.has_failed g.E.Sink.flushes (fault_line f) c.args.errors.now c.report.new.errors) why c.report.ensures.errors,
+        subst (λ f. IsPrinted (fault_line f) (output g.E.Sink c.args.streams.now.errors c.report.new.errors)) why c.report.ensures.errors,
       );
     }
 
