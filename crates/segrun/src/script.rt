@@ -2,7 +2,7 @@
 ghost use Rattle.std.specs.Prelude.{◌≡◌, false};
 
 use crate::progress::Teller;
-use segcli::{Command, bad_line_text, read_command, run_given, words_of};
+use segcli::{Command, Streams, bad_line_text, read_command, run_given, words_of};
 use segscript::{Explaining, ReadSource, Source, WriteSink};
 use std::alloc::AllocGlobal;
 use std::fs::File;
@@ -26,10 +26,10 @@ const TRACE_HINT: &[u8] =
 pub fn run<T: Threads + Wait + AllocGlobal + Sync>(threads: &T, rt: &HostRuntime) -> u8 {
     let words = match env::args(rt) {
         Ok(given) => words_of(rt.alloc(), given),
-        Err(_) => return run_over(threads, rt, &mut ReadSource::new(rt.reader())),
+        Err(_) => return run_from(threads, rt, None, rt.reader()),
     };
     let Ok(words) = words else {
-        return run_over(threads, rt, &mut ReadSource::new(rt.reader()));
+        return run_from(threads, rt, None, rt.reader());
     };
     match read_command(rt.alloc(), words.as_slice()) {
         Ok(
@@ -43,7 +43,7 @@ pub fn run<T: Threads + Wait + AllocGlobal + Sync>(threads: &T, rt: &HostRuntime
             run_file(threads, rt, passes, file, SCRIPT_HINT)
         }
         Ok(Command::Replay(replay)) => run_file(threads, rt, None, replay.file, TRACE_HINT),
-        _ => run_over(threads, rt, &mut ReadSource::new(rt.reader())),
+        _ => run_from(threads, rt, None, rt.reader()),
     }
 }
 
@@ -86,10 +86,10 @@ fn run_from<T: Threads + Wait + AllocGlobal + Sync, R: Read + Drop>(
     input: R,
 ) -> u8 {
     let Some(passes) = passes else {
-        return run_over(threads, rt, &mut ReadSource::new(input));
+        return run_over(threads, rt, ReadSource::new(input)).0;
     };
-    let mut source = Explaining::new(ReadSource::new(input), passes);
-    let status = run_over(threads, rt, &mut source);
+    let source = Explaining::new(ReadSource::new(input), passes);
+    let (status, source) = run_over(threads, rt, source);
     if status == BAD_LINE {
         explain(rt, &source);
     }
@@ -106,21 +106,20 @@ fn explain<S: Source>(rt: &HostRuntime, source: &Explaining<S>) {
     }
 }
 
-// Runs the program with a script or a trace of this source.
+// Runs the program with a script or a trace of this source. Returns the status, and the source.
 fn run_over<T: Threads + Wait + AllocGlobal + Sync, S: Source>(
     threads: &T,
     rt: &HostRuntime,
-    source: &mut S,
-) -> u8
-    requires { S.has_failed source.old ≡ false }
+    source: S,
+) -> (u8, S)
+    requires { S.has_failed source ≡ false }
 {
-    run_given(
-        threads,
-        rt.alloc(),
-        env::args(rt),
+    let mut streams = Streams {
         source,
-        &mut WriteSink::new(rt.stdout()),
-        &mut WriteSink::new(rt.stderr()),
-        &Teller::new(rt),
-    )
+        writer: WriteSink::new(rt.stdout()),
+        errors: WriteSink::new(rt.stderr()),
+    };
+    let teller = Teller::new(rt);
+    let status = run_given(threads, rt.alloc(), env::args(rt), &mut streams, &teller);
+    (status, streams.source)
 }

@@ -1,6 +1,6 @@
 //! The program out of memory: each request is refused in turn, those of its command line among them.
 use crate::hoard::{RUNS, STEP, hoard, leave};
-use segcli::run_program;
+use segcli::{Streams, run_program};
 use segscript::{MemSink, MemSource};
 use std::alloc::{AllocError, AllocGlobal, Global};
 use std::process::Abort;
@@ -28,32 +28,31 @@ fn is_refused<R: Threads + Wait + AllocGlobal + Abort + Sync>(
     bytes: Option<usize>,
 ) -> Result<bool, Fail> {
     let list = words_of(rt.alloc(), words)?;
-    let mut source = MemSource::new(SCRIPT);
-    let mut writer = MemSink::new(rt.alloc(), 10_000)?;
-    let mut errors = MemSink::new(rt.alloc(), 10_000)?;
+    let mut streams = Streams {
+        source: MemSource::new(SCRIPT),
+        writer: MemSink::new(rt.alloc(), 10_000)?,
+        errors: MemSink::new(rt.alloc(), 10_000)?,
+    };
     let taken = match bytes {
         Some(bytes) => Some(leave(rt.alloc(), bytes)?),
         None => None,
     };
-    let ended = run_program(
-        rt,
-        rt.alloc(),
-        list.as_slice(),
-        &mut source,
-        &mut writer,
-        &mut errors,
-    );
+    let ended = run_program(rt, rt.alloc(), list.as_slice(), &mut streams);
     drop(taken);
     if ended == status {
         return Ok(false);
     }
     assert_eq!(rt; ended, 3, "{words:?}");
     assert_eq!(rt;
-        errors.taken.as_slice(),
+        streams.errors.taken.as_slice(),
         b"out of memory\n".as_slice(),
         "{words:?}"
     );
-    assert_eq!(rt; writer.taken.as_slice(), b"".as_slice(), "{words:?}");
+    assert_eq!(rt;
+        streams.writer.taken.as_slice(),
+        b"".as_slice(),
+        "{words:?}"
+    );
     Ok(true)
 }
 

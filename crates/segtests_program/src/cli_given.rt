@@ -1,6 +1,6 @@
 //! The program over its words as std returns them.
 use crate::cli_runs::{REPLIES, SCRIPT, check_same, words_of};
-use segcli::{Nobody, run_given};
+use segcli::{Nobody, Streams, run_given};
 use segscript::{MemSink, MemSource};
 use std::alloc::{AllocError, AllocGlobal};
 use std::env::Args;
@@ -16,19 +16,13 @@ fn run<R: Threads + Wait + AllocGlobal + Sync>(
     rt: &R,
     given: io::Result<Args>,
 ) -> Result<(u8, Vec<u8>, Vec<u8>), AllocError> {
-    let mut source = MemSource::new(SCRIPT);
-    let mut writer = MemSink::new(rt.alloc(), 1_000)?;
-    let mut errors = MemSink::new(rt.alloc(), 1_000)?;
-    let status = run_given(
-        rt,
-        rt.alloc(),
-        given,
-        &mut source,
-        &mut writer,
-        &mut errors,
-        &Nobody,
-    );
-    Ok((status, writer.taken, errors.taken))
+    let mut streams = Streams {
+        source: MemSource::new(SCRIPT),
+        writer: MemSink::new(rt.alloc(), 1_000)?,
+        errors: MemSink::new(rt.alloc(), 1_000)?,
+    };
+    let status = run_given(rt, rt.alloc(), given, &mut streams, &Nobody);
+    Ok((status, streams.writer.taken, streams.errors.taken))
 }
 
 fn check_given<R: Threads + Wait + AllocGlobal + Abort + Sync>(

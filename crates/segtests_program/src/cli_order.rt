@@ -3,6 +3,7 @@ ghost use Rattle.std.specs.Prelude.{◌≡◌, ◌++◌, false, IfOk};
 ghost use Rattle.segscript.specs.Words.{takes_more, takes_none};
 
 use crate::cli_runs::run_over;
+use segcli::Streams;
 use segscript::{Failed, MemSink, MemSource, Sink};
 use std::alloc::{AllocError, Global};
 use std::cell::Cell;
@@ -72,15 +73,15 @@ fn the_writer_is_flushed_before_a_fault_is_printed(rt: HostRuntime) -> Result<()
         ["scrpt"].as_slice(),
     ] {
         let clock = Cell::new(0);
-        let mut source = MemSource::new(b"p0 refill 0 4294967295\nx\n");
-        let mut writer = timed(rt.alloc(), &clock)?;
-        let mut errors = timed(rt.alloc(), &clock)?;
-        let status = run_over(&rt, words, &mut source, &mut writer, &mut errors)?;
+        let mut streams = Streams {
+            source: MemSource::new(b"p0 refill 0 4294967295\nx\n"),
+            writer: timed(rt.alloc(), &clock)?,
+            errors: timed(rt.alloc(), &clock)?,
+        };
+        let status = run_over(&rt, words, &mut streams)?;
+        let (flushed, printed) = (streams.writer.flushed_at, streams.errors.written_at);
         assert!(rt; status != 0, "{words:?}");
-        assert!(rt;
-            0 < writer.flushed_at && writer.flushed_at < errors.written_at,
-            "{words:?}"
-        );
+        assert!(rt; 0 < flushed && flushed < printed, "{words:?}");
     }
     Ok(())
 }

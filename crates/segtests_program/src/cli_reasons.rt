@@ -1,6 +1,6 @@
 //! Why a line is bad: what the program prints of the first bad line of a script.
 use crate::cli_runs::{check_same, run_over};
-use segcli::bad_line_text;
+use segcli::{Streams, bad_line_text};
 use segscript::{Explaining, MemSink, MemSource};
 use std::alloc::AllocGlobal;
 use std::process::Abort;
@@ -16,13 +16,15 @@ fn check_reason<R: Threads + Wait + AllocGlobal + Abort + Sync>(
     reason: &str,
 ) -> Result<(), Fail> {
     let words = ["script", "--explain"];
-    let mut source = Explaining::new(MemSource::new(script), 1);
-    let mut writer = MemSink::new(rt.alloc(), 1_000)?;
-    let mut errors = MemSink::new(rt.alloc(), 1_000)?;
-    let status = run_over(rt, &words, &mut source, &mut writer, &mut errors)?;
+    let mut streams = Streams {
+        source: Explaining::new(MemSource::new(script), 1),
+        writer: MemSink::new(rt.alloc(), 1_000)?,
+        errors: MemSink::new(rt.alloc(), 1_000)?,
+    };
+    let status = run_over(rt, &words, &mut streams)?;
     check_same(rt, &words, status, if printed.is_empty() { 0 } else { 2 });
-    check_same(rt, &words, errors.taken.as_slice(), printed);
-    let text = match source.bad_line() {
+    check_same(rt, &words, streams.errors.taken.as_slice(), printed);
+    let text = match streams.source.bad_line() {
         Some(bad) => bad_line_text(rt.alloc(), bad)?,
         None => Vec::new(rt.alloc()),
     };

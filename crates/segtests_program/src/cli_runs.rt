@@ -1,7 +1,7 @@
 //! Runs of the program over memory: its words, and what it writes, prints and returns.
 ghost use Rattle.std.specs.Prelude.{◌≡◌, false, IfOk};
 
-use segcli::{Watch, run_program, run_watched as run_program_watched};
+use segcli::{Streams, Watch, run_program, run_watched as run_program_watched};
 use segscript::{MemSink, MemSource, Sink, Source, WhenFull};
 use std::alloc::{AllocError, AllocGlobal, Global};
 use std::fmt::Debug;
@@ -62,41 +62,29 @@ pub fn words_of(alloc: Global, words: &[&str]) -> Result<Vec<String>, AllocError
 pub fn run_over<R: Threads + Wait + AllocGlobal + Sync, S: Source, W: Sink, E: Sink>(
     rt: &R,
     words: &[&str],
-    source: &mut S,
-    writer: &mut W,
-    errors: &mut E,
+    streams: &mut Streams<S, W, E>,
 ) -> Result<u8, AllocError>
-    requires source_works { S.has_failed source.old ≡ false }
-    requires writer_works { W.has_failed writer.old ≡ false }
-    requires errors_work { E.has_failed errors.old ≡ false }
+    requires source_works { S.has_failed streams.old.source ≡ false }
+    requires writer_works { W.has_failed streams.old.writer ≡ false }
+    requires errors_work { E.has_failed streams.old.errors ≡ false }
 {
     let words = words_of(rt.alloc(), words)?;
-    Ok(run_program(rt, rt.alloc(), words.as_slice(), source, writer, errors))
+    Ok(run_program(rt, rt.alloc(), words.as_slice(), streams))
 }
 
 /// Runs the program over these devices while a watch looks on.
 fn run_over_watched<R: Threads + Wait + AllocGlobal + Sync, S: Source, W: Sink, E: Sink, V: Watch>(
     rt: &R,
     words: &[&str],
-    source: &mut S,
-    writer: &mut W,
-    errors: &mut E,
+    streams: &mut Streams<S, W, E>,
     watch: &V,
 ) -> Result<u8, AllocError>
-    requires source_works { S.has_failed source.old ≡ false }
-    requires writer_works { W.has_failed writer.old ≡ false }
-    requires errors_work { E.has_failed errors.old ≡ false }
+    requires source_works { S.has_failed streams.old.source ≡ false }
+    requires writer_works { W.has_failed streams.old.writer ≡ false }
+    requires errors_work { E.has_failed streams.old.errors ≡ false }
 {
     let words = words_of(rt.alloc(), words)?;
-    Ok(run_program_watched(
-        rt,
-        rt.alloc(),
-        words.as_slice(),
-        source,
-        writer,
-        errors,
-        watch,
-    ))
+    Ok(run_program_watched(rt, rt.alloc(), words.as_slice(), streams, watch))
 }
 
 fn reader_of(script: &[u8], good: Option<usize>) -> MemSource<'_>
@@ -121,8 +109,28 @@ fn writer_of(
     Ok(writer)
 }
 
+// A reader of the script and two writers, which do this.
+fn streams_of(
+    alloc: Global,
+    script: &[u8],
+    devices: Devices,
+) -> Result<Streams<MemSource<'_>, MemSink, MemSink>, AllocError>
+    ensures source { IfOk result (λ streams. streams.source.failed ≡ false) }
+    ensures writer { IfOk result (λ streams. streams.writer.failed ≡ false) }
+    ensures errors { IfOk result (λ streams. streams.errors.failed ≡ false) }
+{
+    let (room, error_room) = devices.rooms;
+    let (fails, error_fails) = devices.flush_fails;
+    Ok(Streams {
+        source: reader_of(script, devices.good),
+        writer: writer_of(alloc, room, devices.when_full, fails)?,
+        errors: writer_of(alloc, error_room, devices.when_full, error_fails)?,
+    })
+}
+
 // What was written and printed by a run that ended with this status.
-fn end_of(status: u8, writer: MemSink, errors: MemSink) -> Ended {
+fn end_of(status: u8, streams: Streams<MemSource<'_>, MemSink, MemSink>) -> Ended {
+    let Streams { writer, errors, .. } = streams;
     Ended {
         status,
         flushes: (writer.flushes, errors.flushes),
@@ -139,13 +147,9 @@ pub fn run_watched<R: Threads + Wait + AllocGlobal + Sync, V: Watch>(
     devices: Devices,
     watch: &V,
 ) -> Result<Ended, AllocError> {
-    let (room, error_room) = devices.rooms;
-    let (fails, error_fails) = devices.flush_fails;
-    let mut source = reader_of(script, devices.good);
-    let mut writer = writer_of(rt.alloc(), room, devices.when_full, fails)?;
-    let mut errors = writer_of(rt.alloc(), error_room, devices.when_full, error_fails)?;
-    let status = run_over_watched(rt, words, &mut source, &mut writer, &mut errors, watch)?;
-    Ok(end_of(status, writer, errors))
+    let mut streams = streams_of(rt.alloc(), script, devices)?;
+    let status = run_over_watched(rt, words, &mut streams, watch)?;
+    Ok(end_of(status, streams))
 }
 
 /// Runs the program over devices in memory.
@@ -155,13 +159,9 @@ pub fn run_with<R: Threads + Wait + AllocGlobal + Sync>(
     script: &[u8],
     devices: Devices,
 ) -> Result<Ended, AllocError> {
-    let (room, error_room) = devices.rooms;
-    let (fails, error_fails) = devices.flush_fails;
-    let mut source = reader_of(script, devices.good);
-    let mut writer = writer_of(rt.alloc(), room, devices.when_full, fails)?;
-    let mut errors = writer_of(rt.alloc(), error_room, devices.when_full, error_fails)?;
-    let status = run_over(rt, words, &mut source, &mut writer, &mut errors)?;
-    Ok(end_of(status, writer, errors))
+    let mut streams = streams_of(rt.alloc(), script, devices)?;
+    let status = run_over(rt, words, &mut streams)?;
+    Ok(end_of(status, streams))
 }
 
 /// Runs the program with devices that don't fail.
