@@ -11,6 +11,7 @@ use Rattle.segscript.specs.Passes.{OneTakes}
 use Rattle.segscript.specs.EachTurn.{EachTurn}
 use Rattle.segscript.specs.Run.{ServesWholeLines, StopsWriting, EndOfRun, RunOutcome, is_make_fault}
 use Rattle.segscript.specs.Server.{TurnsOne, state}
+use Rattle.segscript.specs.Streams.{Input, IsAtEnd, Output}
 use Rattle.segscript.specs.declared.server.Server.{Server}
 use Rattle.segscript.specs.Words.{RunFault}
 use Rattle.segscript.specs.declared.fault.RunFault.TheVariants as fault
@@ -30,20 +31,20 @@ module _ (passes : ℕ) {S : Type 0} (step : S → PassTurn → Outcome → S �
     serving_keeps : (old : S) → KeepsLaw old → (new : S) (lines : List (List ℕ)) (text : List ℕ) → ServesLines passes step old lines text new → KeepsLaw new
     serving_keeps old kept new lines text served = runs_keep old new served.turns served.outcomes kept served.run
 
-    ends_keep : (old new : S) → KeepsLaw old → (Read : List ℕ → Type 0) (Ends : Type 0) (Wrote : List ℕ → Type 0) (before flushes : ℕ) (result : Result (Unit {0}) RunFault)
-        → EndOfRun passes step old new Read Ends Wrote before flushes result → is_make_fault result ≡ false → KeepsLaw new
-    ends_keep old new kept Read Ends Wrote before flushes (Ok u) out made = serving_keeps old kept new (out.6.lines ++ out.6.last ∷ []) out.1 out.6.served
-    ends_keep old new kept Read Ends Wrote before flushes (Err fault.Read) out made = serving_keeps old kept new out.5.lines out.1 out.5.served
-    ends_keep old new kept Read Ends Wrote before flushes (Err fault.TooLong) out made = serving_keeps old kept new out.5.lines out.1 out.5.served
-    ends_keep old new kept Read Ends Wrote before flushes (Err (fault.Line n)) out made = serving_keeps old kept new out.5.lines out.1 out.5.served
-    ends_keep old new kept Read Ends Wrote before flushes (Err fault.Write) out made = elim out.4 [
+    ends_keep : (old new : S) → KeepsLaw old → {R W : Type 0} (i : Input R) (o : Output W) (result : Result (Unit {0}) RunFault)
+        → EndOfRun passes step old new i o result → is_make_fault result ≡ false → KeepsLaw new
+    ends_keep old new kept i o (Ok u) out made = serving_keeps old kept new (out.6.lines ++ out.6.last ∷ []) out.1 out.6.served
+    ends_keep old new kept i o (Err fault.Read) out made = serving_keeps old kept new out.5.lines out.1 out.5.served
+    ends_keep old new kept i o (Err fault.TooLong) out made = serving_keeps old kept new out.5.lines out.1 out.5.served
+    ends_keep old new kept i o (Err (fault.Line n)) out made = serving_keeps old kept new out.5.lines out.1 out.5.served
+    ends_keep old new kept i o (Err fault.Write) out made = elim out.4 [
       | inl part ↦
           let off = part.1 in
           let before_it = serving_keeps old kept off.state off.lines off.told off.earlier in
           serving_keeps off.state before_it new (off.line ∷ []) off.reply off.served
       | inr all ↦ serving_keeps old kept new (all.2.lines ++ all.2.last ∷ []) out.1 all.2.served
     ]
-    ends_keep old new kept Read Ends Wrote before flushes (Err (fault.Make f)) out made = absurd (true≢false made)
+    ends_keep old new kept i o (Err (fault.Make f)) out made = absurd (true≢false made)
 
 -- ---- turns that are read in another way
 
@@ -93,12 +94,12 @@ module _ (passes : ℕ) {S T : Type 0} (step : S → PassTurn → Outcome → S 
         written = off.written;
       }
 
-      pub ends_as : (Read : List ℕ → Type 0) (Ends : Type 0) (Wrote : List ℕ → Type 0) (before flushes : ℕ) (result : Result (Unit {0}) RunFault)
-          → EndOfRun passes step old new Read Ends Wrote before flushes result → EndOfRun passes read_step (read old) (read new) Read Ends Wrote before flushes result
-      ends_as Read Ends Wrote before flushes (Ok u) out = (out.0, out.1, out.2, out.3, out.4, out.5, completes_as out.0 out.1 out.6)
-      ends_as Read Ends Wrote before flushes (Err fault.Read) out = (out.0, out.1, out.2, out.3, out.4, comes_as out.0 out.1 out.5)
-      ends_as Read Ends Wrote before flushes (Err fault.TooLong) out = (out.0, out.1, out.2, out.3, out.4, comes_as out.0 out.1 out.5, out.6)
-      ends_as Read Ends Wrote before flushes (Err (fault.Line n)) out =
+      pub ends_as : {R W : Type 0} (i : Input R) (o : Output W) (result : Result (Unit {0}) RunFault)
+          → EndOfRun passes step old new i o result → EndOfRun passes read_step (read old) (read new) i o result
+      ends_as i o (Ok u) out = (out.0, out.1, out.2, out.3, out.4, out.5, completes_as out.0 out.1 out.6)
+      ends_as i o (Err fault.Read) out = (out.0, out.1, out.2, out.3, out.4, comes_as out.0 out.1 out.5)
+      ends_as i o (Err fault.TooLong) out = (out.0, out.1, out.2, out.3, out.4, comes_as out.0 out.1 out.5, out.6)
+      ends_as i o (Err (fault.Line n)) out =
           let bad = out.5 in (
             out.0,
             out.1,
@@ -118,53 +119,53 @@ module _ (passes : ℕ) {S T : Type 0} (step : S → PassTurn → Outcome → S 
               number = bad.number;
             },
           )
-      ends_as Read Ends Wrote before flushes (Err fault.Write) out = (
+      ends_as i o (Err fault.Write) out = (
         out.0,
         out.1,
         out.2,
         out.3,
         elim out.4 [
-          | inl part ↦ inl (part.0, stops_as Ends out.0 out.1 part.1)
+          | inl part ↦ inl (part.0, stops_as (IsAtEnd i) out.0 out.1 part.1)
           | inr all ↦ inr (all.0, all.1, completes_as out.0 out.1 all.2)
         ],
       )
-      ends_as Read Ends Wrote before flushes (Err (fault.Make f)) out = tt
+      ends_as i o (Err (fault.Make f)) out = tt
 
 -- ---- of a server
 
-module _ (old new : Server) (Read : List ℕ → Type 0) (Ends : Type 0) (Wrote : List ℕ → Type 0) (before flushes : ℕ) (result : Result (Unit {0}) RunFault)
-    (out : EndOfRun (shape_of old.index.now).passes TurnsOne old new Read Ends Wrote before flushes result)
+module _ (old new : Server) {R W : Type 0} (i : Input R) (o : Output W) (result : Result (Unit {0}) RunFault)
+    (out : EndOfRun (shape_of old.index.now).passes TurnsOne old new i o result)
   where
     -- as the model says
-    pub model_took : EndOfRun (shape_of old.index.now).passes (Steps (shape_of old.index.now)) (state old) (state new) Read Ends Wrote before flushes result
+    pub model_took : EndOfRun (shape_of old.index.now).passes (Steps (shape_of old.index.now)) (state old) (state new) i o result
     model_took =
         let shape = shape_of old.index.now in
         ends_as shape.passes TurnsOne (Steps shape) state (λ (s : Server). shape_of s.index.now ≡ shape)
-        (λ (a b : Server) t r same one. (ap shape_of one.index ∙ same, subst (λ s. Steps s (state a) t r (state b)) same one.served)) old new refl Read Ends Wrote before flushes result out
+        (λ (a b : Server) t r same one. (ap shape_of one.index ∙ same, subst (λ s. Steps s (state a) t r (state b)) same one.served)) old new refl i o result out
 
     -- as its passes say
-    pub passes_took : EndOfRun (shape_of old.index.now).passes (OneTakes (board_of old.index.now)) old.passes.items new.passes.items Read Ends Wrote before flushes result
+    pub passes_took : EndOfRun (shape_of old.index.now).passes (OneTakes (board_of old.index.now)) old.passes.items new.passes.items i o result
     passes_took =
         ends_as (shape_of old.index.now).passes TurnsOne (OneTakes (board_of old.index.now)) (λ (s : Server). s.passes.items) (λ (s : Server). board_of s.index.now ≡ board_of old.index.now)
-        (λ (a b : Server) t r same one. (ap board_of one.index ∙ same, subst (λ c. OneTakes c a.passes.items t r b.passes.items) same one.one)) old new refl Read Ends Wrote before flushes result out
+        (λ (a b : Server) t r same one. (ap board_of one.index ∙ same, subst (λ c. OneTakes c a.passes.items t r b.passes.items) same one.one)) old new refl i o result out
 
     -- over the same index
     pub same_index : is_make_fault result ≡ false → new.index.now ≡ old.index.now
     same_index =
-        ends_keep (shape_of old.index.now).passes TurnsOne (λ (s : Server). s.index.now ≡ old.index.now) (λ (a b : Server) t r same one. one.index ∙ same) old new refl Read Ends Wrote before flushes result out
+        ends_keep (shape_of old.index.now).passes TurnsOne (λ (s : Server). s.index.now ≡ old.index.now) (λ (a b : Server) t r same one. one.index ∙ same) old new refl i o result out
 
 -- ---- of an index that was just made, whose shape is known under another name
 
-module _ (shape : Shape) (Read : List ℕ → Type 0) (Ends : Type 0) (Wrote : List ℕ → Type 0) (before flushes : ℕ) where
+module _ (shape : Shape) {R W : Type 0} (i : Input R) (o : Output W) where
   pub model_ends : (found : Shape) (start end : State) → found ≡ shape → start ≡ fresh shape → (result : Result (Unit {0}) RunFault)
-      → EndOfRun found.passes (Steps found) start end Read Ends Wrote before flushes result → RunOutcome shape Read Ends Wrote before flushes result
-  model_ends found start end of new result out = (end, subst₂ (λ (s : Shape) (from : State). EndOfRun s.passes (Steps s) from end Read Ends Wrote before flushes result) of new out)
+      → EndOfRun found.passes (Steps found) start end i o result → RunOutcome shape i o result
+  model_ends found start end of new result out = (end, subst₂ (λ (s : Shape) (from : State). EndOfRun s.passes (Steps s) from end i o result) of new out)
 
   pub passes_end : (index : Index) (start end : List Pass) → IsNew shape index start → (result : Result (Unit {0}) RunFault)
-      → EndOfRun (shape_of index).passes (OneTakes (board_of index)) start end Read Ends Wrote before flushes result → EachTurn shape Read Ends Wrote before flushes result
-  passes_end index start end new result out = by result (subst (λ n. EndOfRun n (OneTakes (board_of index)) start end Read Ends Wrote before flushes result) (ap (λ (s : Shape). s.passes) new.made.of) out)
+      → EndOfRun (shape_of index).passes (OneTakes (board_of index)) start end i o result → EachTurn shape i o result
+  passes_end index start end new result out = by result (subst (λ n. EndOfRun n (OneTakes (board_of index)) start end i o result) (ap (λ (s : Shape). s.passes) new.made.of) out)
     where
-      by : (result : Result (Unit {0}) RunFault) → EndOfRun shape.passes (OneTakes (board_of index)) start end Read Ends Wrote before flushes result → EachTurn shape Read Ends Wrote before flushes result
+      by : (result : Result (Unit {0}) RunFault) → EndOfRun shape.passes (OneTakes (board_of index)) start end i o result → EachTurn shape i o result
       by (Ok u) out = (index, start, end, new, out)
       by (Err fault.Read) out = (index, start, end, new, out)
       by (Err fault.Write) out = (index, start, end, new, out)

@@ -9,7 +9,7 @@ use Rattle.segword.specs.Words.{Shape}
 use Rattle.segmodel.specs.Words.{fresh, State}
 use Rattle.segscript.specs.Spelling.{PassTurn}
 use Rattle.segscript.specs.Script.{IsLine, ended, Say, IsBad, Steps, IsTextOf, IsFirstBad}
-use Rattle.segscript.specs.Device.{HandsOut}
+use Rattle.segscript.specs.Streams.{HandsOut, Input, IsAtEnd, Output}
 use Rattle.segscript.specs.Run.{IsSeenBad, RunOutcome, is_read_fault, is_write_fault, is_make_fault}
 use Rattle.segscript.specs.Words.{RunFault}
 use Rattle.segscript.specs.declared.fault.RunFault.TheVariants as fault
@@ -178,12 +178,12 @@ module _ (shape : Shape) where
 
   -- ---- runs whose devices never failed
 
-  module _ {R : Type 0} (hands : R → List ℕ → R → Type 0) (is_at_end : R → Type 0) (Wrote : List ℕ → Type 0) (before flushes : ℕ) (old new : R) (script : List ℕ) (all : HandsOut hands is_at_end old new script)
+  module _ {R W : Type 0} (i : Input R) (o : Output W) (script : List ℕ) (all : HandsOut i script)
       (read write : Bool) (working : read ≡ false) (writing : write ≡ false)
     where
       pub ends_at_bad : (text : List ℕ) (n : ℕ) (result : Result (Unit {0}) RunFault) → read ≡ is_read_fault result → write ≡ is_write_fault result → is_make_fault result ≡ false
           → IsFirstBad shape script text n
-          → RunOutcome shape (λ seen. hands old seen new) (is_at_end new) Wrote before flushes result
+          → RunOutcome shape i o result
           → (result ≡ Err (fault.Line n)) ⊎ (result ≡ Err fault.TooLong)
       ends_at_bad text n (Ok u) r w made bad out =
           let end = out.1 in
@@ -195,11 +195,11 @@ module _ (shape : Shape) where
       ends_at_bad text n (Err (fault.Make f)) r w made bad out = absurd (true≢false made)
       ends_at_bad text n (Err (fault.Line m)) r w made bad out =
           let end = out.1 in
-          inl (ap (λ k. Err (fault.Line k)) (IsFirstBad-one script end.1 text m n (of_script end.0 script end.1 m out.0 (is_at_end new) (all end.0 end.2) end.5) bad))
+          inl (ap (λ k. Err (fault.Line k)) (IsFirstBad-one script end.1 text m n (of_script end.0 script end.1 m out.0 (IsAtEnd i) (all end.0 end.2) end.5) bad))
 
       pub ends_well : (text : List ℕ) (result : Result (Unit {0}) RunFault) → read ≡ is_read_fault result → write ≡ is_write_fault result → is_make_fault result ≡ false
           → IsTextOf shape script text
-          → RunOutcome shape (λ seen. hands old seen new) (is_at_end new) Wrote before flushes result
+          → RunOutcome shape i o result
           → IsOk result ⊎ (result ≡ Err fault.TooLong)
       ends_well text (Ok u) r w made good out = inl refl
       ends_well text (Err fault.Read) r w made good out = absurd (true≢false (sym r ∙ working))
@@ -208,4 +208,4 @@ module _ (shape : Shape) where
       ends_well text (Err (fault.Make f)) r w made good out = absurd (true≢false made)
       ends_well text (Err (fault.Line m)) r w made good out =
           let end = out.1 in
-          absurd (IsTextOf-good script text end.1 m good (of_script end.0 script end.1 m out.0 (is_at_end new) (all end.0 end.2) end.5))
+          absurd (IsTextOf-good script text end.1 m good (of_script end.0 script end.1 m out.0 (IsAtEnd i) (all end.0 end.2) end.5))

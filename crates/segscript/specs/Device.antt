@@ -21,11 +21,3 @@ one_more count = (count + 1) % 2 ^ 64
 -- the count of reads that handed out nothing, after one that handed out so many bytes
 abbrev pub ends_after : ℕ → ℕ → ℕ
 ends_after count handed = if handed == 0 then one_more count else count
-
--- Whatever the reader handed out is a beginning of the script,
--- and all of it if the reader is at its end.
-abbrev pub HandsOut : {R : Type 0} → (R → List ℕ → R → Type 0) → (R → Type 0) → R → R → List ℕ
-    → Type 0
-HandsOut hands is_at_end old new script = (seen : List ℕ)
-    → hands old seen new
-    → (rest : List ℕ) × (script ≡ seen ++ rest) × (is_at_end new → script ≡ seen)

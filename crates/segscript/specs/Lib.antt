@@ -13,6 +13,7 @@ pub mod Running
 pub mod Script
 pub mod Server
 pub mod Spelling
+pub mod Streams
 pub mod Told
 pub mod Verb
 pub mod Words

@@ -9,6 +9,8 @@ use Rattle.segbase.specs.Words.{IsMakeFault}
 use Rattle.segscript.specs.Spelling.{PassTurn}
 use Rattle.segscript.specs.Script.{IsLine, ended, Splits, IsBad, ServesLines, Steps, ServesScript}
 use Rattle.segscript.specs.Device.{IsBeginning, one_more}
+use Rattle.segscript.specs.Streams.{HandedOut, Input, IsAtEnd, IsFlushedOnce, IsUnflushed}
+use Rattle.segscript.specs.Streams.{Output, Took}
 use Rattle.segscript.specs.declared.fault.RunFault.{RunFault}
 use Rattle.segscript.specs.declared.fault.RunFault.TheVariants as fault
 
@@ -85,46 +87,43 @@ pub record IsSeenBad (passes : ℕ) {S : Type 0} (step : S → PassTurn → Outc
 
 -- ---- how it ends
 
--- `Read` is so of all bytes that were read, and `Wrote` of all that were written.
--- `Ends` is that the reader is at its end.
--- `before` flushes were asked for before the run, and `flushes` after it.
+-- The input is all that was read, and the output all that was written.
 -- A fault of creating the index is none of a run, so nothing is said of it.
 abbrev pub EndOfRun : (passes : ℕ) {S : Type 0} (step : S → PassTurn → Outcome → S → Type 0)
-    → S → S
-    → (List ℕ → Type 0) → Type 0 → (List ℕ → Type 0) → ℕ → ℕ → Result (Unit {0}) RunFault → Type 0
-EndOfRun passes step start end Read Ends Wrote before flushes (Ok _) =
+    → S → S → {R W : Type 0} → Input R → Output W → Result (Unit {0}) RunFault → Type 0
+EndOfRun passes step start end i o (Ok _) =
     (script : List ℕ) × (text : List ℕ)
-    × Read script
-    × Ends
-    × Wrote text
-    × (flushes ≡ one_more before)
+    × HandedOut i script
+    × IsAtEnd i
+    × Took o text
+    × IsFlushedOnce o
     × ServesScript passes step start end script text
-EndOfRun passes step start end Read Ends Wrote before flushes (Err fault.Read) =
+EndOfRun passes step start end i o (Err fault.Read) =
     (seen : List ℕ) × (text : List ℕ)
-    × Read seen
-    × Wrote text
-    × (flushes ≡ before)
+    × HandedOut i seen
+    × Took o text
+    × IsUnflushed o
     × ServesWholeLines passes step start end seen text
-EndOfRun passes step start end Read Ends Wrote before flushes (Err fault.TooLong) =
+EndOfRun passes step start end i o (Err fault.TooLong) =
     (seen : List ℕ) × (text : List ℕ)
-    × Read seen
-    × Wrote text
-    × (flushes ≡ before)
+    × HandedOut i seen
+    × Took o text
+    × IsUnflushed o
     × ServesWholeLines passes step start end seen text
     × (length seen ≡ 2 ^ 63)
-EndOfRun passes step start end Read Ends Wrote before flushes (Err (fault.Line n)) =
+EndOfRun passes step start end i o (Err (fault.Line n)) =
     (seen : List ℕ) × (text : List ℕ)
-    × Read seen
-    × Wrote text
-    × (flushes ≡ before)
-    × IsSeenBad passes step start end Ends seen text n
-EndOfRun passes step start end Read Ends Wrote before flushes (Err fault.Write) =
+    × HandedOut i seen
+    × Took o text
+    × IsUnflushed o
+    × IsSeenBad passes step start end (IsAtEnd i) seen text n
+EndOfRun passes step start end i o (Err fault.Write) =
     (seen : List ℕ) × (part : List ℕ)
-    × Read seen
-    × Wrote part
-    × (((flushes ≡ before) × StopsWriting passes step start end Ends seen part)
-    ⊎ ((flushes ≡ one_more before) × Ends × ServesScript passes step start end seen part))
-EndOfRun passes step start end Read Ends Wrote before flushes (Err (fault.Make f)) = Unit {0}
+    × HandedOut i seen
+    × Took o part
+    × ((IsUnflushed o × StopsWriting passes step start end (IsAtEnd i) seen part)
+    ⊎ (IsFlushedOnce o × IsAtEnd i × ServesScript passes step start end seen part))
+EndOfRun passes step start end i o (Err (fault.Make f)) = Unit {0}
 
 -- If all ended well, one read handed out nothing, and else at most one did.
 -- After it the reader isn't asked again.
@@ -139,8 +138,7 @@ EndsOnce before ends (Err fault.TooLong) = ends ≡ before
 
 -- The run ends as the model says, from a cache in which nothing was done before.
 -- The cache is created for the run alone, so the state at the end is some state.
-abbrev pub RunOutcome : Shape → (List ℕ → Type 0) → Type 0 → (List ℕ → Type 0) → ℕ → ℕ
-    → Result (Unit {0}) RunFault → Type 0
-RunOutcome shape Read Ends Wrote before flushes result =
-    (end : State)
-    × EndOfRun shape.passes (Steps shape) (fresh shape) end Read Ends Wrote before flushes result
+abbrev pub RunOutcome : Shape → {R W : Type 0} → Input R → Output W → Result (Unit {0}) RunFault
+    → Type 0
+RunOutcome shape i o result =
+    (end : State) × EndOfRun shape.passes (Steps shape) (fresh shape) end i o result

@@ -130,13 +130,9 @@ impl<R: Source> Source for Explaining<R> {
     ghost ends = { λ s. R.ends s.inner };
 
     fn read(&mut self, buffer: &mut [u8]) -> Result<usize, Failed> {
-        match self.inner.read(buffer) {
-            Ok(n) => {
-                self.look_at_all(&buffer[..n]);
-                Ok(n)
-            }
-            Err(failed) => Err(failed),
-        }
+        let count = self.inner.read(buffer)?;
+        self.look_at_all(&buffer[..count]);
+        Ok(count)
     }
 
     ghost hands_none = { λ s. (

@@ -5,6 +5,7 @@ ghost use Rattle.segscript.specs.Running.{AllReplied};
 ghost use Rattle.segscript.specs.Device.{ends_after};
 ghost use Rattle.segscript.specs.Run.{EndOfRun, EndsOnce, is_read_fault, is_write_fault};
 ghost use Rattle.segscript.specs.Run.{is_make_fault};
+ghost use Rattle.segscript.specs.Streams.{input, output};
 
 use crate::device::{Failed, Sink, Source, write_all};
 use crate::engine::Engine;
@@ -190,9 +191,7 @@ pub fn run<R: Source, W: Sink, E: Engine>(
     requires ready { E.is_ready engine.old }
     ensures ready { E.is_ready engine.new }
     ensures outcome { EndOfRun (E.shape engine.old).passes E.turns engine.old engine.new
-        (λ seen. R.hands reader.old seen reader.new) (R.is_at_end reader.new)
-        (λ text. W.takes writer.old text writer.new)
-        (W.flushes writer.old) (W.flushes writer.new) result }
+        (input R.Source reader.old reader.new) (output W.Sink writer.old writer.new) result }
     ensures read { R.has_failed reader.new ≡ is_read_fault result }
     ensures write { W.has_failed writer.new ≡ is_write_fault result }
     ensures made { is_make_fault result ≡ false }

@@ -4,10 +4,10 @@ ghost use Rattle.segindex.specs.Words.{board_of, shape_of};
 ghost use Rattle.segscript.specs.Passes.{OneTakes};
 ghost use Rattle.segscript.specs.Script.{IsTextOf, IsFirstBad, Steps};
 ghost use Rattle.segscript.specs.Server.{IsReady, state};
-ghost use Rattle.segscript.specs.Device.{HandsOut};
 ghost use Rattle.segscript.specs.EachTurn.{EachTurn};
 ghost use Rattle.segscript.specs.Run.{EndOfRun, EndsOnce, RunOutcome, ShapeIsAnswered};
 ghost use Rattle.segscript.specs.Run.{is_make_fault, is_read_fault, is_write_fault};
+ghost use Rattle.segscript.specs.Streams.{HandsOut, input, output};
 
 use crate::device::{Sink, Source};
 use crate::fault::RunFault;
@@ -39,18 +39,14 @@ pub fn serve_script<R: Source, W: Sink>(
     // The lines that were served led to the state at the end.
     ensures outcome { EndOfRun (shape_of server.old.index.now).passes
         (Steps (shape_of server.old.index.now)) (state server.old) (state server.new)
-        (λ seen. R.hands reader.old seen reader.new) (R.is_at_end reader.new)
-        (λ text. W.takes writer.old text writer.new)
-        (W.flushes writer.old) (W.flushes writer.new) result }
+        (input R.Source reader.old reader.new) (output W.Sink writer.old writer.new) result }
 
     // Each turn was that of the pass that its line names, and the reply is its answer.
     // Before the turn the pass had seen all that any pass had seen. The others did nothing.
     // These turns made the passes what they are at the end.
     ensures each_turn { EndOfRun (shape_of server.old.index.now).passes
         (OneTakes (board_of server.old.index.now)) server.old.passes.items server.new.passes.items
-        (λ seen. R.hands reader.old seen reader.new) (R.is_at_end reader.new)
-        (λ text. W.takes writer.old text writer.new)
-        (W.flushes writer.old) (W.flushes writer.new) result }
+        (input R.Source reader.old reader.new) (output W.Sink writer.old writer.new) result }
     ensures read { R.has_failed reader.new ≡ is_read_fault result }
     ensures write { W.has_failed writer.new ≡ is_write_fault result }
     ensures made { is_make_fault result ≡ false }
@@ -77,16 +73,12 @@ pub fn run_script<R: Source, W: Sink>(
 
     // How the run ends, what it read and wrote, and which text belongs to that.
     ensures outcome { RunOutcome shape
-        (λ seen. R.hands reader.old seen reader.new) (R.is_at_end reader.new)
-        (λ text. W.takes writer.old text writer.new)
-        (W.flushes writer.old) (W.flushes writer.new) result }
+        (input R.Source reader.old reader.new) (output W.Sink writer.old writer.new) result }
 
     // Each turn was that of the pass that its line names, and the reply is its answer.
     // Before the turn the pass had seen all that any pass had seen. The others did nothing.
     ensures each_turn { EachTurn shape
-        (λ seen. R.hands reader.old seen reader.new) (R.is_at_end reader.new)
-        (λ text. W.takes writer.old text writer.new)
-        (W.flushes writer.old) (W.flushes writer.new) result }
+        (input R.Source reader.old reader.new) (output W.Sink writer.old writer.new) result }
     ensures read { R.has_failed reader.new ≡ is_read_fault result }
     ensures write { W.has_failed writer.new ≡ is_write_fault result }
 
@@ -101,12 +93,12 @@ pub fn run_script<R: Source, W: Sink>(
     // If the index was created and no device failed, a script with a bad line ends at the first one,
     // and any other script ends well. Either may be too long instead.
     ensures bad_line { (script text : List ℕ) (n : ℕ) →
-        HandsOut R.hands R.is_at_end reader.old reader.new script → IsFirstBad shape script text n →
+        HandsOut (input R.Source reader.old reader.new) script → IsFirstBad shape script text n →
         R.has_failed reader.new ≡ false → W.has_failed writer.new ≡ false →
         is_make_fault result ≡ false →
         (result ≡ Err (RunFault.Line n)) ⊎ (result ≡ Err RunFault.TooLong) }
     ensures no_bad_line { (script text : List ℕ) →
-        HandsOut R.hands R.is_at_end reader.old reader.new script → IsTextOf shape script text →
+        HandsOut (input R.Source reader.old reader.new) script → IsTextOf shape script text →
         R.has_failed reader.new ≡ false → W.has_failed writer.new ≡ false →
         is_make_fault result ≡ false →
         IsOk result ⊎ (result ≡ Err RunFault.TooLong) }
