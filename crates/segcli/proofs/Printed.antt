@@ -5,7 +5,7 @@ use Rattle.segscript.specs.Words.{IsBeginning, one_more}
 use Rattle.segscript.specs.declared.device.Failed.{Failed}
 use Rattle.segscript.specs.declared.device.Sink as Sink
 use Rattle.segscript.proofs.Devices.{nothing_more}
-use Rattle.segcli.specs.Streams.{output}
+use Rattle.segscript.specs.Words.{output}
 use Rattle.segcli.specs.Printing.{PrintOutcome}
 
 begins_behind : (first part second : List ℕ) → IsBeginning part second → IsBeginning (first ++ part) (first ++ second)

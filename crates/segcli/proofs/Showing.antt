@@ -5,7 +5,7 @@ use Rattle.segload.specs.Words.{IsLoad, Totals}
 use Rattle.segcli.specs.Explained.{SpellsWord, explanation}
 use Rattle.segcli.specs.Totals.{text_in}
 use Rattle.segcli.specs.Commands.{LoadOutcome, ShowOutcome, WordOutcome}
-use Rattle.segcli.specs.Streams.{Output}
+use Rattle.segscript.specs.Words.{Output}
 use Rattle.segcli.specs.declared.asked.Load.{Load}
 use Rattle.segcli.specs.declared.asked.Word.{Word}
 use Rattle.segcli.specs.declared.explanation.Meaning.{Meaning}

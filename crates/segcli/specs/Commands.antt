@@ -16,7 +16,7 @@ use Rattle.segreplay.specs.Replays.{IsReplay}
 use Rattle.segcli.specs.declared.asked.Replay.{Replay}
 use Rattle.segscript.specs.Words.{EachTurn, EndsOnce, is_make_fault, is_read_fault, is_write_fault, RunFault}
 use Rattle.segscript.specs.Words.{RunOutcome, ShapeIsAnswered}
-use Rattle.segcli.specs.Streams.{HandedOut, Input, IsUnflushed, Output, Took}
+use Rattle.segscript.specs.Words.{HandedOut, Input, IsUnflushed, Output, Took}
 use Rattle.segload.specs.Words.{IsLoad, IsLoadFault, knows_nothing, lets_all_through, Totals}
 use Rattle.segload.specs.declared.fault.LoadFault.{LoadFault}
 use Rattle.segcli.specs.declared.fault.ProgramFault.{ProgramFault}
@@ -35,10 +35,8 @@ use Rattle.segcli.specs.declared.command.Command.TheVariants as command
 -- A fault of creating the index comes before anything is read or written.
 pub record RanScript {R W : Type 0} (i : Input R) (o : Output W) (shape : Shape)
     (end : Result (Unit {0}) RunFault) : Type 0 where
-  pub outcome : RunOutcome shape (λ seen. HandedOut i seen) (i.source.is_at_end i.new)
-      (λ text. Took o text) (o.sink.flushes o.old) (o.sink.flushes o.new) end
-  pub each_turn : EachTurn shape (λ seen. HandedOut i seen) (i.source.is_at_end i.new)
-      (λ text. Took o text) (o.sink.flushes o.old) (o.sink.flushes o.new) end
+  pub outcome : RunOutcome shape i o end
+  pub each_turn : EachTurn shape i o end
   pub read : i.source.has_failed i.new ≡ is_read_fault end
   pub write : o.sink.has_failed o.new ≡ is_write_fault end
   pub ended : EndsOnce (i.source.ends i.old) (i.source.ends i.new) end

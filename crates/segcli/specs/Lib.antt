@@ -10,6 +10,5 @@ pub mod Printing
 pub mod Program
 pub mod Progress
 pub mod Stats
-pub mod Streams
 pub mod Totals
 pub mod Replayed

@@ -1,7 +1,7 @@
 -- A text that is written and flushed.
 use Rattle.std.specs.Prelude.{◌⊎◌, ◌≡◌, ℕ, List, [], Result, Ok, Err, is_err}
 use Rattle.segscript.specs.Words.{IsBeginning}
-use Rattle.segcli.specs.Streams.{IsFlushedOnce, IsUnflushed, output, Output, Took}
+use Rattle.segscript.specs.Words.{IsFlushedOnce, IsUnflushed, output, Output, Took}
 use Rattle.segscript.specs.declared.device.Failed.{Failed}
 use Rattle.segscript.specs.declared.device.Sink as Sink
 

@@ -1,6 +1,6 @@
 -- What the program does with the words that it is given.
 use Rattle.std.specs.Prelude.{◌≡◌, ℕ, List, Result, Ok, Err, string_bytes}
-use Rattle.segcli.specs.Streams.{Input, output, Output}
+use Rattle.segscript.specs.Words.{Input, output, Output}
 use Rattle.segcli.specs.Commands.{CommandOutcome, Concludes}
 use Rattle.segcli.specs.Faults.{fault_line, fault_status}
 use Rattle.segcli.specs.Printing.{IsPrinted, IsFlushed}

@@ -1,7 +1,7 @@
 //! The commands of the program, and how each ends.
 ghost use Rattle.std.specs.Prelude.{◌≡◌, false, Result, IfOk, IfErr};
 ghost use Rattle.std.specs.Int.NonZero.{non_zero_u32_get};
-ghost use Rattle.segcli.specs.Streams.{input, output};
+ghost use Rattle.segscript.specs.Words.{input, output};
 ghost use Rattle.segload.specs.declared.totals.Totals.{Totals};
 ghost use Rattle.segload.specs.Words.{IsLoad, IsLoadFault, knows_nothing, lets_all_through};
 ghost use Rattle.segcli.specs.declared.fault.ProgramFault.{ProgramFault};

@@ -1,6 +1,6 @@
 //! The faults of the program, with their statuses and lines, and the printing of lines and of other texts.
 ghost use Rattle.std.specs.Prelude.{◌≡◌, false, is_err};
-ghost use Rattle.segcli.specs.Streams.{output};
+ghost use Rattle.segscript.specs.Words.{output};
 ghost use Rattle.segcli.specs.Faults.{fault_line, fault_status};
 ghost use Rattle.segcli.specs.Printing.{PrintOutcome, IsPrinted, IsFlushed, WasFlushed};
 

@@ -2,7 +2,7 @@
 ghost use Rattle.std.specs.Prelude.{◌≡◌, false, drop, IfOk};
 ghost use Rattle.std.specs.IoError.{error_kind};
 ghost use Rattle.std.specs.Vec.Iter.{into_iter_items};
-ghost use Rattle.segcli.specs.Streams.{input, output};
+ghost use Rattle.segscript.specs.Words.{input, output};
 ghost use Rattle.segcli.specs.Given.{fault_of_words, GivenOutcome};
 
 use crate::fault::{ProgramFault, report};

@@ -1,6 +1,6 @@
 //! The program, over the words after its name.
 ghost use Rattle.std.specs.Prelude.{◌≡◌, false, map, string_bytes, Result};
-ghost use Rattle.segcli.specs.Streams.{input, output};
+ghost use Rattle.segscript.specs.Words.{input, output};
 ghost use Rattle.segcli.specs.declared.arguments.Refusal.{Refusal};
 ghost use Rattle.segcli.specs.declared.command.Command.{Command as Asked};
 ghost use Rattle.segcli.specs.Printing.{IsPrinted, IsFlushed};

@@ -1,4 +1,4 @@
-use Rattle.segcli.specs.Streams.{output}
+use Rattle.segscript.specs.Words.{output}
 use Rattle.segcli.proofs.Showing.{load_shown}
 use Rattle.segcli.proofs.command.perform_load.Goals as goal
 

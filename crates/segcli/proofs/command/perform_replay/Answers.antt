@@ -1,7 +1,7 @@
 use Rattle.std.proofs.Common.{◌∙◌, ap, inl, subst}
 use Rattle.segcli.specs.Commands.{ShowOutcome}
 use Rattle.segcli.specs.Replayed.{replay_text}
-use Rattle.segcli.specs.Streams.{output}
+use Rattle.segscript.specs.Words.{output}
 use Rattle.segcli.proofs.command.perform_replay.Goals as goal
 
 pub returns-clause-outcome : goal.returns-clause-outcome

@@ -1,5 +1,5 @@
 use Rattle.std.proofs.Common.{◌∙◌}
-use Rattle.segcli.specs.Streams.{output}
+use Rattle.segscript.specs.Words.{output}
 use Rattle.segcli.proofs.Showing.{word_shown}
 use Rattle.segcli.proofs.command.perform_word.Goals as goal
 

@@ -2,7 +2,7 @@ use Rattle.std.proofs.Common.{◌≡◌, ◌∙◌, Err, inl, inr, map, refl, ap
 use Rattle.segcli.specs.Asked.{IsReadAsCommand}
 use Rattle.segcli.specs.Faults.{fault_line, fault_status}
 use Rattle.segcli.specs.Printing.{IsPrinted}
-use Rattle.segcli.specs.Streams.{output}
+use Rattle.segscript.specs.Words.{output}
 use Rattle.segcli.specs.declared.arguments.Refusal.TheVariants as refusal
 use Rattle.segcli.proofs.given.run_given.Goals as goal
 
