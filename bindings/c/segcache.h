@@ -18,7 +18,8 @@
  * under Rattle to be safe and to return, over a proved cache. Of each it is proved what it did for which
  * status: of a client's the client's own call, for the key, the value and the moment that it was given, and
  * what it wrote where; of open, which handles it wrote; of give_back, what went back where; of close, that the
- * cursor has the content. That memory is given back is tested. The proofs take for granted what no prover checks of C. Keep all of these:
+ * cursor has the content. That memory is given back is tested. The proofs take for granted what no prover
+ * checks of C. Keep all of these:
  *   1. A client serves one call at a time. Another thread may take it over by a lock, or at the start or
  *      the end (join) of a thread. The same goes for a cache, a cursor and a note. Different clients of a
  *      cache may be called at the same time; that is what they are for.
@@ -31,8 +32,8 @@
  *   5. No call from a signal handler, and none in a forked child of a program with threads.
  *   6. A thread that calls has a stack as threads have by default, and the names segcache_raw_.. mean the
  *      library's own functions.
- * Compiled with -DSEGCACHE_DEBUG, each call checks what can be checked of 1, 2 and 3, and aborts with
- * one line on standard error. That needs gcc or clang, and all files of a program compiled alike.
+ * Compiled with -DSEGCACHE_DEBUG, each call checks some of 1, 2 and 3, and aborts with one line on standard
+ * error where it finds a breach. That needs gcc or clang, and all files of a program compiled alike.
  */
 #ifndef SEGCACHE_H
 #define SEGCACHE_H
@@ -102,12 +103,13 @@ typedef struct segcache_note_t {
 } segcache_note_t;
 
 /* The size of a cache. segcache_open makes one up from a number of keys. Each bucket, overflow bucket and row takes
-   64 bytes, and each segment 8: 512 MiB at most. Clients take 3 bytes more for each row, and 16 for each segment. */
+   64 bytes, and each segment 8: 512 MiB at most, and twice that for a moment while it is opened. Clients take 3 bytes
+   more for each row, and 16 for each segment. */
 typedef struct segcache_shape {
   uint32_t buckets;       /* a power of two, 65536 at most; a bucket has words for 7 keys */
   uint32_t overflow;      /* overflow buckets, 65536 at most, each for 6 keys more of one bucket */
   uint32_t passes;        /* clients, 1 to 64 */
-  uint32_t segments_each; /* segments of each client, 1 to 1024; two stay free, unless it keeps nothing */
+  uint32_t segments_each; /* segments of each client, 1 to 1024; one or two stay free, unless it keeps nothing */
   uint32_t rows;          /* items that a segment has room for, 1 to 4096 */
   uint32_t first_version; /* the version that all buckets begin with; 0 will do */
 } segcache_shape;
@@ -206,9 +208,9 @@ static inline uint32_t segcache_hand_out(uint32_t status, segcache_handle made, 
 }
 
 /* Makes a cache for so many keys (425,984 at most), and a client for each of so many threads (1 to 64).
-   It takes all memory at once. `cache` and `clients[threads]` are written, whatever they were: if they
-   are of a cache that is still open, that one is lost. If the answer is not OK they are zeroed.
-   Answers: OK, BAD_SHAPE, OUT_OF_MEMORY. */
+   It takes all memory at once, but for that of notes and of a close. `cache` and `clients[threads]` are written,
+   whatever they were: if they are of a cache that is still open, that one is lost. If the answer is not OK they are
+   zeroed, of more than 64 clients the first 64. Answers: OK, BAD_SHAPE, OUT_OF_MEMORY. */
 static inline uint32_t segcache_open(uint32_t keys, uint32_t threads, segcache *cache, segcache_client *clients) {
   segcache_handle made, raw[SEGCACHE_MAX_THREADS];
   uint32_t status = SEGCACHE_BAD_SHAPE, count = threads <= SEGCACHE_MAX_THREADS ? threads : SEGCACHE_MAX_THREADS;
@@ -257,7 +259,8 @@ static inline uint32_t segcache_gets(segcache_client *client, const void *key, s
                                                  room, value_len, version, now));
 }
 
-/* Gets of several keys, one after another, whose waits for memory overlap: from 8 keys on less time than single ones.
+/* Gets of several keys, one after another. From 8 keys on their waits for memory overlap, which takes less time than
+   single gets (measured).
    Each lookup names its key by key_at and key_len, among the `len` bytes of `keys`. Afterwards it has a status of its
    own, OK, MISS, BUSY or BAD_KEY (also where its bytes aren't all in `keys`), and with OK value and value_len.
    Answers: OK, whatever the lookups have; NO_HANDLE, and they are as they were. */
@@ -279,10 +282,11 @@ static inline uint32_t segcache_gets_many(segcache_client *client, const void *k
 /* --- Writing ---------------------------------------------------------------------------------------- */
 
 /* Stores a value under a key, and makes room for it: if no row is left, the client recycles segments of its own.
-   It moves items that were read, and evicts the other keys. This is what a server's set command calls. A put
-   that is not OK leaves the old value where it is: delete the key if nobody may read that any longer.
-   Answers: OK; NO_ROOM, if no segment could be had, since others read there;
-   BUCKET_FULL; BUSY; BAD_KEY, BAD_VALUE, NO_HANDLE. */
+   It moves items that were read, and evicts the other keys; which ones no contract states. This is what a server's
+   set command calls. A put that is not OK leaves the old value where it is, if it wasn't evicted: delete the key if
+   nobody may read that any longer.
+   Answers: OK; NO_ROOM, if no segment could be had, since somebody read or held there, or a bucket of its keys was
+   busy; BUCKET_FULL; BUSY; BAD_KEY, BAD_VALUE, NO_HANDLE. */
 static inline uint32_t segcache_put(segcache_client *client, const void *key, size_t key_len, const void *value,
                                     size_t value_len, uint32_t now) {
   SEGCACHE_BYTES(key, key_len);
@@ -291,7 +295,8 @@ static inline uint32_t segcache_put(segcache_client *client, const void *key, si
                                                       (const uint8_t *)value, value_len, now));
 }
 
-/* Stores a value, and makes no room: NO_ROOM where a put would recycle a segment. Answers as put. */
+/* Stores a value, and makes no room: NO_ROOM if no row is left, as before a client's first put. Where the deadline of
+   the segment that the client stores into has come, what is stored is absent at once. Answers as put. */
 static inline uint32_t segcache_set(segcache_client *client, const void *key, size_t key_len, const void *value,
                                     size_t value_len, uint32_t now) {
   SEGCACHE_BYTES(key, key_len);
@@ -411,13 +416,13 @@ static inline uint32_t segcache_keep_from(segcache_client *client, uint32_t cuto
   return SEGCACHE_CALL(client, segcache_raw_keep_from(&client->raw, cutoff));
 }
 
-/* The same with nothing kept: for few segments, or where each key stays until all other rows were used. */
+/* The same with nothing kept: where each key is to stay until the client's other rows were used. */
 static inline uint32_t segcache_keep_nothing(segcache_client *client) {
   return SEGCACHE_CALL(client, segcache_raw_keep_from(&client->raw, 0));
 }
 
-/* Begins another segment, as a put does that finds no row: what is stored next goes there, and has the
-   whole time to live. Answers: OK, NO_ROOM, NO_HANDLE. */
+/* Makes room, as a put does that finds no row. What is stored next goes into a segment with the deadline of `now`:
+   it lives for more than half of the time to live. Answers: OK, NO_ROOM, NO_HANDLE. */
 static inline uint32_t segcache_make_room(segcache_client *client, uint32_t now) {
   return SEGCACHE_CALL(client, segcache_raw_make_room(&client->raw, now));
 }
@@ -447,10 +452,10 @@ static inline uint32_t segcache_give_back(segcache *cache, segcache_client *clie
   return SEGCACHE_CALL(cache, segcache_give_back_entered(cache, client));
 }
 
-/* Closes a cache whose clients were all given back. The cursor lists its content, and has to be freed.
-   The cache is none afterwards. Keys that have expired are listed until they are evicted.
+/* Closes a cache whose clients were all given back. The cursor lists its content, and has to be freed. It is written,
+   whatever it was. The cache is none afterwards. Keys that have expired are listed until they are evicted.
    Answers: OK; CLIENT_OUT, and nothing changed; OUT_OF_MEMORY: the cache is as it was, or it is none and its
-   content is lost; NO_HANDLE. BUSY, with the cache as it was, comes only where a copy of a client is at work. */
+   content is lost; NO_HANDLE. BUSY, with the cache as it was, has come in no test, and may where rule 2 is broken. */
 static inline uint32_t segcache_close(segcache *cache, segcache_cursor *cursor) {
   segcache_handle made;
   uint32_t status;
@@ -488,7 +493,8 @@ static inline const char *segcache_text(uint32_t status) {
       "the key's bucket is full", "not stored", "the bucket was written since the gets", "the key is not found",
       "a key has 1 to 24 bytes", "a value has 32 bytes at most", "the buffer is too short", "such a shape cannot be",
       "out of memory", "no handle: zeroed, given back or freed", "the client holds an item already",
-      "the client holds no item", "a client is still out", "the client is of another cache", "the end",
+      "the client holds no item", "a client is still out", "the client or the note is of another cache",
+      "the end",
   };
   return status < sizeof texts / sizeof *texts ? texts[status] : "no such status";
 }

@@ -5,8 +5,9 @@ use std::fmt;
 use std::sync::{Arc, Mutex, PoisonError};
 
 /// The size of a cache. [`Builder::keys`] makes one up from a number of keys. Each bucket, overflow bucket and
-/// row takes 64 bytes, and each segment 8; all of them together have 512 MiB at most. The clients take 3 bytes
-/// more for each row, and 16 for each segment, to know what was read.
+/// row takes 64 bytes, and each segment 8; all of them together have 512 MiB at most, and twice that for a
+/// moment while the cache is made. The clients take 3 bytes more for each row, and 16 for each segment, to
+/// know what was read.
 #[repr(C)]
 #[derive(Clone, Copy, Debug, PartialEq, Eq)]
 pub struct Shape {
@@ -16,7 +17,7 @@ pub struct Shape {
     pub overflow: u32,
     /// Clients, 1 to 64.
     pub passes: u32,
-    /// Segments of each client, 1 to 1,024. Two of them stay free, unless the client keeps nothing.
+    /// Segments of each client, 1 to 1,024. One or two stay free, unless the client keeps nothing.
     pub segments_each: u32,
     /// Items that a segment has room for, 1 to 4,096.
     pub rows: u32,
@@ -74,7 +75,7 @@ impl Builder {
         self
     }
 
-    /// Makes the cache and its clients. All memory is taken here.
+    /// Makes the cache and its clients, and takes their memory.
     ///
     /// # Errors
     /// [`Error::BadShape`] and [`Error::OutOfMemory`].
@@ -121,7 +122,7 @@ impl Cache {
     ///
     /// # Errors
     /// [`Error::ClientOut`], with the cache as it was. [`Error::OutOfMemory`], with the cache as it was, or
-    /// without it if the content is lost. A program without `unsafe` sees no other.
+    /// without it if the content is lost. No other is known.
     pub fn close(self) -> Result<Content, Unclosed> {
         let mut cursor = Handle::none();
         // SAFETY: the handle is the cache's, and the cursor is none.

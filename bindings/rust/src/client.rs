@@ -115,7 +115,8 @@ impl Client {
         Ok(found(status, value)?.map(|value| (value, Version(version))))
     }
 
-    /// The value of each key, in their order: gets whose waits for memory overlap.
+    /// The value of each key, in their order: one get after another. From 8 keys on their waits for memory
+    /// overlap.
     ///
     /// # Errors
     /// Of each key, as [`Client::get`].
@@ -160,8 +161,9 @@ impl Client {
         done(self.write(raw::segcache_raw_put, key.as_ref(), value.as_ref()))
     }
 
-    /// Stores a value, and makes no room: [`Error::NoRoom`] where a put would recycle a segment, as a
-    /// client's first set. Then [`Client::make_room`], and set again.
+    /// Stores a value, and makes no room: [`Error::NoRoom`] if no row is left, as before a client's first put.
+    /// Then [`Client::make_room`], and set again. Where the deadline of the segment that the client stores
+    /// into has come, what is stored is absent at once.
     ///
     /// # Errors
     /// As [`Client::put`].
@@ -232,8 +234,9 @@ impl Client {
         Ok(Note::new(&self.shared, note))
     }
 
-    /// This client has then seen what the note has: its gets read what the note's client has put, or what was
-    /// stored since. That is proved. Without notes gets read the same, as tests show.
+    /// This client has then seen what the note has. Its gets read what the note's client has put, or what was
+    /// stored since, or are Busy; or miss it, if it was deleted, evicted or expired since. That is proved.
+    /// Without notes gets read the same, as tests show.
     ///
     /// # Errors
     /// [`Error::Foreign`], if the note is of another cache.

@@ -1,7 +1,8 @@
 //! A cache for the threads of one program, over a proved index: safe Rust over `libsegcache.a`.
 //!
-//! Each thread has a [`Client`] of its own, and reads what all of them put. No call waits. A key has 1 to
-//! 24 bytes, a value at most 32, and all memory is taken when the cache is made.
+//! Each thread has a [`Client`] of its own, and reads what all of them put. No call of a client waits; a
+//! client that is dropped waits while another is. A key has 1 to 24 bytes, a value at most 32. The cache takes
+//! its memory when it is made; notes, a close and [`Client::get_many`] take more.
 //!
 //! ```
 //! let (_cache, mut clients) = segcache::Cache::builder().keys(1_000).threads(2).build()?;
@@ -60,7 +61,7 @@
 //! # Ok::<(), Error>(())
 //! ```
 //!
-//! [`Client::get_many`] gets several keys in less time than one by one.
+//! [`Client::get_many`] gets several keys. From 8 keys on their waits for memory overlap.
 //!
 //! A value that is held reads the same until the hold is dropped, whatever becomes of its key:
 //!
