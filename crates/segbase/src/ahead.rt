@@ -45,7 +45,7 @@ impl Board {
             next: Next::Nothing,
         }; PIECE];
         for (seeker, key) in seekers.iter_mut().zip(keys) {
-            *seeker = self.seeker(key);
+            *seeker = self.seeker(hash(key));
         }
         for _ in 0..=CHAIN_BUCKETS {
             self.load_all(&self.places(&seekers));
@@ -60,8 +60,22 @@ impl Board {
         }
     }
 
-    fn seeker(&self, key: &Key) -> Seeker {
-        let hash = hash(key);
+    /// Whether the chain of a hash's bucket has a word with the hash's tag. As of a look ahead,
+    /// nothing follows from it.
+    pub fn may_have(&self, hash: u64) -> bool {
+        let mut seeker = self.seeker(hash);
+        for _ in 0..CHAIN_BUCKETS {
+            seeker.next = self.next_of(&seeker);
+            match seeker.next {
+                Next::Bucket(_) => {}
+                Next::Row { .. } => return true,
+                Next::Nothing => return false,
+            }
+        }
+        false
+    }
+
+    fn seeker(&self, hash: u64) -> Seeker {
         Seeker {
             tag: tag_of(hash),
             // No board lacks buckets, but nothing here needs that.

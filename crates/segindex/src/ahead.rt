@@ -8,4 +8,10 @@ impl Index {
     pub fn look_ahead(&self, keys: &[Key]) {
         self.board.look_ahead(keys);
     }
+
+    /// Whether a key with this hash may be present: some key of its bucket has the same tag.
+    /// It takes no pass: no answer depends on it, and it can be wrong at once.
+    pub fn may_have(&self, hash: u64) -> bool {
+        self.board.may_have(hash)
+    }
 }
