@@ -14,7 +14,7 @@ use Rattle.segevict.specs.Words.{EvictsSegment, KeepsItem}
 use Rattle.segevict.proofs.RowsOut.{goes_then}
 use Rattle.segindex.specs.Refilling.{RefillsSegment}
 use Rattle.segclient.specs.declared.room.Effort.{Effort}
-use Rattle.segclient.specs.PutCalls.{PutCall, gets, sets, evicts, keeps, refills, Plan, came_to, refilled_segments, kept_items, evicted_keys, IsRefused, IsCall, Makes}
+use Rattle.segclient.specs.PutCalls.{PutCall, sets, evicts, keeps, refills, Plan, came_to, refilled_segments, kept_items, evicted_keys, IsRefused, IsCall, Makes}
 use Rattle.segclient.specs.PutParts.{Arranges, effort_from, IsEffort, room_plan}
 use Rattle.segclient.specs.Tallies.{evicted_by, refilled_by}
 
@@ -23,7 +23,6 @@ use Rattle.segclient.specs.Tallies.{evicted_by, refilled_by}
 pub refused_then : (segment : ℕ) (later earlier : List PutCall) → IsRefused segment later → IsRefused segment (later ++ earlier)
 unfolding IsRefused
 refused_then segment [] earlier none = absurd none
-refused_then segment (gets ∷ later) earlier is = refused_then segment later earlier is
 refused_then segment (sets told ∷ later) earlier none = absurd none
 refused_then segment (evicts other (evict.Busy keys) ∷ later) earlier (inl here) = inl here
 refused_then segment (evicts other (evict.Busy keys) ∷ later) earlier (inr before) = inr (refused_then segment later earlier before)
@@ -58,14 +57,7 @@ module _ (b : Board) (plan : Plan) where
   makes_then [] earlier p q r first same = subst (Makes b plan earlier p) (sym same) first
   makes_then (call ∷ later) earlier p q r first (between, rest, last) = (between, makes_then later earlier p q between first rest, last)
 
-  -- the calls before, and those after
-  pub makes_apart : (later earlier : List PutCall) (p r : Pass) → Makes b plan (later ++ earlier) p r → (q : Pass) × Makes b plan earlier p q × Makes b plan later q r
-  unfolding Makes
-  makes_apart [] earlier p r makes = (r, makes, refl)
-  makes_apart (call ∷ later) earlier p r (between, rest, last) = let apart = makes_apart later earlier p between rest in (apart.0, apart.1, (between, apart.2, last))
-
   pub call_on : (call : PutCall) (p q : Pass) → IsCall b plan call p q → GoesOn b p q
-  call_on gets p q is = is.5.on
   call_on (sets told) p q is = is.6.on
   call_on (evicts segment told) p q is = is.1.on
   call_on (keeps segment row cutoff told) p q is = is.2.on
@@ -106,7 +98,6 @@ bare_within deadline cutoff = record {
 
 module _ (b : Board) (from to : Plan) (within : IsWithin from to) where
   call_within : (call : PutCall) (p q : Pass) → IsCall b from call p q → IsCall b to call p q
-  call_within gets p q (key, value, now, is, told, reads) = (key, value, now, within.request (Set key value now) is, told, reads)
   call_within (sets told) p q (key, value, now, is, fresh, set, writes) = (key, value, now, within.request (Set key value now) is, (λ until stores late. fresh until stores late ∙ within.deadline), set, writes)
   call_within (evicts segment told) p q is = is
   call_within (keeps segment row cutoff told) p q is = (is.0, (is.1.0, within.cutoff is.1.0 is.1.1, is.1.2), is.2)

@@ -4,8 +4,7 @@ use Rattle.segword.specs.Words.{Shape}
 use Rattle.segclient.specs.PutParts.{most_for_put, most_for_room}
 use Rattle.segclient.specs.Putting.{most_calls}
 
--- gets before and after are among them
-pub put_few : (shape : Shape) → most_for_put shape + 4 ≤ most_calls shape
+pub put_few : (shape : Shape) → most_for_put shape ≤ most_calls shape
 put_few shape = omega arith
 
 pub room_few : (shape : Shape) → most_for_room shape ≤ most_calls shape

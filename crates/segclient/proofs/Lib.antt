@@ -1,7 +1,6 @@
 pub mod Added
 pub mod Calls
 pub mod Few
-pub mod Gets
 pub mod InTurn
 pub mod Members
 pub mod Order

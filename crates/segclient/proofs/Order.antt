@@ -14,7 +14,7 @@ use Rattle.segstore.specs.Words.{has_room}
 use Rattle.segclient.specs.declared.put.PutAnswer.{PutAnswer}
 use Rattle.segclient.specs.declared.put.PutAnswer.TheVariants as put
 use Rattle.segclient.specs.declared.room.Effort.{Effort}
-use Rattle.segclient.specs.PutCalls.{PutCall, gets, sets, evicts, keeps, refills, Plan, Makes}
+use Rattle.segclient.specs.PutCalls.{PutCall, sets, evicts, keeps, refills, Plan, Makes}
 use Rattle.segclient.specs.PutParts.{AreOpen, AreSets, busy_sets, effort_from, Empties, EndsSo, IsEffort, is_stale, MakesPut, MakesRoom, room_plan, Sets, SetsIfFresh, WasEmptied}
 use Rattle.segclient.specs.Putting.{SetsUntilFull}
 use Rattle.segclient.proofs.Calls.{both, effort_more, effort_one, effort_then, no_effort, made_same, makes_same, makes_then, makes_within, one_more, refused_then, room_within, last_of, evicted_came}
@@ -42,9 +42,6 @@ no_room_apart e = cc
 busy_apart : sets write.Busy ≢ sets write.Stored
 busy_apart e = cc
 
-pub gets_apart : gets ≢ sets write.Stored
-gets_apart e = cc
-
 evict_apart : (segment : ℕ) (told : EvictAnswer) → evicts segment told ≢ sets write.Stored
 evict_apart segment told e = cc
 
@@ -60,8 +57,6 @@ no_room_stored e = cc
 -- those of room have no set
 pub room_open : (b : Board) (cutoff : Option ℕ) (deadline : ℕ) (calls : List PutCall) (p q : Pass) → Makes b (room_plan cutoff deadline) calls p q → AreOpen calls
 room_open b cutoff deadline [] p q makes = open_none
-room_open b cutoff deadline (gets ∷ earlier) p q makes =
-    let last = last_of b (room_plan cutoff deadline) gets earlier p q makes in open_more gets earlier gets_apart (room_open b cutoff deadline earlier p last.0 last.1)
 room_open b cutoff deadline (sets told ∷ earlier) p q makes =
     let last = last_of b (room_plan cutoff deadline) (sets told) earlier p q makes in absurd (none-some (Set last.2.0 last.2.1 last.2.2) last.2.3)
 room_open b cutoff deadline (evicts segment told ∷ earlier) p q makes =
@@ -135,21 +130,10 @@ until_evict segment told earlier full are = (full, are)
 until_then : (later earlier : List PutCall) → Contains earlier (sets write.BucketFull) → SetsUntilFull earlier → SetsUntilFull (later ++ earlier)
 unfolding SetsUntilFull
 until_then [] earlier full are = are
-until_then (gets ∷ later) earlier full are = until_then later earlier full are
 until_then (sets told ∷ later) earlier full are = until_then later earlier full are
 until_then (evicts segment told ∷ later) earlier full are = (Contains-append_right later earlier (sets write.BucketFull) full, until_then later earlier full are)
 until_then (keeps segment row by told ∷ later) earlier full are = (Contains-append_right later earlier (sets write.BucketFull) full, until_then later earlier full are)
 until_then (refills segment told ∷ later) earlier full are = (Contains-append_right later earlier (sets write.BucketFull) full, until_then later earlier full are)
-
--- calls, and others before them
-pub until_both : (later earlier : List PutCall) → SetsUntilFull later → SetsUntilFull earlier → SetsUntilFull (later ++ earlier)
-unfolding SetsUntilFull
-until_both [] earlier then first = first
-until_both (gets ∷ later) earlier then first = until_both later earlier then first
-until_both (sets told ∷ later) earlier then first = until_both later earlier then first
-until_both (evicts segment told ∷ later) earlier then first = (Contains-append_left later earlier (sets write.BucketFull) then.0, until_both later earlier then.1 first)
-until_both (keeps segment row by told ∷ later) earlier then first = (Contains-append_left later earlier (sets write.BucketFull) then.0, until_both later earlier then.1 first)
-until_both (refills segment told ∷ later) earlier then first = (Contains-append_left later earlier (sets write.BucketFull) then.0, until_both later earlier then.1 first)
 
 -- ---- efforts
 

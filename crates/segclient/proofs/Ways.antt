@@ -24,7 +24,7 @@ use Rattle.segevict.proofs.RowsOut.{goes_then}
 use Rattle.segindex.specs.Refilling.{RefillsSegment}
 use Rattle.segindex.proofs.QuietPass.{owned}
 use Rattle.segclient.specs.Entries.{IsOfRoom, is_eviction, is_move, is_refilling, AddsRoom}
-use Rattle.segclient.specs.PutCalls.{PutCall, gets, sets, evicts, keeps, refills, Plan, came_to, refilled_segments, kept_items, evicted_keys, IsCall, Makes}
+use Rattle.segclient.specs.PutCalls.{PutCall, sets, evicts, keeps, refills, Plan, came_to, refilled_segments, kept_items, evicted_keys, IsCall, Makes}
 use Rattle.segclient.specs.PutParts.{AreOpen}
 
 -- ---- entries
@@ -213,7 +213,6 @@ module _ (b : Board) (plan : Plan) where
   Came = Comes b plan.cutoff plan.deadline
 
   call_comes : (call : PutCall) (p q : Pass) → IsQuiet b p → call ≢ sets write.Stored → IsCall b plan call p q → Came (came_to refilled_segments call) (came_to kept_items call) (came_to evicted_keys call) p q
-  call_comes gets p q quiet other is = unchanged_none b plan.cutoff plan.deadline p q is.5.on is.5.keeps
   call_comes (sets told) p q quiet other (key, value, now, is, fresh, set, writes) = set_lacks b plan.cutoff plan.deadline (Set key value now) told p q set other writes
   call_comes (evicts segment told) p q quiet other is = evicted_some b plan.cutoff plan.deadline segment told p q quiet is.1
   call_comes (keeps segment row least told) p q quiet other is = row_kept b plan.cutoff plan.deadline segment row least told p q is.0 (ap is_some is.1.1) quiet is.2

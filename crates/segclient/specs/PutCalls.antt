@@ -5,19 +5,17 @@ use Rattle.std.specs.Prelude.{◌≡◌, ◌⊎◌, ℕ, ◌≤◌, List, [], �
 use Rattle.segmodel.specs.declared.answer.EvictAnswer.TheVariants as evict
 use Rattle.segmodel.specs.declared.answer.RefillAnswer.TheVariants as refill
 use Rattle.segmodel.specs.declared.request.Request.TheVariants.{Set}
-use Rattle.segmodel.specs.Words.{EvictAnswer, GetAnswer, owner, RefillAnswer, Request, WriteAnswer}
+use Rattle.segmodel.specs.Words.{EvictAnswer, owner, RefillAnswer, Request, WriteAnswer}
 use Rattle.segbase.specs.Words.{Board, current_of, deadline_of, number, Pass}
-use Rattle.segread.specs.Words.{ReadsKey}
 use Rattle.segwrite.specs.Words.{IsSetAnswer, Writes}
 use Rattle.segevict.specs.declared.retention.KeepRowAnswer.{KeepRowAnswer}
 use Rattle.segevict.specs.declared.retention.KeepRowAnswer.TheVariants as kept
 use Rattle.segevict.specs.Words.{EvictsSegment, KeepsItem}
 use Rattle.segindex.specs.Refilling.{RefillsSegment}
 
--- A call with its answer: a get or a set of the put's own key, an evict of a segment,
+-- A call with its answer: a set of the put's own key, an evict of a segment,
 -- a keep of a segment's row by a cutoff, or a refill of a segment.
 pub data PutCall : Type 0 where
-  gets : PutCall
   sets : WriteAnswer → PutCall
   evicts : ℕ → EvictAnswer → PutCall
   keeps : ℕ → ℕ → ℕ → KeepRowAnswer → PutCall
@@ -36,12 +34,8 @@ StoresUntil deadline p =
     (segment : ℕ) × (current_of p ≡ Some segment) × (deadline_of p segment ≡ Some deadline)
 
 -- A call had its answer. Segments are the pass's own.
--- A get is one of the put's key, with the draw 1, which raises no frequency above 16.
 -- A set isn't made in a segment whose deadline has come, unless that deadline is asked.
 abbrev pub IsCall : Board → Plan → PutCall → Pass → Pass → Type 0
-IsCall b plan gets p q =
-    (key : List ℕ) × (value : List ℕ) × (now : ℕ) × (plan.request ≡ Some (Set key value now))
-    × (told : GetAnswer) × ReadsKey b key 1 now told p q
 IsCall b plan (sets told) p q =
     (key : List ℕ) × (value : List ℕ) × (now : ℕ) × (plan.request ≡ Some (Set key value now))
     × ((until : ℕ) → StoresUntil until p → until ≤ now → until ≡ plan.deadline)

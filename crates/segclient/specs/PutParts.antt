@@ -7,7 +7,7 @@ use Rattle.segmodel.specs.declared.answer.WriteAnswer.TheVariants as write
 use Rattle.segmodel.specs.declared.request.Request.TheVariants.{Set}
 use Rattle.segmodel.specs.Words.{EvictAnswer, owner}
 use Rattle.segbase.specs.Words.{Board, current_of, deadline_of, number, Pass}
-use Rattle.segstore.specs.Words.{ChangesNothing, has_room}
+use Rattle.segstore.specs.Words.{has_room}
 use Rattle.segevict.specs.Words.{EvictsSegment}
 use Rattle.segindex.specs.Refilling.{RefillsSegment}
 use Rattle.segclient.specs.declared.put.Order.{Order}
@@ -16,7 +16,7 @@ use Rattle.segclient.specs.declared.put.PutAnswer.TheVariants as put
 use Rattle.segclient.specs.declared.room.Effort.{Effort}
 use Rattle.segclient.specs.declared.stats.Stats.{Stats}
 use Rattle.segclient.specs.Counting.{with_more}
-use Rattle.segclient.specs.PutCalls.{PutCall, gets, sets, evicts, Plan, came_to, refilled_segments, kept_items, evicted_keys, IsRefused, Makes, StoresUntil}
+use Rattle.segclient.specs.PutCalls.{PutCall, sets, evicts, Plan, came_to, refilled_segments, kept_items, evicted_keys, IsRefused, Makes, StoresUntil}
 use Rattle.segclient.specs.Putting.{IsPutAnswer, SetsUntilFull}
 use Rattle.segclient.specs.Tallies.{evicted_by}
 
@@ -180,29 +180,13 @@ WasEmptied calls = (later : List PutCall) × (segment : ℕ) × (answer : EvictA
     × (earlier : List PutCall)
     × (calls ≡ later ++ evicts segment answer ∷ sets write.BucketFull ∷ earlier)
 
--- the whole of a put but for its gets
+-- the whole of a put by its parts
 abbrev pub PutsAtLast : Board → Plan → ℕ → ℕ → PutAnswer → Effort → Pass → Pass → Type 0
 PutsAtLast b plan moment most told effort p q =
     (puts : MakesPut b plan moment most told effort p q)
     × (told ≡ put.BucketFull → WasEmptied puts.calls)
 
--- ---- gets
-
--- so many gets in a row
-unfoldable pub gets_in_row : ℕ → List PutCall
-gets_in_row zero = []
-gets_in_row (suc times) = gets ∷ gets_in_row times
-
--- at most so many gets of the key were made in a row, which changed nothing
-pub record Reads (b : Board) (key : List ℕ) (now most : ℕ) (p q : Pass) : Type 0 where
-  pub times : ℕ
-  pub few : times ≤ most
-  pub makes : (plan : Plan) (value : List ℕ)
-      → plan.request ≡ Some (Set key value now)
-      → Makes b plan (gets_in_row times) p q
-  pub keeps : ChangesNothing p q
-
--- A put as a whole, with its gets.
+-- A put as a whole, as its callers see it.
 pub record PutsWhole (b : Board) (plan : Plan) (moment most : ℕ) (told : PutAnswer)
     (effort : Effort) (p q : Pass) : Type 0 where
   pub calls : List PutCall
@@ -227,7 +211,7 @@ most_in_queues shape = 3 * shape.segments_each * (shape.rows + 1) + 2
 abbrev pub most_for_room : Shape → ℕ
 most_for_room shape = most_in_queues shape + (shape.rows + 1) + 2 * most_in_turn shape
 
--- for a set that makes room, and for a put but for its gets
+-- for a set that makes room, and for a put
 abbrev pub most_for_set : Shape → ℕ
 most_for_set shape = 32 + most_for_room shape
 

@@ -5,16 +5,15 @@ use Rattle.segmodel.specs.declared.answer.WriteAnswer.TheVariants as write
 use Rattle.segmodel.specs.Words.{EvictAnswer, owner}
 use Rattle.segclient.specs.declared.put.PutAnswer.{PutAnswer}
 use Rattle.segclient.specs.declared.put.PutAnswer.TheVariants as put
-use Rattle.segclient.specs.PutCalls.{PutCall, gets, sets, evicts, IsRefused}
+use Rattle.segclient.specs.PutCalls.{PutCall, sets, evicts, IsRefused}
 
--- Stored by its last call but for gets, and only by that.
+-- Stored by its last call, and only by that.
 -- NoRoom if each segment of the pass was refused.
 -- BucketFull by its last set, and by one before an evict. Busy if its last 16 sets were.
 abbrev pub IsPutAnswer : Shape → ℕ → PutAnswer → List PutCall → Type 0
 IsPutAnswer shape pass put.Stored calls =
-    (later : List PutCall) × (earlier : List PutCall)
-    × (calls ≡ later ++ sets write.Stored ∷ earlier)
-    × All (λ call. call ≡ gets) later
+    (earlier : List PutCall)
+    × (calls ≡ sets write.Stored ∷ earlier)
     × All (λ call. call ≢ sets write.Stored) earlier
 IsPutAnswer shape pass put.NoRoom calls =
     (segment : ℕ) → owner shape segment ≡ pass → IsRefused segment calls
@@ -28,11 +27,10 @@ IsPutAnswer shape pass put.Busy calls =
 -- No call makes room until a set found the bucket full.
 unfoldable pub SetsUntilFull : List PutCall → Type 0
 SetsUntilFull [] = Unit {0}
-SetsUntilFull (gets ∷ earlier) = SetsUntilFull earlier
 SetsUntilFull (sets told ∷ earlier) = SetsUntilFull earlier
 SetsUntilFull (call ∷ earlier) =
     Contains earlier (sets write.BucketFull) × SetsUntilFull earlier
 
 -- at most so many calls
 abbrev pub most_calls : Shape → ℕ
-most_calls shape = 6 * (shape.segments_each + 1) * (shape.rows + 3) + 65
+most_calls shape = 6 * (shape.segments_each + 1) * (shape.rows + 3) + 61

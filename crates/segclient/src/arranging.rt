@@ -1,6 +1,6 @@
 //! How a put makes room by two queues: it moves what was read into main segments,
 //! each row by a cutoff of its own, and evicts the rest.
-ghost use Rattle.std.specs.Prelude.{◌≡◌, ◌≢◌, ◌<◌, ◌≤◌, ◌+◌, ◌-◌, ◌*◌, ◌/◌, ◌^◌, ℕ, cond, nat_eq, max, Option, Some, IfSome};
+ghost use Rattle.std.specs.Prelude.{◌≡◌, ◌≢◌, ◌<◌, ◌≤◌, ◌+◌, ◌*◌, ◌/◌, ◌^◌, ℕ, max, Option, Some, IfSome};
 ghost use Rattle.segmodel.specs.Words.{owner};
 ghost use Rattle.segbase.specs.Words.{current_of, number};
 ghost use Rattle.segindex.specs.Words.{board_of, shape_of};
@@ -97,14 +97,12 @@ fn can_move(pass: &Pass, source: u32, now: u32) -> bool {
     into != source && pass.deadline(into) == Some(deadline) && now < deadline
 }
 
-// The frequency that an item has at least to move on, if it was moved so often.
-// Each second move asks for one more, so what was read long ago runs out.
-fn cutoff_after(moves: u8, least: u8) -> u8
-    ensures value { result ≡ max least (cond (nat_eq moves 0) 2 (3 + (moves - 1) / 2)) }
+// The least frequency with which an item of this need moves on.
+fn cutoff_of(need: u8, least: u8) -> u8
+    ensures value { result ≡ max least (need / 2) }
     ensures enough { least ≤ result }
 {
-    let cutoff = if moves == 0 { 2 } else { 3 + (moves - 1) / 2 };
-    if cutoff < least { least } else { cutoff }
+    (need / 2).max(least)
 }
 
 // What moving a segment's rows came to.
@@ -127,12 +125,12 @@ fn move_rows(index: &Index, pass: &mut Pass, queues: &mut Queues, source: u32, l
 {
     let mut kept = 0;
     for row in 0..index.shape().rows {
-        let moves = queues.moves_of(source, row);
-        let told = index.keep_row(pass, source, row, cutoff_after(moves, least));
+        let need = queues.need_of(source, row);
+        let told = index.keep_row(pass, source, row, cutoff_of(need, least));
         let more = moved_by(told);
         kept += more;
         if more > 0 {
-            queues.set_moves(pass, moves.saturating_add(1).min(254));
+            queues.set_need(pass, need.saturating_add(1));
         }
         match told {
             KeepRowAnswer::NoRoom => {

@@ -188,8 +188,8 @@ impl<'i> Client<'i> {
     /// If no row is left, or the segment that it stores into has expired,
     /// it recycles segments of its own: it evicts them, and refills one to expire
     /// a time to live from now, or up to half of that earlier.
-    /// By queues it first moves on what was read in those that it evicts, and gets the key
-    /// before and after, so that an update keeps its standing.
+    /// By queues it first moves on what was read in those that it evicts. An update moves on
+    /// without being read, some times.
     /// By a cutoff, or keeping nothing, it takes the one that was filled before the others;
     /// one that can't be recycled is passed over until its next turn.
     /// If the key's bucket is full, it evicts the oldest of its segments and tries once more.

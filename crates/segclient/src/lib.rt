@@ -13,7 +13,6 @@ mod put;
 mod queues;
 mod ring;
 mod room;
-mod standing;
 mod stats;
 mod tally;
 

@@ -10,10 +10,9 @@ ghost use Rattle.segclient.specs.Putting.{most_calls};
 ghost use Rattle.segclient.specs.Rings.{IsOwnRing};
 
 use crate::room::{Effort, Policy, Segments, evict_oldest, make_room_by};
-use crate::standing::{gets_after, is_present, raise};
 use segindex::{Index, Pass};
 use segmodel::WriteAnswer;
-use segword::{Key, Value};
+use segword::{Key, Value, hash};
 
 /// The answer to a put.
 #[derive(Clone, Copy, Debug, PartialEq, Eq)]
@@ -150,30 +149,9 @@ fn put_at_last(
     (told, emptied.plus(last))
 }
 
-// A put, but for the gets of its key.
+// A put, but for what queues note of it.
 #[inline(always)]
 fn put_once(
-    index: &Index,
-    pass: &mut Pass,
-    segments: &mut Segments,
-    order: Order<'_>,
-) -> (PutAnswer, Effort)
-    requires quiet { IsQuiet (board_of index.now) pass.old }
-    requires own { IsOwnRing (shape_of index.now) (number pass.old) segments.old.ring }
-    ensures on { GoesOn (board_of index.now) pass.old pass.new }
-    ensures own { IsOwnRing (shape_of index.now) (number pass.new) segments.new.ring }
-    ensures puts { PutsAtLast (board_of index.now) (plan_of order.entry) order.entry.policy.moment
-        (most_for_put (shape_of index.now)) result.0 result.1 pass.old pass.new }
-{
-    let first = set_if_fresh(index, pass, order);
-    if let PutAnswer::Stored = first {
-        return (first, Effort::none());
-    }
-    put_at_last(index, pass, segments, order, first)
-}
-
-// A put of a client that keeps by queues. An update keeps its standing.
-fn put_with_standing(
     index: &Index,
     pass: &mut Pass,
     segments: &mut Segments,
@@ -186,7 +164,29 @@ fn put_with_standing(
     ensures puts { PutsWhole (board_of index.now) (plan_of order.entry) order.entry.policy.moment
         (most_calls (shape_of index.now)) result.0 result.1 pass.old pass.new }
 {
-    let is_update = is_present(index, pass, order.key, order.policy.moment);
+    let first = set_if_fresh(index, pass, order);
+    if let PutAnswer::Stored = first {
+        return (first, Effort::none());
+    }
+    put_at_last(index, pass, segments, order, first)
+}
+
+// A put of a client that keeps by queues. They note whether it is an update, as far as can be seen.
+fn put_in_queues(
+    index: &Index,
+    pass: &mut Pass,
+    segments: &mut Segments,
+    order: Order<'_>,
+) -> (PutAnswer, Effort)
+    requires quiet { IsQuiet (board_of index.now) pass.old }
+    requires own { IsOwnRing (shape_of index.now) (number pass.old) segments.old.ring }
+    ensures on { GoesOn (board_of index.now) pass.old pass.new }
+    ensures own { IsOwnRing (shape_of index.now) (number pass.new) segments.new.ring }
+    ensures puts { PutsWhole (board_of index.now) (plan_of order.entry) order.entry.policy.moment
+        (most_calls (shape_of index.now)) result.0 result.1 pass.old pass.new }
+{
+    let hash = hash(order.key);
+    let is_update = index.may_have(hash);
     let (told, effort) = put_once(index, pass, segments, order);
     let PutAnswer::Stored = told else {
         return (told, effort);
@@ -194,8 +194,7 @@ fn put_with_standing(
     let Some(queues) = segments.queues.as_mut() else {
         return (told, effort);
     };
-    let times = gets_after(queues, pass, order.key, is_update);
-    raise(index, pass, order.key, order.policy.moment, times);
+    queues.was_put(pass, hash, is_update);
     (told, effort)
 }
 
@@ -215,7 +214,7 @@ pub(crate) fn put_by(
         (most_calls (shape_of index.now)) result.0 result.1 pass.old pass.new }
 {
     if segments.queues.is_some() {
-        return put_with_standing(index, pass, segments, order);
+        return put_in_queues(index, pass, segments, order);
     }
     put_once(index, pass, segments, order)
 }

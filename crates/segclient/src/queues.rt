@@ -10,7 +10,7 @@ ghost use Rattle.segstore.specs.Words.{IsQuiet};
 
 use segindex::{Index, Pass};
 use segmodel::SegState;
-use segword::{Key, Shape, hash};
+use segword::Shape;
 use std::alloc::{AllocError, Global};
 
 // What a segment is used for.
@@ -31,7 +31,17 @@ struct Place {
     turn: u64,
 }
 
-// The segments of a pass in three queues, how often the item of each row was moved,
+// What the item of a row needs to move on, in halves of a frequency. Each move adds one,
+// so what was read long ago runs out.
+const NEED_OF_NEW: u8 = 5;
+
+// A key that was put lately was asked for again.
+const NEED_OF_RECENT: u8 = 3;
+
+// An update keeps its standing: it moves on four times before it has to be read.
+const NEED_OF_UPDATE: u8 = 0;
+
+// The segments of a pass in three queues, what the item of each row needs to move on,
 // and marks of keys that were put lately.
 #[derive(Drop)]
 pub(crate) struct Queues {
@@ -39,7 +49,7 @@ pub(crate) struct Queues {
     rows: u32,
     turns: u64,
     places: Vec<Place>,
-    moves: Vec<u8>,
+    needs: Vec<u8>,
     marks: Vec<u16>,
 }
 
@@ -58,7 +68,7 @@ impl Queues {
             rows: shape.rows,
             turns: 0,
             places: vec![in alloc; place; shape.segments_each as usize]?,
-            moves: vec![in alloc; 0u8; rows]?,
+            needs: vec![in alloc; NEED_OF_NEW; rows]?,
             marks: vec![in alloc; 0u16; rows]?,
         })
     }
@@ -153,31 +163,45 @@ impl Queues {
             .saturating_add(row as usize)
     }
 
-    // How often the item of a row was moved.
-    pub(crate) fn moves_of(&self, segment: u32, row: u32) -> u8 {
-        match self.moves.get(self.row_at(segment, row)) {
-            Some(moves) => *moves,
+    // What the item of a row needs to move on.
+    pub(crate) fn need_of(&self, segment: u32, row: u32) -> u8 {
+        match self.needs.get(self.row_at(segment, row)) {
+            Some(need) => *need,
             None => 0,
         }
     }
 
-    // The item of the row that was used last was moved so often.
-    pub(crate) fn set_moves(&mut self, pass: &Pass, count: u8) {
+    // The item of the row that was used last needs so much.
+    pub(crate) fn set_need(&mut self, pass: &Pass, need: u8) {
         let Some(segment) = pass.current() else {
             return;
         };
         let used = pass.used(segment).unwrap_or(0);
         let at = self.row_at(segment, used.saturating_sub(1));
-        if let Some(moves) = self.moves.get_mut(at) {
-            *moves = count;
+        if let Some(place) = self.needs.get_mut(at) {
+            *place = need;
         }
     }
 
-    // Marks a key, and returns whether it was marked lately.
-    pub(crate) fn mark(&mut self, key: &Key) -> bool {
-        let mixed = hash(key).wrapping_mul(0x9e37_79b9_7f4a_7c15);
+    // A key with this hash was put into the row that was used last.
+    pub(crate) fn was_put(&mut self, pass: &Pass, hash: u64, is_update: bool) {
+        let was_marked = self.mark(hash);
+        let need = if is_update {
+            NEED_OF_UPDATE
+        } else if was_marked {
+            NEED_OF_RECENT
+        } else {
+            NEED_OF_NEW
+        };
+        self.set_need(pass, need);
+    }
+
+    // Marks a key by its hash, and returns whether it was marked lately.
+    fn mark(&mut self, hash: u64) -> bool {
+        let mixed = hash.wrapping_mul(0x9e37_79b9_7f4a_7c15);
         let mark = (mixed >> 48) as u16 | 1;
-        let at = (mixed >> 16 & 0xffff_ffff) as usize % self.marks.len().max(1);
+        let share = mixed >> 16 & 0xffff_ffff;
+        let at = (share.wrapping_mul(self.marks.len() as u64) >> 32) as usize;
         let Some(place) = self.marks.get_mut(at) else {
             return false;
         };
