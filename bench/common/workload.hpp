@@ -119,7 +119,6 @@ struct Load {
     Mix mix;
     // Each command is timed whose place is a multiple of this; none is if it is 0.
     std::uint32_t sample;
-    std::vector<Key> keys;
     std::vector<Value> values;
 
     // The value that a number at random, of 24 bits, chooses.
@@ -189,7 +188,7 @@ private:
         using Clock = std::chrono::steady_clock;
         std::size_t next = load.sample == 0 ? numbers_.size() : 0;
         for (std::size_t place = 0; place < numbers_.size(); ++place) {
-            const Key& key = load.keys[numbers_[place]];
+            const Key key = Key::of_number(numbers_[place]);
             if (place != next) {
                 serve(load, key);
                 continue;
@@ -208,7 +207,7 @@ private:
         std::array<Key, piece> at_hand;
         for (std::size_t start = 0; start + piece <= numbers_.size(); start += piece) {
             for (unsigned place = 0; place < piece; ++place) {
-                at_hand[place] = load.keys[numbers_[start + place]];
+                at_hand[place] = Key::of_number(numbers_[start + place]);
             }
             if constexpr (requires(Value* found, Answer* answers) { client_.get_many(at_hand.data(), piece, generator_, found, answers); }) {
                 if (load.mix == Mix::Gets16) {

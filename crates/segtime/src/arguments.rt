@@ -37,10 +37,11 @@ times four threads that mostly get, and tells how long each 64th command took.";
 const RETENTION: &str = "Times nothing, and tells for ways of giving up segments how many gets hit";
 
 // Options with a word: which words, the default, and the help.
-const WORDS: [(&str, &[&str], &str, &str); 4] = [
+const WORDS: [(&str, &[&str], &str, &str); 5] = [
     ("mix", MIXES, "mixed", "What the commands are"),
     ("draws", &["uniform", "zipf"], "uniform", "Of the keys"),
     ("shape", &["large", "planned"], "large", SHAPE),
+    ("keep", &["queues", "nothing"], "queues", KEEP),
     ("format", &["text", "json"], "text", "How rounds are told"),
 ];
 
@@ -56,6 +57,9 @@ const NUMBERS: [(&str, i64, i64, &str, &str); 7] = [
 ];
 
 const SHAPE: &str = "Large: no write needs room for long; planned: as Shape::for_keys plans it";
+
+const KEEP: &str =
+    "What puts keep when they make room: by two queues, as clients begin, or nothing";
 
 const SEGMENTS: &str = "Segments of each thread; 0 for 1024 of all, at most 256 of one";
 
@@ -89,6 +93,8 @@ pub struct Options {
     pub threads: u32,
     /// Whether the index has the shape that is planned for so many keys and threads.
     pub is_planned: bool,
+    /// Whether puts keep what was got again.
+    pub keeps: bool,
     pub segments: u32,
     /// How many commands each thread makes in a round.
     pub commands: u32,
@@ -121,6 +127,7 @@ fn options_of(matches: &ArgMatches<'_>) -> Options {
         keys: number_of(matches, "keys"),
         threads: number_of(matches, "threads"),
         is_planned: matches.get_str("shape") == Some("planned"),
+        keeps: matches.get_str("keep") != Some("nothing"),
         segments: number_of(matches, "segments"),
         commands: number_of(matches, "commands"),
         rounds: number_of(matches, "rounds"),

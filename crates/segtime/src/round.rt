@@ -7,10 +7,10 @@ use crate::arguments::Options;
 use crate::draws::Draws;
 use crate::report::Round;
 use crate::tally::Tally;
-use crate::worker::{Task, Worker};
+use crate::worker::{Task, Worker, key_of};
 use segclient::clients;
 use segindex::{Index, Pass};
-use segword::{Key, Shape, ShapeFault, Value};
+use segword::{Shape, ShapeFault, Value};
 use std::alloc::{AllocError, AllocGlobal, Global};
 use std::io::{Input, Print};
 use std::sync::atomic::{AtomicU64, Ordering};
@@ -68,16 +68,6 @@ pub fn tell_shape<R: AllocGlobal + Print>(rt: &R, options: &Options) -> io::Resu
     )
 }
 
-fn keys_below(alloc: Global, count: u32) -> Result<Vec<Key>, AllocError> {
-    let mut keys = Vec::new(alloc);
-    for number in 0..count {
-        if let Some(key) = Key::new(&number.to_le_bytes()) {
-            keys.push(key)?;
-        }
-    }
-    Ok(keys)
-}
-
 // The values from which each write draws one.
 fn values_to_draw(alloc: Global) -> Result<Vec<Value>, AllocError> {
     let mut values = Vec::new(alloc);
@@ -95,13 +85,16 @@ fn workers_of<'i>(
     alloc: Global,
     index: &'i Index,
     passes: Vec<Pass>,
-    seed: u32,
+    options: &Options,
 ) -> Result<Vec<Worker<'i>>, AllocError>
     requires { All (IsQuiet (board_of index.now)) passes.items }
 {
     let mut workers = Vec::new(alloc);
-    let mut state = seed;
-    for client in clients(alloc, index, passes)? {
+    let mut state = options.seed;
+    for mut client in clients(alloc, index, passes)? {
+        if !options.keeps {
+            client.keep_nothing();
+        }
         workers.push(Worker::new(alloc, client, state))?;
         state = state.wrapping_add(1);
     }
@@ -109,12 +102,15 @@ fn workers_of<'i>(
 }
 
 // Stores each key once, by the workers in turn, and with the values in turn.
-fn fill(workers: &mut Vec<Worker<'_>>, keys: &Vec<Key>, values: &Vec<Value>) {
+fn fill(workers: &mut Vec<Worker<'_>>, keys: u32, values: &Vec<Value>) {
     let count = workers.len().max(1);
-    for (place, key) in keys.iter().enumerate() {
+    for number in 0..keys {
+        let place = number as usize;
         let value = values.get(place % VALUES as usize);
-        if let (Some(worker), Some(value)) = (workers.get_mut(place % count), value) {
-            worker.client.put(key, value);
+        if let (Some(worker), Some(key), Some(value)) =
+            (workers.get_mut(place % count), key_of(number), value)
+        {
+            worker.client.put(&key, value);
         }
     }
 }
@@ -133,15 +129,13 @@ pub fn measure<R: Threads + Wait + Sync + AllocGlobal + Input + Print + Clock + 
     };
     let values = values_to_draw(alloc)?;
     let draws = Draws::new(alloc, options.keys, options.is_zipf)?;
-    let keys = keys_below(alloc, options.keys)?;
-    let mut workers = workers_of(alloc, &index, passes, options.seed)?;
-    fill(&mut workers, &keys, &values);
+    let mut workers = workers_of(alloc, &index, passes, options)?;
+    fill(&mut workers, options.keys, &values);
     let task = Task {
         mix: options.mix,
         way: options.way,
         sample: options.sample,
         only_refills: options.only_refills,
-        keys: &keys,
         values: &values,
     };
     for _ in 0..options.rounds {

@@ -1,6 +1,7 @@
 //! What the commands of a thread came to.
 use segclient::PutAnswer;
-use segmodel::{Answer, DeleteAnswer, GetAnswer, GetsAnswer, WriteAnswer};
+use segmodel::{DeleteAnswer, GetAnswer, GetsAnswer, WriteAnswer};
+use segword::Value;
 
 /// How many commands had which outcome.
 #[derive(Clone, Copy, Default)]
@@ -14,17 +15,6 @@ pub struct Tally {
     full: u64,
     /// What was read of the values that were found, added up.
     pub read: u64,
-}
-
-// What is read of the value that an answer found: its length and its first byte.
-fn reading(answer: &Answer) -> u64 {
-    let bytes = match answer {
-        Answer::Get(GetAnswer::Found(value)) => value.as_bytes(),
-        Answer::Gets(GetsAnswer::Found(value, _)) => value.as_bytes(),
-        _ => return 0,
-    };
-    let first = bytes.first().copied().unwrap_or(0);
-    (bytes.len() as u64).wrapping_add(u64::from(first))
 }
 
 impl Tally {
@@ -49,20 +39,60 @@ impl Tally {
         }
     }
 
-    /// Counts the answer to a command, and reads the value that it found.
-    pub fn count(&mut self, answer: &Answer) {
-        self.read = self.read.wrapping_add(reading(answer));
+    /// Reads a value that was found: its length and its first byte.
+    #[inline(always)]
+    pub fn read(&mut self, value: &Value) {
+        let bytes = value.as_bytes();
+        let first = bytes.first().copied().unwrap_or(0);
+        self.read = self
+            .read
+            .wrapping_add(bytes.len() as u64)
+            .wrapping_add(u64::from(first));
+    }
+
+    /// Counts the answer to a get, and reads the value that it found.
+    #[inline(always)]
+    pub fn count_get(&mut self, answer: &GetAnswer) {
+        match answer {
+            GetAnswer::Found(value) => {
+                self.read(value);
+                self.hits = self.hits.saturating_add(1);
+            }
+            GetAnswer::Miss => self.misses = self.misses.saturating_add(1),
+            GetAnswer::Busy => self.busy = self.busy.saturating_add(1),
+        }
+    }
+
+    /// Counts the answer to a gets, and reads the value that it found.
+    #[inline(always)]
+    pub fn count_gets(&mut self, answer: &GetsAnswer) {
+        match answer {
+            GetsAnswer::Found(value, _) => {
+                self.read(value);
+                self.hits = self.hits.saturating_add(1);
+            }
+            GetsAnswer::Miss => self.misses = self.misses.saturating_add(1),
+            GetsAnswer::Busy => self.busy = self.busy.saturating_add(1),
+        }
+    }
+
+    /// Counts the answer to a write.
+    pub fn count_write(&mut self, answer: WriteAnswer) {
         let number = match answer {
-            Answer::Get(GetAnswer::Found(_))
-            | Answer::Gets(GetsAnswer::Found(_, _))
-            | Answer::Write(WriteAnswer::Stored)
-            | Answer::Delete(DeleteAnswer::Deleted) => &mut self.hits,
-            Answer::Get(GetAnswer::Busy)
-            | Answer::Gets(GetsAnswer::Busy)
-            | Answer::Write(WriteAnswer::Busy)
-            | Answer::Delete(DeleteAnswer::Busy) => &mut self.busy,
-            Answer::Write(WriteAnswer::NoRoom | WriteAnswer::BucketFull) => &mut self.full,
-            _ => &mut self.misses,
+            WriteAnswer::Stored => &mut self.hits,
+            WriteAnswer::Busy => &mut self.busy,
+            WriteAnswer::NoRoom | WriteAnswer::BucketFull => &mut self.full,
+            WriteAnswer::NotStored | WriteAnswer::Exists | WriteAnswer::NotFound => &mut self.misses,
+        };
+        *number = number.saturating_add(1);
+    }
+
+    /// Counts the answer to a delete.
+    pub fn count_delete(&mut self, answer: DeleteAnswer) {
+        let number = match answer {
+            DeleteAnswer::Deleted => &mut self.hits,
+            DeleteAnswer::Busy => &mut self.busy,
+            DeleteAnswer::NotFound => &mut self.misses,
         };
         *number = number.saturating_add(1);
     }

@@ -3,11 +3,11 @@ use crate::draws::{Draws, Generator};
 use crate::mix::{Kind, Mix, PIECE, Way};
 use crate::tally::{Tally, set_answer};
 use segclient::Client;
-use segmodel::{Answer, GetAnswer, GetsAnswer, WriteAnswer};
+use segmodel::{GetAnswer, GetsAnswer, WriteAnswer};
 use segword::{Key, Value};
 use std::alloc::{AllocError, Global};
 use std::time::{Clock, CpuClock, Duration, Instant};
-use std::{io, mem};
+use std::io;
 
 /// What each thread is to do in a round.
 #[derive(Clone, Copy)]
@@ -18,8 +18,13 @@ pub struct Task<'a> {
     pub sample: u32,
     /// Whether of these only those count that refilled a segment.
     pub only_refills: bool,
-    pub keys: &'a Vec<Key>,
     pub values: &'a Vec<Value>,
+}
+
+/// The key of a number: its four bytes, the lowest first.
+#[inline(always)]
+pub fn key_of(number: u32) -> Option<Key> {
+    Key::new(&number.to_le_bytes())
 }
 
 // The value that a number at random, of 24 bits, chooses out of 64.
@@ -36,9 +41,9 @@ pub struct Worker<'i> {
     version: u32,
     /// The numbers of the keys of its next round.
     numbers: Vec<u32>,
-    // The keys that are at hand together, and their answers.
-    at_hand: Vec<Key>,
+    // The answers to gets that are made together.
     answers: Vec<GetAnswer>,
+    alloc: Global,
     /// The outcome of its last round.
     pub tally: Tally,
     /// The processor time of its last round.
@@ -54,8 +59,8 @@ impl<'i> Worker<'i> {
             generator: Generator { state: seed },
             version: 0,
             numbers: Vec::new(alloc),
-            at_hand: Vec::new(alloc),
             answers: Vec::new(alloc),
+            alloc,
             tally: Tally::default(),
             spent: Duration::ZERO,
             samples: Vec::new(alloc),
@@ -78,7 +83,6 @@ impl<'i> Worker<'i> {
         for _ in self.answers.len()..PIECE {
             self.answers.push(GetAnswer::Miss)?;
         }
-        self.at_hand.reserve(PIECE)?;
         let before = rt.thread_cpu_time()?;
         match task.way {
             Way::Alone => self.work_one_by_one(rt, task)?,
@@ -88,20 +92,25 @@ impl<'i> Worker<'i> {
         Ok(self)
     }
 
+    // The key of one of the round's commands, made anew as a server makes it of what it received.
+    #[inline(always)]
+    fn key_at(&self, place: usize) -> Option<Key> {
+        key_of(*self.numbers.get(place)?)
+    }
+
     fn work_one_by_one<R: Clock>(&mut self, rt: &R, task: Task<'_>) -> io::Result<()> {
         let mut next = if task.sample == 0 { usize::MAX } else { 0 };
         for place in 0..self.numbers.len() {
-            let number = self.numbers.get(place).copied().unwrap_or(0);
-            let Some(key) = task.keys.get(number as usize) else {
+            let Some(key) = self.key_at(place) else {
                 break;
             };
             if place != next {
-                self.serve(key, task);
+                self.serve(&key, task);
                 continue;
             }
             let refilled = self.client.stats().segments_refilled;
             let start = Instant::now(rt)?;
-            self.serve(key, task);
+            self.serve(&key, task);
             let nanoseconds = start.elapsed(rt)?.as_nanos();
             if !task.only_refills || self.client.stats().segments_refilled != refilled {
                 self.samples
@@ -114,65 +123,75 @@ impl<'i> Worker<'i> {
 
     // Makes the commands of a round, so many at a time.
     fn work_in_pieces(&mut self, task: Task<'_>) -> Result<(), AllocError> {
+        let mut at_hand = Vec::with_capacity(self.alloc, PIECE)?;
         for piece in 0..self.numbers.len() / PIECE {
-            self.at_hand.clear();
+            at_hand.clear();
             for place in piece * PIECE..(piece + 1) * PIECE {
-                let number = self.numbers.get(place).copied().unwrap_or(0);
-                if let Some(key) = task.keys.get(number as usize) {
-                    self.at_hand.push(key.copy())?;
+                if let Some(key) = self.key_at(place) {
+                    at_hand.push(key)?;
                 }
             }
             match task.way {
-                Way::Together => self.get_together(),
+                Way::Together => self.get_together(&at_hand),
                 Way::Ahead => {
-                    self.client.look_ahead(&self.at_hand);
-                    self.serve_at_hand(task);
+                    self.client.look_ahead(&at_hand);
+                    self.serve_each(&at_hand, task);
                 }
-                Way::Apart | Way::Alone => self.serve_at_hand(task),
+                Way::Apart | Way::Alone => self.serve_each(&at_hand, task),
             }
         }
         Ok(())
     }
 
-    fn get_together(&mut self) {
-        if self.at_hand.len() == self.answers.len() {
-            self.client.get_many(&self.at_hand, &mut self.answers);
+    fn get_together(&mut self, keys: &Vec<Key>) {
+        if keys.len() == self.answers.len() {
+            self.client.get_many(keys, &mut self.answers);
         }
-        for answer in self.answers.iter_mut() {
+        for answer in self.answers.iter() {
             self.generator.next();
-            let answer = mem::replace(answer, GetAnswer::Miss);
-            self.tally.count(&Answer::Get(answer));
+            self.tally.count_get(answer);
         }
     }
 
-    fn serve_at_hand(&mut self, task: Task<'_>) {
-        for place in 0..self.at_hand.len() {
-            let Some(key) = self.at_hand.get(place).map(|key| key.copy()) else {
-                break;
-            };
-            self.serve(&key, task);
+    fn serve_each(&mut self, keys: &Vec<Key>, task: Task<'_>) {
+        for key in keys {
+            self.serve(key, task);
         }
     }
 
     // Makes a drawn command, and counts its answer.
+    #[inline(always)]
     fn serve(&mut self, key: &Key, task: Task<'_>) {
         let draw = self.generator.next();
         let Some(value) = drawn(task.values, draw) else {
             return;
         };
-        let kind = task.mix.kind(draw);
-        let answer = match kind {
-            Kind::Get => Answer::Get(self.client.get(key)),
-            Kind::Gets => Answer::Gets(self.gets(key)),
-            Kind::Set => Answer::Write(set_answer(self.client.put(key, value))),
-            Kind::Add | Kind::Replace | Kind::Cas => Answer::Write(self.write(kind, key, value)),
-            Kind::Delete => Answer::Delete(self.client.delete(key)),
-            Kind::Modify => match self.gets(key) {
-                GetsAnswer::Found(_, _) => Answer::Write(self.write(Kind::Cas, key, value)),
-                told => Answer::Gets(told),
-            },
-        };
-        self.tally.count(&answer);
+        match task.mix.kind(draw) {
+            Kind::Get => self.tally.count_get(&self.client.get(key)),
+            Kind::Gets => {
+                let told = self.gets(key);
+                self.tally.count_gets(&told);
+            }
+            Kind::Set => self.tally.count_write(set_answer(self.client.put(key, value))),
+            Kind::Delete => self.tally.count_delete(self.client.delete(key)),
+            Kind::Modify => self.modify(key, value),
+            kind => {
+                let told = self.write(kind, key, value);
+                self.tally.count_write(told);
+            }
+        }
+    }
+
+    // A gets, and if it found the key, a cas with the version that it found. They count as one.
+    fn modify(&mut self, key: &Key, value: &Value) {
+        let told = self.gets(key);
+        if let GetsAnswer::Found(value_found, _) = &told {
+            self.tally.read(value_found);
+            let told = self.write(Kind::Cas, key, value);
+            self.tally.count_write(told);
+        } else {
+            self.tally.count_gets(&told);
+        }
     }
 
     // A gets, whose version is kept for the next cas.
