@@ -1,21 +1,18 @@
--- With one pass and any draw, a command is served as the model says, but for the frequencies of items.
+-- With one pass and any draw, a get and a gets are served as the model says, but for the frequencies of items.
 use Rattle.std.proofs.Common.{◌≡◌, ◌≢◌, ℕ, zero, suc, Bool, true, false, cond, eqb, List, [], length, Option, Some, None, option_map, refl, sym, ap, subst, ◌∙◌}
 use Rattle.std.proofs.lemmas.Bool.{cases_Bool, eqb-true}
 use Rattle.segword.specs.Words.{Shape}
 use Rattle.segmodel.specs.declared.answer.Answer.TheVariants as answer
 use Rattle.segmodel.specs.declared.answer.Command.{Command}
 use Rattle.segmodel.specs.declared.answer.Command.TheVariants as command
-use Rattle.segmodel.specs.declared.request.Request.TheVariants as request
 use Rattle.segmodel.specs.Words.{after, after_hit, Answer, Cached, Filling, GetAnswer, GetsAnswer, is_locked, IsSound, present, raised_in, Serves, State}
 use Rattle.segbase.specs.Words.{Board, Memo, Pass, seen, state_in, own_segment}
 use Rattle.segbase.specs.declared.pass.Plain.{Plain}
-use Rattle.segindex.specs.Words.{AnswersCommand}
 use Rattle.segindex.proofs.Since.{get_since, gets_since}
 use Rattle.segstore.specs.Words.{ChangesNothing, DrawsNothing, GoesOn}
 use Rattle.segread.specs.Words.{ReadsKey, ReadsVersion}
 use Rattle.segstore.proofs.Keeping.{stored_in}
 use Rattle.segsolo.specs.Alone.{frequencies_in, IsAlone, IsSameButFrequencies, item_of, keys_stored_in, of_rows, or_empty, ServesAlone, ServesButFrequencies, state_at, with_frequencies}
-use Rattle.segsolo.proofs.AloneCommands.{serves_command}
 use Rattle.segsolo.proofs.AlonePass.{at_state, counts_still, same_seen}
 use Rattle.segsolo.proofs.AloneReads.{got, versioned}
 use Rattle.segsolo.proofs.AloneRows.{still_named}
@@ -82,13 +79,13 @@ module _ (b : Board) (p q : Pass) (was : IsAlone b p) (on : GoesOn b p q) (undra
         (λ segment. of_rows_long _ 0 (length (keys_stored_in (seen q) segment)) ∙ ap (λ h. length (keys_stored_in h segment)) same) was.kept);
   }
 
--- ---- commands
+-- ---- what is served
 
 -- what is served exactly is served so but for frequencies
-exactly : (b : Board) (command : Command) (told : Answer) (p q : Pass) → ServesAlone b command told p q → ServesButFrequencies b command told p q
+pub exactly : (b : Board) (command : Command) (told : Answer) (p q : Pass) → ServesAlone b command told p q → ServesButFrequencies b command told p q
 exactly b command told p q served = (served.0, state_at b.shape q, served.1, ((λ segment. ((state_at b.shape q).filling segment).frequencies), refl))
 
-get_served : (b : Board) (p q : Pass) (key : List ℕ) (draw now : ℕ) (told : GetAnswer) → IsAlone b p → ReadsKey b key draw now told p q → ServesButFrequencies b (command.Get key now) (answer.Get told) p q
+pub get_served : (b : Board) (p q : Pass) (key : List ℕ) (draw now : ℕ) (told : GetAnswer) → IsAlone b p → ReadsKey b key draw now told p q → ServesButFrequencies b (command.Get key now) (answer.Get told) p q
 get_served b p q key draw now told was is =
     let found = present (after b.shape (seen p)) now key in (
       still_alone b p q was is.on is.costs.looks.draws_nothing is.keeps,
@@ -97,7 +94,7 @@ get_served b p q key draw now told was is =
       (frequencies_in q, at_frequencies b p q was is.on is.costs.looks.draws_nothing is.keeps ∙ sym (hit_with (frequencies_in q) key found (state_at b.shape p))),
     )
 
-gets_served : (b : Board) (p q : Pass) (key : List ℕ) (draw now : ℕ) (told : GetsAnswer) → IsAlone b p → ReadsVersion b key draw now told p q → ServesButFrequencies b (command.Gets key now) (answer.Gets told) p q
+pub gets_served : (b : Board) (p q : Pass) (key : List ℕ) (draw now : ℕ) (told : GetsAnswer) → IsAlone b p → ReadsVersion b key draw now told p q → ServesButFrequencies b (command.Gets key now) (answer.Gets told) p q
 gets_served b p q key draw now told was is =
     let found = present (after b.shape (seen p)) now key in
     let locked = is_locked b.shape (state_at b.shape p) key in (
@@ -106,16 +103,3 @@ gets_served b p q key draw now told was is =
       (ap answer.Gets (versioned b p q key now was is.on is.keeps told is.unlocked (gets_since b.shape key now told p q is.answer)), refl),
       (frequencies_in q, at_frequencies b p q was is.on is.costs.looks.draws_nothing is.keeps ∙ sym (if_hit_with (frequencies_in q) locked key found (state_at b.shape p))),
     )
-
-pub serves_any_draw : (b : Board) (p q : Pass) (command : Command) (draw : ℕ) (told : Answer) → IsAlone b p → AnswersCommand b command draw told p q → ServesButFrequencies b command told p q
-serves_any_draw b p q (command.Get key now) draw (answer.Get told) was is = get_served b p q key draw now told was is
-serves_any_draw b p q (command.Gets key now) draw (answer.Gets told) was is = gets_served b p q key draw now told was is
-serves_any_draw b p q (command.Write (request.Delete key now)) draw (answer.Delete told) was is = exactly b (command.Write (request.Delete key now)) (answer.Delete told) p q (serves_command b p q (command.Write (request.Delete key now)) (answer.Delete told) was is)
-serves_any_draw b p q (command.Write (request.Set key value now)) draw (answer.Write told) was is = exactly b (command.Write (request.Set key value now)) (answer.Write told) p q (serves_command b p q (command.Write (request.Set key value now)) (answer.Write told) was is)
-serves_any_draw b p q (command.Write (request.Add key value now)) draw (answer.Write told) was is = exactly b (command.Write (request.Add key value now)) (answer.Write told) p q (serves_command b p q (command.Write (request.Add key value now)) (answer.Write told) was is)
-serves_any_draw b p q (command.Write (request.Replace key value now)) draw (answer.Write told) was is = exactly b (command.Write (request.Replace key value now)) (answer.Write told) p q (serves_command b p q (command.Write (request.Replace key value now)) (answer.Write told) was is)
-serves_any_draw b p q (command.Write (request.Cas key value version now)) draw (answer.Write told) was is = exactly b (command.Write (request.Cas key value version now)) (answer.Write told) p q (serves_command b p q (command.Write (request.Cas key value version now)) (answer.Write told) was is)
-serves_any_draw b p q (command.Keep segment cutoff) draw (answer.Keep told) was is = exactly b (command.Keep segment cutoff) (answer.Keep told) p q (serves_command b p q (command.Keep segment cutoff) (answer.Keep told) was is)
-serves_any_draw b p q (command.Evict segment) draw (answer.Evict told) was is = exactly b (command.Evict segment) (answer.Evict told) p q (serves_command b p q (command.Evict segment) (answer.Evict told) was is)
-serves_any_draw b p q (command.Refill segment deadline) draw (answer.Refill told) was is = exactly b (command.Refill segment deadline) (answer.Refill told) p q (serves_command b p q (command.Refill segment deadline) (answer.Refill told) was is)
-serves_any_draw b p q command draw told was is = absurd is

@@ -1,6 +1,5 @@
 use Rattle.std.proofs.Common.{refl}
-use Rattle.segsolo.proofs.AloneCommands.{serves_command}
-use Rattle.segsolo.proofs.AloneDraws.{serves_any_draw}
+use Rattle.segsolo.proofs.AloneCommands.{serves_any_draw, serves_command}
 use Rattle.segsolo.proofs.AloneHolds.{turns_hold, turns_held, turns_release, turns_not_held, turns_not_released}
 use Rattle.segsolo.proofs.AloneLocks.{turns_lock, turns_unlock}
 use Rattle.segsolo.proofs.AloneStarts.{starts_new}
