@@ -1,4 +1,4 @@
--- Every turn has an outcome, and all but an eviction have only one.
+-- Each call has an answer, and all but an eviction have only one.
 use Rattle.std.proofs.Common.{◌≡◌, ℕ, ◌==◌, ◌||◌, Bool, true, false, cond, List, [], ◌∷◌, Option, Some, None, is_some, IsSomeAnd, refl, sym, ap, ◌∙◌, subst, MatchBool, MatchOption}
 use Rattle.std.proofs.lemmas.Bool.{false≢true, false_from_ne_true}
 use Rattle.std.proofs.lemmas.List.Folds.{Any-from_list_any}
@@ -9,22 +9,18 @@ use Rattle.segmodel.specs.Words.{Answer, Cached, DeleteAnswer, EvictAnswer, Repl
 use Rattle.segmodel.specs.Words.{SegState, WriteAnswer}
 use Rattle.segmodel.specs.declared.request.Request.TheVariants.{Set, Add, Replace, Cas, Delete}
 use Rattle.segmodel.specs.declared.request.Reply.TheVariants as reply
-use Rattle.segmodel.specs.declared.answer.Command.{Command}
-use Rattle.segmodel.specs.declared.answer.Command.TheVariants.{Write, Get, Gets, Keep, Evict, Refill}
+use Rattle.segmodel.specs.declared.answer.Command.TheVariants.{Write}
 use Rattle.segmodel.specs.declared.answer.Answer.TheVariants as answer
 use Rattle.segmodel.specs.declared.answer.WriteAnswer.TheVariants as write
 use Rattle.segmodel.specs.declared.answer.DeleteAnswer.TheVariants as delete
 use Rattle.segmodel.specs.declared.answer.EvictAnswer.TheVariants as evict
 use Rattle.segmodel.specs.declared.answer.SegState.TheVariants as segment_is
-use Rattle.segmodel.specs.declared.answer.Turn.TheVariants.{Serve, Hold, Held, Release, Lock, Unlock}
-use Rattle.segmodel.specs.declared.answer.Outcome.TheVariants as outcome
 use Rattle.segmodel.specs.Places.{bucket_of}
 use Rattle.segmodel.specs.Request.{key_of, moment_of, is_store, reply_to}
 use Rattle.segmodel.specs.Cache.{key_cmp, standing, present, reply_in}
 use Rattle.segmodel.specs.History.{StandsIn}
 use Rattle.segmodel.specs.State.{State, is_among, is_stored, is_locked, IsSound}
-use Rattle.segmodel.specs.Serving.{IsGiven, IsReplied, refusal, reply_of_write, reply_of_delete, after_reply, ServesStore, ServesDelete, Evicts, ServesEvict, is_own, Serves}
-use Rattle.segmodel.specs.Laws.{is_evict, EveryTurnIsAnswered, OnlyEvictChooses}
+use Rattle.segmodel.specs.Serving.{IsGiven, IsReplied, refusal, reply_of_write, reply_of_delete, after_reply, ServesStore, ServesDelete, Evicts, ServesEvict}
 use Rattle.segmodel.proofs.Counts.{both}
 use Rattle.segmodel.proofs.Keys.{same_key}
 use Rattle.segmodel.proofs.ServingKeeps.{found_passes}
@@ -87,7 +83,7 @@ store_is_answered shape old request is = by (refusal shape old request)
         let told = write_told request (is_some (present old.cache (moment_of request) (key_of request))) (old.cache.version (bucket_of shape (key_of request))) is in
         (told.0, after_reply shape request (reply_in shape old.cache request) old, (told.1, refl))
 
-delete_is_answered : (shape : Shape) (old : State) (key : List ℕ) (now : ℕ) → (given : DeleteAnswer) × (new : State) × ServesDelete shape old key now given new
+pub delete_is_answered : (shape : Shape) (old : State) (key : List ℕ) (now : ℕ) → (given : DeleteAnswer) × (new : State) × ServesDelete shape old key now given new
 delete_is_answered shape old key now = by (is_locked shape old key)
   where
     told : (here : Bool) (version : ℕ) → (a : DeleteAnswer) × (reply_of_delete a ≡ Some (reply_to (Delete key now) here version))
@@ -100,41 +96,20 @@ delete_is_answered shape old key now = by (is_locked shape old key)
         let told' = told (is_some (present old.cache now key)) (old.cache.version (bucket_of shape key)) in
         (told'.0, after_reply shape (Delete key now) (reply_in shape old.cache (Delete key now)) old, (told'.1, refl))
 
-evict_or_not : (shape : Shape) (old : State) (segment : ℕ) → IsSound shape old → (own : Bool) (is : SegState)
+pub evict_or_not : (shape : Shape) (old : State) (segment : ℕ) → IsSound shape old → (own : Bool) (is : SegState)
     → (given : EvictAnswer) × (new : State) × MatchBool own (ServesEvict shape old segment is given new) (IsGiven evict.NotYours old given new)
 evict_or_not shape old segment kept false is = (evict.NotYours, old, (refl, refl))
 evict_or_not shape old segment kept true segment_is.Empty = (evict.Evicted 0, old, (refl, refl))
 evict_or_not shape old segment kept true segment_is.Evicted = (evict.Evicted 0, old, (refl, refl))
 evict_or_not shape old segment kept true segment_is.InUse = evict_is_answered shape old segment kept
 
-stored_is_answered : (shape : Shape) (old : State) (request : Request) → is_store request ≡ true
+pub stored_is_answered : (shape : Shape) (old : State) (request : Request) → is_store request ≡ true
     → (given : Answer) × (new : State) × ((a : WriteAnswer) × (given ≡ answer.Write a) × ServesStore shape old request a new)
 stored_is_answered shape old request is = let a = store_is_answered shape old request is in (answer.Write a.0, a.1, (a.0, refl, a.2))
 
-command_is_answered : (shape : Shape) (old : State) (command : Command) → IsSound shape old → (given : Answer) × (new : State) × Serves shape old command given new
-command_is_answered shape old (Write (Set key value now)) kept = stored_is_answered shape old (Set key value now) refl
-command_is_answered shape old (Write (Add key value now)) kept = stored_is_answered shape old (Add key value now) refl
-command_is_answered shape old (Write (Replace key value now)) kept = stored_is_answered shape old (Replace key value now) refl
-command_is_answered shape old (Write (Cas key value expected now)) kept = stored_is_answered shape old (Cas key value expected now) refl
-command_is_answered shape old (Write (Delete key now)) kept = let a = delete_is_answered shape old key now in (answer.Delete a.0, a.1, (a.0, refl, a.2))
-command_is_answered shape old (Get key now) kept = (_, _, (refl, refl))
-command_is_answered shape old (Gets key now) kept = (_, _, (refl, refl))
-command_is_answered shape old (Keep segment cutoff) kept = (_, _, (refl, refl))
-command_is_answered shape old (Evict segment) kept =
-    let a = evict_or_not shape old segment kept (is_own shape segment) (old.filling segment).state in (answer.Evict a.0, a.1, (a.0, refl, a.2))
-command_is_answered shape old (Refill segment deadline) kept = (_, _, (refl, refl))
-
-pub every_turn_is_answered : EveryTurnIsAnswered
-every_turn_is_answered shape old (Serve command) kept = let a = command_is_answered shape old command kept in (outcome.Answered a.0, a.1, (a.0, refl, a.2))
-every_turn_is_answered shape old (Hold key now) kept = (_, _, (refl, refl))
-every_turn_is_answered shape old Held kept = (_, _, (refl, refl))
-every_turn_is_answered shape old Release kept = (_, _, (refl, refl))
-every_turn_is_answered shape old (Lock key) kept = (_, _, (refl, refl))
-every_turn_is_answered shape old Unlock kept = (_, _, (refl, refl))
-
 -- ---- and all but an eviction only one
 
-same_given : {A : Type 0} {a : A} {state : State} {given told : A} {new other : State} → IsGiven a state given new → IsGiven a state told other → (told ≡ given) × (other ≡ new)
+pub same_given : {A : Type 0} {a : A} {state : State} {given told : A} {new other : State} → IsGiven a state given new → IsGiven a state told other → (told ≡ given) × (other ≡ new)
 same_given one two = (two.0 ∙ sym one.0, two.1 ∙ sym one.1)
 
 -- the answer that tells a reply; a request to store is never replied Deleted
@@ -175,7 +150,7 @@ same_store shape old new other request given told = by (refusal shape old reques
     by (Some w) one two = same_given one two
     by None one two = (write_from_reply told _ two.0 ∙ sym (write_from_reply given _ one.0), two.1 ∙ sym one.1)
 
-same_delete : (shape : Shape) (old new other : State) (key : List ℕ) (now : ℕ) (given told : DeleteAnswer)
+pub same_delete : (shape : Shape) (old new other : State) (key : List ℕ) (now : ℕ) (given told : DeleteAnswer)
     → ServesDelete shape old key now given new → ServesDelete shape old key now told other → (told ≡ given) × (other ≡ new)
 same_delete shape old new other key now given told = by (is_locked shape old key)
   where
@@ -184,34 +159,9 @@ same_delete shape old new other key now given told = by (is_locked shape old key
     by true one two = same_given one two
     by false one two = (delete_from_reply told _ two.0 ∙ sym (delete_from_reply given _ one.0), two.1 ∙ sym one.1)
 
-same_stored : (shape : Shape) (old new other : State) (request : Request) (given told : Answer)
+pub same_stored : (shape : Shape) (old new other : State) (request : Request) (given told : Answer)
     → ((a : WriteAnswer) × (given ≡ answer.Write a) × ServesStore shape old request a new)
     → ((a : WriteAnswer) × (told ≡ answer.Write a) × ServesStore shape old request a other) → (told ≡ given) × (other ≡ new)
 same_stored shape old new other request given told one two =
     let same = same_store shape old new other request one.0 two.0 one.2 two.2 in
     (two.1 ∙ ap answer.Write same.0 ∙ sym one.1, same.1)
-
-same_command : (shape : Shape) (old new other : State) (command : Command) (given told : Answer) → is_evict (Serve command) ≡ false
-    → Serves shape old command given new → Serves shape old command told other → (told ≡ given) × (other ≡ new)
-same_command shape old new other (Write (Set key value now)) given told still one two = same_stored shape old new other (Set key value now) given told one two
-same_command shape old new other (Write (Add key value now)) given told still one two = same_stored shape old new other (Add key value now) given told one two
-same_command shape old new other (Write (Replace key value now)) given told still one two = same_stored shape old new other (Replace key value now) given told one two
-same_command shape old new other (Write (Cas key value expected now)) given told still one two = same_stored shape old new other (Cas key value expected now) given told one two
-same_command shape old new other (Write (Delete key now)) given told still one two =
-    let same = same_delete shape old new other key now one.0 two.0 one.2 two.2 in
-    (two.1 ∙ ap answer.Delete same.0 ∙ sym one.1, same.1)
-same_command shape old new other (Get key now) given told still one two = same_given one two
-same_command shape old new other (Gets key now) given told still one two = same_given one two
-same_command shape old new other (Keep segment cutoff) given told still one two = same_given one two
-same_command shape old new other (Evict segment) given told still one two = absurd (false≢true (sym still))
-same_command shape old new other (Refill segment deadline) given told still one two = same_given one two
-
-pub only_evict_chooses : OnlyEvictChooses
-only_evict_chooses shape old new other (Serve command) given told still one two =
-    let same = same_command shape old new other command one.0 two.0 still one.2 two.2 in
-    (two.1 ∙ ap outcome.Answered same.0 ∙ sym one.1, same.1)
-only_evict_chooses shape old new other (Hold key now) given told still one two = same_given one two
-only_evict_chooses shape old new other Held given told still one two = same_given one two
-only_evict_chooses shape old new other Release given told still one two = same_given one two
-only_evict_chooses shape old new other (Lock key) given told still one two = same_given one two
-only_evict_chooses shape old new other Unlock given told still one two = same_given one two

@@ -1,4 +1,4 @@
--- An eviction of several keys is one entry for each; and so serving a command is a longer history.
+-- An eviction of several keys is one entry for each; and so what is served is a longer history.
 use Rattle.std.proofs.Common.{◌≡◌, ℕ, ◌+◌, Bool, true, false, cond, not, List, [], ◌∷◌, ◌++◌, length, filter, count_by, Option, Some, None, IsSomeAnd, refl, sym, ap, ◌∙◌, subst, append_assoc, arith, MatchBool, MatchOption}
 use Rattle.std.specs.declared.cmp.Ordering.TheVariants.{Less}
 use Rattle.std.specs.Ordering.{is_eq, ordering_reverse}
@@ -9,26 +9,24 @@ use Rattle.std.specs.Map.{keys_of, lookup}
 use Rattle.std.proofs.lemmas.Cmp.{nat_list_cmp_total}
 use Rattle.std.proofs.lemmas.List.{length_push}
 use Rattle.segword.specs.Words.{Shape}
-use Rattle.segmodel.specs.Words.{Cached, DeleteAnswer, Entry, EvictAnswer, KeepAnswer, RefillAnswer, Reply}
+use Rattle.segmodel.specs.Words.{Cached, DeleteAnswer, Entry, EvictAnswer, RefillAnswer, Reply}
 use Rattle.segmodel.specs.Words.{Request, SegState, WriteAnswer}
 use Rattle.segmodel.specs.declared.entry.Entry.TheVariants as entry
-use Rattle.segmodel.specs.declared.request.Request.TheVariants.{Set, Add, Replace, Cas, Delete}
-use Rattle.segmodel.specs.declared.answer.Command.TheVariants.{Write, Get, Gets, Keep, Evict, Refill}
+use Rattle.segmodel.specs.declared.request.Request.TheVariants.{Delete}
+use Rattle.segmodel.specs.declared.answer.Command.TheVariants.{Refill}
 use Rattle.segmodel.specs.declared.answer.Answer.TheVariants as answer
 use Rattle.segmodel.specs.declared.answer.DeleteAnswer.TheVariants as delete
 use Rattle.segmodel.specs.declared.answer.EvictAnswer.TheVariants as evict
 use Rattle.segmodel.specs.declared.answer.RefillAnswer.TheVariants as refill
 use Rattle.segmodel.specs.declared.answer.SegState.TheVariants as segment_is
 use Rattle.segmodel.specs.Places.{owner}
-use Rattle.segmodel.specs.Cache.{Cache, key_cmp, standing, present, moved}
+use Rattle.segmodel.specs.Cache.{Cache, key_cmp}
 use Rattle.segmodel.specs.History.{Follows, next, after, IsLegal}
 use Rattle.segmodel.specs.State.{State, IsSound, is_in, is_locked}
-use Rattle.segmodel.specs.Serving.{IsGiven, IsReplied, refusal, reply_of_write, reply_of_delete, ServesStore, ServesDelete, ServesEvict, may_go, is_own, refill_answer, after_refill, keep_rows, keeps}
-use Rattle.segmodel.specs.Laws.{stored_in, entry_of_reply, IsEvictionFrom, keys_evicted, IsMoveBetween, kept, Adds, ServingIsHistory}
+use Rattle.segmodel.specs.Serving.{IsGiven, IsReplied, refusal, reply_of_write, reply_of_delete, ServesStore, ServesDelete, ServesEvict, may_go, is_own, refill_answer, after_refill}
+use Rattle.segmodel.specs.Laws.{stored_in, entry_of_reply, IsEvictionFrom, keys_evicted, kept, Adds}
 use Rattle.segmodel.proofs.Counts.{count_by-cons, both}
 use Rattle.segmodel.proofs.Keys.{at_self}
-use Rattle.segmodel.proofs.Hits.{hit_cache, hit_cache_unless}
-use Rattle.segmodel.proofs.Keeping.{in_there, has_row, IsKept-moved, kept_rows, kept_all}
 use Rattle.segmodel.proofs.Ordered.{Above, sorted-after}
 use Rattle.segmodel.proofs.ServingKeeps.{own_below, refills, none_stands}
 use Rattle.segmodel.proofs.Written.{first_owner, store_is_an_entry, delete_is_an_entry}
@@ -123,7 +121,7 @@ goes_out shape segment goes own there (e ∷ es) pre history legal is = by (goes
 -- ---- each command
 
 -- the history goes on to where the cache is this one, by entries that this answer tells
-abbrev GoesOn : Shape → List Entry → Cache → (List Entry → Type 0) → Type 0
+abbrev pub GoesOn : Shape → List Entry → Cache → (List Entry → Type 0) → Type 0
 GoesOn shape history cache Told = (more : List Entry) × IsLegal shape (more ++ history) × (cache ≡ after shape (more ++ history)) × Told more
 
 stays : (shape : Shape) (old new : State) (history : List Entry) (Told : List Entry → Type 0) → IsLegal shape history → old.cache ≡ after shape history → new ≡ old → Told []
@@ -135,7 +133,7 @@ goes_by : (shape : Shape) (old new : State) (history : List Entry) (e : Entry) �
 goes_by shape old new history e legal is follows left Told told =
     (e ∷ [], (legal, subst (λ c. Follows shape c e) is follows), left ∙ ap (λ c. next shape c e) is, told)
 
-store_goes_on : (shape : Shape) (old new : State) (request : Request) (given : WriteAnswer) (history : List Entry) → IsSound shape old → IsLegal shape history
+pub store_goes_on : (shape : Shape) (old new : State) (request : Request) (given : WriteAnswer) (history : List Entry) → IsSound shape old → IsLegal shape history
     → old.cache ≡ after shape history → ServesStore shape old request given new
     → GoesOn shape history new.cache (λ more. more ≡ entry_of_reply old.current request (reply_of_write given))
 store_goes_on shape old new request given history kept legal is served = by (reply_of_write given) refl
@@ -150,7 +148,7 @@ store_goes_on shape old new request given history kept legal is served = by (rep
         let h = store_is_an_entry shape old new request given r kept served some in
         goes_by shape old new history (entry.Wrote 0 request r (stored_in r old.current)) legal is h.0 h.1 (λ more. more ≡ entry_of_reply old.current request (Some r)) refl
 
-delete_goes_on : (shape : Shape) (old new : State) (key : List ℕ) (now : ℕ) (given : DeleteAnswer) (history : List Entry) → IsLegal shape history
+pub delete_goes_on : (shape : Shape) (old new : State) (key : List ℕ) (now : ℕ) (given : DeleteAnswer) (history : List Entry) → IsLegal shape history
     → old.cache ≡ after shape history → ServesDelete shape old key now given new
     → GoesOn shape history new.cache (λ more. more ≡ entry_of_reply old.current (Delete key now) (reply_of_delete given))
 delete_goes_on shape old new key now given history legal is served = by (reply_of_delete given) refl
@@ -181,7 +179,7 @@ taken_goes_on shape old cache segment count goes history legal is own there coun
 is_there : (segment : ℕ) (e : List ℕ × Cached) → is_in segment e ≡ true → e.1.segment ≡ segment
 is_there segment e is = grind (arith, is)
 
-evict_goes_on : (shape : Shape) (old new : State) (segment : ℕ) (given : EvictAnswer) (history : List Entry) → IsLegal shape history → old.cache ≡ after shape history
+pub evict_goes_on : (shape : Shape) (old new : State) (segment : ℕ) (given : EvictAnswer) (history : List Entry) → IsLegal shape history → old.cache ≡ after shape history
     → (own : Bool) → is_own shape segment ≡ own → (state : SegState) → MatchBool own (ServesEvict shape old segment state given new) (IsGiven evict.NotYours old given new)
     → GoesOn shape history new.cache (λ more. AllByRecursion (IsEvictionFrom segment) more × (length more ≡ keys_evicted given))
 evict_goes_on shape old new segment given history legal is false own state served =
@@ -197,7 +195,7 @@ evict_goes_on shape old new segment (evict.Busy n) history legal is true own seg
     (λ e goes. is_there segment e (both _ _ (both _ _ goes).0).0) served.1.1 (ap (λ (s : State). s.cache) served.1.2)
 evict_goes_on shape old new segment evict.NotYours history legal is true own segment_is.InUse served = absurd served
 
-refill_goes_on : (shape : Shape) (old new : State) (segment deadline : ℕ) (history : List Entry) → IsSound shape old → IsLegal shape history → old.cache ≡ after shape history
+pub refill_goes_on : (shape : Shape) (old new : State) (segment deadline : ℕ) (history : List Entry) → IsSound shape old → IsLegal shape history → old.cache ≡ after shape history
     → (told : RefillAnswer) → cond (is_own shape segment) (refill_answer old segment (old.filling segment).state) refill.NotYours ≡ told → new ≡ after_refill segment deadline told old
     → GoesOn shape history new.cache (Adds old.current (Refill segment deadline) (answer.Refill told))
 refill_goes_on shape old new segment deadline history kept legal is refill.Refilled at left =
@@ -207,77 +205,3 @@ refill_goes_on shape old new segment deadline history kept legal is refill.Refil
 refill_goes_on shape old new segment deadline history kept legal is refill.NotYours at left = stays shape old new history (λ more. more ≡ []) legal is left refl
 refill_goes_on shape old new segment deadline history kept legal is refill.NotEvicted at left = stays shape old new history (λ more. more ≡ []) legal is left refl
 refill_goes_on shape old new segment deadline history kept legal is refill.Held at left = stays shape old new history (λ more. more ≡ []) legal is left refl
-
-keep_goes_on : (shape : Shape) (old : State) (segment cutoff : ℕ) (history : List Entry) → IsSound shape old → IsLegal shape history → old.cache ≡ after shape history
-    → GoesOn shape history (keeps shape old segment cutoff).1.cache (Adds old.current (Keep segment cutoff) (answer.Keep (keeps shape old segment cutoff).0))
-keep_goes_on shape old segment cutoff history sound legal is =
-    kept_all shape old segment cutoff (λ count state. GoesOn shape history state.cache (Moves count old.current)) ([], legal, is, none old.current) (λ to own at apart equal.
-    subst (λ current. GoesOn shape history (rows to).1.cache (Moves (kept (rows to).0) current)) (sym at) (
-    kept_rows shape segment to cutoff
-    (λ count state. IsSound shape state × (state.current ≡ Some to) × (state.cache.deadline ≡ old.cache.deadline) × GoesOn shape history state.cache (Moves count (Some to)))
-    (λ key frequency count state has stands low room.
-    let there = in_there (standing state.cache key) segment stands in
-    let own_to = first_owner shape to (has.0.own to (has.0.in_use to has.1)) in
-    let follows : Follows shape state.cache (entry.Moved 0 key segment to) = (
-      subst (λ o. IsSomeAnd o (λ item. item.segment ≡ segment)) (sym there.1) there.2,
-      first_owner shape segment (own_below segment shape.segments_each own),
-      own_to,
-      apart,
-      ap (λ d. d segment) has.2 ∙ equal ∙ ap (λ d. d to) (sym has.2),
-    ) in (
-      IsKept-moved shape key frequency to there.0 state has.0 has.1 there.1 (has_row shape.rows (length (state.filling to).keys) room),
-      has.1,
-      has.2,
-      (
-        entry.Moved 0 key segment to ∷ has.3.0,
-        (has.3.1, subst (λ c. Follows shape c (entry.Moved 0 key segment to)) has.3.2 follows),
-        ap (λ c. moved key to c) has.3.2,
-        (((key, refl), has.3.3.0), (let long : length has.3.0 ≡ count = has.3.3.1 in omega arith)),
-      ),
-    ))
-    (old.filling segment).keys (old.filling segment).frequencies 0 old (sound, at, refl, ([], legal, is, (tt, refl)))
-    ).3)
-  where
-    Moves : ℕ → Option ℕ → List Entry → Type 0
-    Moves count current more = MatchOption current ((more ≡ []) × (count ≡ 0)) (λ to. AllByRecursion (IsMoveBetween segment to) more × (length more ≡ count))
-
-    rows : ℕ → KeepAnswer × State
-    rows to = keep_rows shape segment to cutoff (old.filling segment).keys (old.filling segment).frequencies 0 old
-
-    none : (current : Option ℕ) → Moves 0 current []
-    none None = (refl, refl)
-    none (Some to) = (tt, refl)
-
-pub serving_is_history : ServingIsHistory
-serving_is_history shape old new (Write (Delete key now)) given history kept legal is served =
-    let h = delete_goes_on shape old new key now served.0 history legal is served.2 in
-    (h.0, h.1, h.2, subst (λ g. Adds old.current (Write (Delete key now)) g h.0) (sym served.1) h.3)
-serving_is_history shape old new (Write (Set key value now)) given history kept legal is served =
-    let h = store_goes_on shape old new (Set key value now) served.0 history kept legal is served.2 in
-    (h.0, h.1, h.2, subst (λ g. Adds old.current (Write (Set key value now)) g h.0) (sym served.1) h.3)
-serving_is_history shape old new (Write (Add key value now)) given history kept legal is served =
-    let h = store_goes_on shape old new (Add key value now) served.0 history kept legal is served.2 in
-    (h.0, h.1, h.2, subst (λ g. Adds old.current (Write (Add key value now)) g h.0) (sym served.1) h.3)
-serving_is_history shape old new (Write (Replace key value now)) given history kept legal is served =
-    let h = store_goes_on shape old new (Replace key value now) served.0 history kept legal is served.2 in
-    (h.0, h.1, h.2, subst (λ g. Adds old.current (Write (Replace key value now)) g h.0) (sym served.1) h.3)
-serving_is_history shape old new (Write (Cas key value expected now)) given history kept legal is served =
-    let h = store_goes_on shape old new (Cas key value expected now) served.0 history kept legal is served.2 in
-    (h.0, h.1, h.2, subst (λ g. Adds old.current (Write (Cas key value expected now)) g h.0) (sym served.1) h.3)
-serving_is_history shape old new (Get key now) given history kept legal is served =
-    ([], legal, ap (λ (s : State). s.cache) served.1 ∙ hit_cache key (present old.cache now key) old ∙ is, subst (λ g. Adds old.current (Get key now) g []) (sym served.0) refl)
-serving_is_history shape old new (Gets key now) given history kept legal is served = (
-  [],
-  legal,
-  ap (λ (s : State). s.cache) served.1 ∙ hit_cache_unless key (is_locked shape old key) (present old.cache now key) old ∙ is,
-  subst (λ g. Adds old.current (Gets key now) g []) (sym served.0) refl,
-)
-serving_is_history shape old new (Keep segment cutoff) given history kept legal is served =
-    let h = keep_goes_on shape old segment cutoff history kept legal is in
-    (h.0, h.1, ap (λ (s : State). s.cache) served.1 ∙ h.2, subst (λ g. Adds old.current (Keep segment cutoff) g h.0) (sym served.0) h.3)
-serving_is_history shape old new (Evict segment) given history kept legal is served =
-    let h = evict_goes_on shape old new segment served.0 history legal is (is_own shape segment) refl (old.filling segment).state served.2 in
-    (h.0, h.1, h.2, subst (λ g. Adds old.current (Evict segment) g h.0) (sym served.1) h.3)
-serving_is_history shape old new (Refill segment deadline) given history kept legal is served =
-    let h = refill_goes_on shape old new segment deadline history kept legal is _ refl served.1 in
-    (h.0, h.1, h.2, subst (λ g. Adds old.current (Refill segment deadline) g h.0) (sym served.0) h.3)

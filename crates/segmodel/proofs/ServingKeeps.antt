@@ -1,35 +1,32 @@
--- Each command and each turn keeps what always holds of a state.
+-- What is served keeps what always holds of a state.
 use Rattle.std.proofs.Common.{◌≡◌, ℕ, ◌<◌, ◌⊎◌, inl, inr, ◌&&◌, ◌≢◌, eq-eqb, not, IsSomeAnd, Bool, true, false, cond, List, [], ◌∷◌, length, Option, Some, None, is_some, refl, sym, ap, ◌∙◌, subst, arith, nat_le, nat_lt, MatchBool, MatchOption}
 use Rattle.std.proofs.lemmas.Bool.{false≢true}
 use Rattle.std.specs.List.{list_all}
 use Rattle.std.specs.Map.{lookup}
 use Rattle.std.specs.BTreeMap.{is_at}
 use Rattle.segword.specs.Words.{Shape}
-use Rattle.segmodel.specs.Words.{Cached, DeleteAnswer, EvictAnswer, Outcome, RefillAnswer, Reply}
-use Rattle.segmodel.specs.Words.{Request, SegState, Turn, WriteAnswer}
-use Rattle.segmodel.specs.declared.request.Request.TheVariants.{Set, Add, Replace, Cas, Delete}
+use Rattle.segmodel.specs.Words.{Cached, DeleteAnswer, EvictAnswer, RefillAnswer, Reply}
+use Rattle.segmodel.specs.Words.{Request, SegState, WriteAnswer}
+use Rattle.segmodel.specs.declared.request.Request.TheVariants.{Delete}
 use Rattle.segmodel.specs.declared.request.Reply.TheVariants as reply
 use Rattle.segmodel.specs.declared.answer.WriteAnswer.TheVariants as write
 use Rattle.segmodel.specs.declared.answer.DeleteAnswer.TheVariants as delete
 use Rattle.segmodel.specs.declared.answer.EvictAnswer.TheVariants as evict
 use Rattle.segmodel.specs.declared.answer.RefillAnswer.TheVariants as refill
 use Rattle.segmodel.specs.declared.answer.SegState.TheVariants.{Empty, InUse, Evicted}
-use Rattle.segmodel.specs.declared.answer.Command.TheVariants.{Write, Get, Gets, Keep, Evict, Refill}
-use Rattle.segmodel.specs.declared.answer.Turn.TheVariants.{Serve, Hold, Held, Release, Lock, Unlock}
+use Rattle.segmodel.specs.declared.answer.Turn.TheVariants.{Held}
 use Rattle.segmodel.specs.Places.{bucket_of}
 use Rattle.segmodel.specs.Request.{key_of, value_of, reply_to}
 use Rattle.segmodel.specs.Cache.{key_cmp, standing, present, reply_in}
 use Rattle.segmodel.specs.History.{NoneStandsIn}
 use Rattle.segmodel.specs.State.{State, IsSound, is_in_use, is_stored, is_locked}
 use Rattle.segmodel.specs.Serving.{IsGiven, IsReplied, is_out_of_rows, is_own, lacks_word, may_chain, stored, after_reply, reply_of_write, reply_of_delete, ServesStore, ServesDelete, ServesEvict, may_go, is_held, refill_answer, after_refill}
-use Rattle.segmodel.specs.Turns.{Turns, held_after}
-use Rattle.segmodel.specs.Laws.{ServingKeeps, CommandsKeep, TurnsKeep, RefilledWhereNoneStands, HeldIsNotRefilled}
+use Rattle.segmodel.specs.Turns.{held_after}
+use Rattle.segmodel.specs.Laws.{RefilledWhereNoneStands, HeldIsNotRefilled}
 use Rattle.segmodel.proofs.Counts.{both}
 use Rattle.segmodel.proofs.Keys.{same_key}
 use Rattle.segmodel.proofs.HistoryLemmas.{present_stands}
 use Rattle.segmodel.proofs.Words.{stored_fits}
-use Rattle.segmodel.proofs.Hits.{IsKept-hit, IsKept-hit_unless}
-use Rattle.segmodel.proofs.Keeping.{IsKept-keeps}
 use Rattle.segmodel.proofs.Sound.{IsKept-same, IsKept-stored, IsKept-deleted, IsKept-taken, IsKept-evicted, IsKept-refilled}
 
 -- ---- replies
@@ -70,7 +67,7 @@ refused_or false true full P Q h = inl (write.Busy, h)
 refused_or false false true P Q h = inl (write.BucketFull, h)
 refused_or false false false P Q h = inr (refl, refl, h)
 
-store_kept : (shape : Shape) (old new : State) (request : Request) (given : WriteAnswer) → IsSound shape old → ServesStore shape old request given new → IsSound shape new
+pub store_kept : (shape : Shape) (old new : State) (request : Request) (given : WriteAnswer) → IsSound shape old → ServesStore shape old request given new → IsSound shape new
 store_kept shape old new request given kept served = elim (refused_or (is_out_of_rows shape old.filling old.current) (is_locked shape old (key_of request))
     (lacks_word shape old request && not (may_chain shape old (bucket_of shape (key_of request))))
     (IsReplied shape old request (reply_of_write given) new) (λ why. IsGiven why old given new) served) [
@@ -78,7 +75,7 @@ store_kept shape old new request given kept served = elim (refused_or (is_out_of
       | inr replied ↦ IsKept-same replied.2.1 (replied_kept shape request (reply_in shape old.cache request) old kept replied.0 replied.1 refl)
     ]
 
-delete_kept : (shape : Shape) (old new : State) (key : List ℕ) (now : ℕ) (given : DeleteAnswer) → IsSound shape old → ServesDelete shape old key now given new → IsSound shape new
+pub delete_kept : (shape : Shape) (old new : State) (key : List ℕ) (now : ℕ) (given : DeleteAnswer) → IsSound shape old → ServesDelete shape old key now given new → IsSound shape new
 delete_kept shape old new key now given kept served = by (is_locked shape old key) served
   where
     gone : (here : Bool) (version : ℕ) → new ≡ after_reply shape (Delete key now) (reply_to (Delete key now) here version) old → IsSound shape new
@@ -98,7 +95,7 @@ evict_kept shape old new segment InUse (evict.Evicted n) kept served = IsKept-sa
 evict_kept shape old new segment InUse (evict.Busy n) kept served = IsKept-same served.1.2 (IsKept-taken shape segment (may_go shape old segment served.1.0) old kept)
 evict_kept shape old new segment InUse evict.NotYours kept served = absurd served
 
-evict_or : (shape : Shape) (old new : State) (segment : ℕ) (given : EvictAnswer) (own : Bool) → IsSound shape old
+pub evict_or : (shape : Shape) (old new : State) (segment : ℕ) (given : EvictAnswer) (own : Bool) → IsSound shape old
     → MatchBool own (ServesEvict shape old segment (old.filling segment).state given new) (IsGiven evict.NotYours old given new) → IsSound shape new
 evict_or shape old new segment given true kept served = evict_kept shape old new segment (old.filling segment).state given kept served
 evict_or shape old new segment given false kept served = IsKept-same served.1 kept
@@ -111,7 +108,7 @@ refills shape state segment true Evicted e = (refl, refl)
 refills shape state segment true InUse e = cc
 refills shape state segment false is e = cc
 
-refill_kept : (shape : Shape) (old : State) (segment deadline : ℕ) → IsSound shape old → (given : RefillAnswer)
+pub refill_kept : (shape : Shape) (old : State) (segment deadline : ℕ) → IsSound shape old → (given : RefillAnswer)
     → cond (is_own shape segment) (refill_answer old segment (old.filling segment).state) refill.NotYours ≡ given → IsSound shape (after_refill segment deadline given old)
 refill_kept shape old segment deadline kept refill.Refilled e =
     let own = refills shape old segment (is_own shape segment) (old.filling segment).state e in
@@ -120,20 +117,7 @@ refill_kept shape old segment deadline kept refill.NotYours e = kept
 refill_kept shape old segment deadline kept refill.NotEvicted e = kept
 refill_kept shape old segment deadline kept refill.Held e = kept
 
--- ---- commands and turns
-
-pub serving_keeps : ServingKeeps
-serving_keeps shape old new (Write (Delete key now)) given kept served = delete_kept shape old new key now served.0 kept served.2
-serving_keeps shape old new (Write (Set key value now)) given kept served = store_kept shape old new (Set key value now) served.0 kept served.2
-serving_keeps shape old new (Write (Add key value now)) given kept served = store_kept shape old new (Add key value now) served.0 kept served.2
-serving_keeps shape old new (Write (Replace key value now)) given kept served = store_kept shape old new (Replace key value now) served.0 kept served.2
-serving_keeps shape old new (Write (Cas key value expected now)) given kept served = store_kept shape old new (Cas key value expected now) served.0 kept served.2
-serving_keeps shape old new (Get key now) given kept served = IsKept-same served.1 (IsKept-hit shape key (present old.cache now key) old kept)
-serving_keeps shape old new (Gets key now) given kept served =
-    IsKept-same served.1 (IsKept-hit_unless shape key (is_locked shape old key) (present old.cache now key) old kept)
-serving_keeps shape old new (Keep segment cutoff) given kept served = IsKept-same served.1 (IsKept-keeps shape old segment cutoff kept)
-serving_keeps shape old new (Evict segment) given kept served = evict_or shape old new segment served.0 (is_own shape segment) kept served.2
-serving_keeps shape old new (Refill segment deadline) given kept served = IsKept-same served.1 (refill_kept shape old segment deadline kept _ refl)
+-- ---- turns
 
 -- what is found under a key passes the test that all items pass
 pub found_passes : (p : List ℕ × Cached → Bool) (key : List ℕ) (item : Cached) (items : List (List ℕ × Cached)) → list_all p items ≡ true
@@ -157,13 +141,13 @@ filled shape state now key item kept found empty =
     false≢true (sym (ap is_in_use empty) ∙ (both _ _ stored).0)
 
 -- what is held then is in a segment that was filled
-held_filled : (shape : Shape) (state : State) (now : ℕ) (key : List ℕ) → IsSound shape state → (held : Option Cached) → state.held ≡ held
+pub held_filled : (shape : Shape) (state : State) (now : ℕ) (key : List ℕ) → IsSound shape state → (held : Option Cached) → state.held ≡ held
     → (item : Cached) → held_after held (present state.cache now key) ≡ Some item → (state.filling item.segment).state ≢ Empty
 held_filled shape state now key kept None is item e = filled shape state now key item kept e
 held_filled shape state now key kept (Some x) is item e = kept.held item (is ∙ e)
 
 -- a hold of an item whose segment was filled, and a lock
-aside : (shape : Shape) (old new : State) (held : Option Cached) (locked : Option ℕ) → IsSound shape old
+pub aside : (shape : Shape) (old new : State) (held : Option Cached) (locked : Option ℕ) → IsSound shape old
     → ((item : Cached) → held ≡ Some item → (old.filling item.segment).state ≢ Empty) → new ≡ record old { held = held; locked = locked } → IsSound shape new
 aside shape old new held locked kept filled is = IsKept-same is (record {
   items = kept.items;
@@ -178,28 +162,6 @@ aside shape old new held locked kept filled is = IsKept-same is (record {
   words = kept.words;
   held = filled;
 })
-
-turn_keeps : (shape : Shape) (old new : State) (turn : Turn) (given : Outcome) → IsSound shape old → Turns shape old turn given new → IsSound shape new
-turn_keeps shape old new (Serve command) given kept turns = serving_keeps shape old new command turns.0 kept turns.2
-turn_keeps shape old new (Hold key now) given kept turns = aside shape old new _ old.locked kept (held_filled shape old now key kept old.held refl) turns.1
-turn_keeps shape old new Held given kept turns = IsKept-same turns.1 kept
-turn_keeps shape old new Release given kept turns = aside shape old new None old.locked kept (λ item e. cc) turns.1
-turn_keeps shape old new (Lock key) given kept turns = aside shape old new old.held _ kept kept.held turns.1
-turn_keeps shape old new Unlock given kept turns = aside shape old new old.held None kept kept.held turns.1
-
-pub commands_keep : CommandsKeep
-commands_keep shape old new [] [] kept run = IsKept-same run kept
-commands_keep shape old new [] (given ∷ answers) kept run = absurd run
-commands_keep shape old new (command ∷ commands) [] kept run = absurd run
-commands_keep shape old new (command ∷ commands) (given ∷ answers) kept run =
-    commands_keep shape run.0 new commands answers (serving_keeps shape old run.0 command given kept run.1) run.2
-
-pub turns_keep : TurnsKeep
-turns_keep shape old new [] [] kept run = IsKept-same run kept
-turns_keep shape old new [] (given ∷ outcomes) kept run = absurd run
-turns_keep shape old new (turn ∷ turns) [] kept run = absurd run
-turns_keep shape old new (turn ∷ turns) (given ∷ outcomes) kept run =
-    turns_keep shape run.0 new turns outcomes (turn_keeps shape old run.0 turn given kept run.1) run.2
 
 -- ---- refilled where nothing stands
 

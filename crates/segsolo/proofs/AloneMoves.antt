@@ -11,8 +11,7 @@ use Rattle.segmodel.specs.Words.{is_last_of, is_locked, is_named, is_of, is_out_
 use Rattle.segmodel.specs.Words.{keep_rows, key_cmp, moved_to}
 use Rattle.segmodel.specs.Words.{standing, stands_in, StandsIn, State, with_key, with_segment}
 use Rattle.segmodel.proofs.Counts.{both, count_by-cons}
-use Rattle.segmodel.proofs.KeepSteps.{blocks, ends, moves as moves_on, passes}
-use Rattle.segmodel.proofs.Keeping.{in_there, IsKept-moved}
+use Rattle.segmodel.proofs.Keeping.{blocks, ends, in_there, IsKept-moved, moves as moves_on, passes}
 use Rattle.segmodel.proofs.Moves.{standing-moved}
 use Rattle.segcore.specs.Mark as mark
 use Rattle.segcore.specs.Words.{bounced, cached, frequency_in, slot}

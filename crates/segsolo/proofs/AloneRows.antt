@@ -14,7 +14,7 @@ use Rattle.segmodel.specs.Words.{after, Answer, Cache, Cached, Entry, IsLegal, k
 use Rattle.segmodel.specs.Words.{Outcome, Reply, Request, Serves, standing, Turn, Turns, without}
 use Rattle.segmodel.specs.History.{next}
 use Rattle.segmodel.proofs.HistoryLemmas.{standing-without}
-use Rattle.segmodel.proofs.ServingKeeps.{turns_keep}
+use Rattle.segmodel.proofs.Commands.{turns_keep}
 use Rattle.segcore.specs.Bucket.{Slot, slot}
 use Rattle.segcore.specs.Mark.{last_at, linked_in, frequency_in, Mark, same_key}
 use Rattle.segcore.specs.Mark as mark

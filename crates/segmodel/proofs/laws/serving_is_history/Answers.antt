@@ -1,4 +1,4 @@
-use Rattle.segmodel.proofs.Evictions.{serving_is_history}
+use Rattle.segmodel.proofs.Commands.{serving_is_history}
 use Rattle.segmodel.proofs.laws.serving_is_history.Goals as goal
 
 pub returns : goal.returns

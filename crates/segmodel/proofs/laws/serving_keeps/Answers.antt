@@ -1,5 +1,6 @@
 use Rattle.segmodel.proofs.Sound.{IsKept-fresh}
-use Rattle.segmodel.proofs.ServingKeeps.{serving_keeps, commands_keep, turns_keep, refilled_where_none, held_is_not_refilled}
+use Rattle.segmodel.proofs.Commands.{commands_keep, serving_keeps, turns_keep}
+use Rattle.segmodel.proofs.ServingKeeps.{held_is_not_refilled, refilled_where_none}
 use Rattle.segmodel.proofs.laws.serving_keeps.Goals as goal
 
 pub returns-clause-start : goal.returns-clause-start

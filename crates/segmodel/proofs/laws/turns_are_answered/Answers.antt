@@ -1,4 +1,4 @@
-use Rattle.segmodel.proofs.Answered.{every_turn_is_answered, only_evict_chooses}
+use Rattle.segmodel.proofs.Commands.{every_turn_is_answered, only_evict_chooses}
 use Rattle.segmodel.proofs.laws.turns_are_answered.Goals as goal
 
 pub returns-clause-every : goal.returns-clause-every

@@ -3,7 +3,7 @@ use Rattle.std.proofs.lemmas.List.{get_or_default, take_all}
 use Rattle.segmodel.specs.Plain.{state_of}
 use Rattle.segmodel.specs.Segments.{filling_of}
 use Rattle.segmodel.specs.State.{is_among}
-use Rattle.segmodel.proofs.KeepSteps.{last_from}
+use Rattle.segmodel.proofs.Keeping.{last_from}
 use Rattle.segmodel.proofs.SegmentLemmas.{there}
 use Rattle.segmodel.proofs.plain.Plain.is_last.Goals as goal
 

@@ -3,7 +3,7 @@ use Rattle.segmodel.specs.Serving.{keep_rows}
 use Rattle.segmodel.specs.Plain.{filling_in, state_of}
 use Rattle.segmodel.specs.Segments.{filling_of}
 use Rattle.segmodel.specs.State.{Filling, State}
-use Rattle.segmodel.proofs.KeepSteps.{frequency_there, key_there, row_ends, row_moves, row_passes, row_stands}
+use Rattle.segmodel.proofs.Keeping.{frequency_there, key_there, row_ends, row_moves, row_passes, row_stands}
 use Rattle.segmodel.proofs.SegmentLemmas.{there}
 use Rattle.segmodel.proofs.Sound.{unchanged}
 use Rattle.segmodel.proofs.plain.Plain.keep_rows.Goals as goal
