@@ -19,11 +19,11 @@ use Rattle.segmodel.specs.declared.answer.KeepAnswer.{KeepAnswer}
 use Rattle.segmodel.specs.Places.{bucket_of}
 use Rattle.segmodel.specs.Cache.{key_cmp, standing, keys_in, put, with_segment, in_segment, with_at, moved}
 use Rattle.segmodel.specs.State.{State, is_locked, is_in_use, IsSound, Filling, is_among}
-use Rattle.segmodel.specs.Serving.{is_out_of_rows, is_own, with_key, stands_in, is_last_of, moved_to, keep_rows, keep_into, keeps}
+use Rattle.segmodel.specs.Serving.{is_last_at, is_last_of, is_out_of_rows, is_own, keep_into, keep_rows, keeps, moved_to, stands_in, with_key}
 use Rattle.segmodel.specs.Laws.{kept, Adds, IsMoveBetween}
 use Rattle.segmodel.specs.declared.segment.Segment.{Segment}
 use Rattle.segmodel.specs.Segments.{filling_of}
-use Rattle.segmodel.specs.Plain.{filling_in, is_last_at, is_used_up, state_of}
+use Rattle.segmodel.specs.Plain.{filling_in, is_used_up, state_of}
 use Rattle.segmodel.specs.declared.plain.Plain.{Plain}
 use Rattle.segmodel.specs.declared.answer.Command.TheVariants.{Keep}
 use Rattle.segmodel.specs.History.{after, Follows, IsLegal}
