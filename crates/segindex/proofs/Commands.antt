@@ -1,8 +1,8 @@
--- What no command changes: a pass holds after it what it held before.
-use Rattle.std.proofs.Common.{◌≡◌, ℕ, List, ap, inl, inr}
+-- What commands leave: a pass holds what it held before, and a segment has nothing after a keep of everything.
+use Rattle.std.proofs.Common.{◌≡◌, ℕ, List, Option, Some, None, inl, inr, refl, sym, ap, subst, ◌∙◌, arith}
 use Rattle.segword.specs.Words.{Shape}
-use Rattle.segmodel.specs.Words.{Answer, DeleteAnswer, EvictAnswer, KeepAnswer, RefillAnswer, Request}
-use Rattle.segmodel.specs.Words.{WriteAnswer}
+use Rattle.segmodel.specs.Words.{after, Answer, DeleteAnswer, EvictAnswer, KeepAnswer, NoneStandsIn, RefillAnswer, Request}
+use Rattle.segmodel.specs.Words.{SegState, WriteAnswer}
 use Rattle.segmodel.specs.declared.answer.Answer.TheVariants as answer
 use Rattle.segmodel.specs.declared.answer.Command.{Command}
 use Rattle.segmodel.specs.declared.answer.Command.TheVariants as command
@@ -12,12 +12,14 @@ use Rattle.segmodel.specs.declared.answer.EvictAnswer.TheVariants as evict
 use Rattle.segmodel.specs.declared.answer.KeepAnswer.TheVariants as keep
 use Rattle.segmodel.specs.declared.answer.RefillAnswer.TheVariants as refill
 use Rattle.segmodel.specs.declared.request.Request.TheVariants as request
-use Rattle.segbase.specs.Words.{Board, holding, Memo, Pass}
-use Rattle.segstore.specs.Words.{memo}
+use Rattle.segbase.specs.Words.{Board, holding, Memo, Pass, seen, state_of}
+use Rattle.segstore.specs.Words.{IsQuiet, memo}
 use Rattle.segwrite.specs.Words.{IsDeleteAnswer, IsWriteAnswer}
-use Rattle.segevict.specs.Words.{IsEvictAnswer, IsKeepAnswer}
+use Rattle.segevict.specs.Words.{IsEvictAnswer, IsKeepAnswer, KeepsItems}
 use Rattle.segindex.specs.Commands.{AnswersCommand}
 use Rattle.segindex.specs.Refilling.{IsRefillAnswer}
+
+-- ---- what the pass holds
 
 held_then : (p q : Pass) → memo q ≡ memo p → holding q ≡ holding p
 held_then p q same = ap (λ (m : Memo). m.holding) same
@@ -74,3 +76,14 @@ command_holds b p q (command.Keep segment cutoff) draw (answer.Keep told) is = k
 command_holds b p q (command.Evict segment) draw (answer.Evict told) is = evict_holds b.shape segment told p q is.answer
 command_holds b p q (command.Refill segment deadline) draw (answer.Refill told) is = refill_holds segment deadline told p q is.answer
 command_holds b p q command draw told is = absurd is
+
+-- ---- a keep of everything
+
+-- no frequency is below 0, and no key stands in a segment that isn't in use
+pub none_kept : (b : Board) (segment count : ℕ) (p q : Pass) → IsQuiet b p → KeepsItems b segment 0 (keep.Kept count) p q → NoneStandsIn (after b.shape (seen q)) segment
+none_kept b segment count p q quiet is = by (state_of p segment) refl is.answer
+  where
+    by : (state : Option SegState) → state_of p segment ≡ state → IsKeepAnswer b.shape segment 0 (keep.Kept count) p q → NoneStandsIn (after b.shape (seen q)) segment
+    by state at (inl kept) = λ key stands. let low = (kept.1 key stands).1.2.is in absurd (omega arith)
+    by None at (inr none) = let no : keep.Kept count ≡ keep.NotYours = is.not_yours.1 at in cc
+    by (Some state) at (inr none) = subst (λ r. NoneStandsIn (after b.shape (seen r)) segment) (sym none.2) (quiet.segments.unused segment state at (λ in_use. none.0 (at ∙ ap Some in_use)))

@@ -12,5 +12,4 @@ pub mod Pairs
 pub mod AtRest
 pub mod Listing
 pub mod Ended
-pub mod Keeps
 pub mod Commands

@@ -1,4 +1,4 @@
-use Rattle.segindex.proofs.Keeps.{none_kept}
+use Rattle.segindex.proofs.Commands.{none_kept}
 use Rattle.segindex.proofs.laws.keep_of_all.Goals as goal
 
 pub returns : goal.returns
