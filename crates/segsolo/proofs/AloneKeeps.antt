@@ -1,20 +1,185 @@
 -- With one pass, a keep is served as the model says.
-use Rattle.std.proofs.Common.{◌≡◌, ◌≢◌, ℕ, zero, suc, ◌+◌, ◌<◌, ◌≤◌, ◌==◌, ◌&&◌, Bool, true, false, cond, not, drop, length, Option, Some, None, refl, sym, ap, ◌∙◌, subst, inl, inr, ⊎_elim, arith, eq-eqb, unwrap_or}
-use Rattle.std.proofs.Math.ListN.{drop_of_length-le}
-use Rattle.std.proofs.lemmas.Bool.{cases_eq, ne_eqb}
+use Rattle.std.proofs.Common.{◌≡◌, ◌≢◌, ◌⊎◌, ℕ, zero, suc, ◌+◌, ◌<◌, ◌≤◌, ◌==◌, ◌&&◌, add-one, Bool, true, false, cond, not, List, [], drop, get_or, length, Option, Some, None, unwrap_or, refl, sym, ap, ◌∙◌, subst, inl, inr, ⊎_elim, arith, eq-eqb}
+use Rattle.std.proofs.lemmas.Bool.{cases_eq, lt-leb, ne_eqb}
 use Rattle.std.proofs.lemmas.Option.{none-some, same_Some}
-use Rattle.segmodel.specs.declared.answer.SegState.TheVariants.{Empty, InUse, Evicted}
+use Rattle.std.proofs.Math.ListN.{drop_of_length-le}
 use Rattle.segmodel.specs.declared.answer.KeepAnswer.TheVariants as keep
 use Rattle.segmodel.specs.declared.answer.Answer.TheVariants as answer
 use Rattle.segmodel.specs.declared.answer.Command.TheVariants as command
-use Rattle.segmodel.specs.Words.{is_in_use, is_own, keep_into, keep_rows, KeepAnswer, keeps}
-use Rattle.segmodel.specs.Words.{SegState, State}
-use Rattle.segbase.specs.Words.{Board, current_of, deadline_of, Pass, seen, state_of}
+use Rattle.segmodel.specs.declared.answer.SegState.TheVariants.{Empty, Evicted, InUse}
+use Rattle.segmodel.specs.Words.{bucket_of, Filling, is_in_use, is_locked, is_out_of_rows, is_own, keep_into, keep_rows, KeepAnswer, keeps, moved_to, SegState, State, with_key}
+use Rattle.segmodel.proofs.Keeping.{blocks, ends, moves as moves_on, passes}
+use Rattle.segcore.specs.Words.{bounced, frequency_in}
+use Rattle.segbase.specs.Passes as passes
+use Rattle.segbase.specs.declared.pass.Plain.{Plain}
+use Rattle.segbase.specs.Words.{Board, current_of, deadline_in, deadline_of, locked_of, marked, own_segment, Pass, seen, state_of}
+use Rattle.segbase.proofs.Alone.{bounced_alone}
+use Rattle.segstore.specs.Words.{ChangesNothing, DrawsNothing, GoesOn, has_room, RaisesNothing, ReadsNothing}
 use Rattle.segstore.proofs.Keeping.{knows_deadline}
-use Rattle.segevict.specs.Words.{GoesInOrder, GoesOver, IsKeepAnswer, IsKeepTarget, KeepsItems}
-use Rattle.segsolo.specs.Alone.{frequencies_in, keys_stored_in, or_empty, state_at, IsAlone, ServesAlone}
-use Rattle.segsolo.proofs.AlonePass.{not_own, own_is}
-use Rattle.segsolo.proofs.AloneMoves.{EndsAt, GoesOnTo, is_blocked, leaves, moves_item, rows_left, runs_out}
+use Rattle.segevict.specs.Words.{CarriesItem, GoesInOrder, GoesOver, HadFrequency, IsKeepAnswer, IsKeepTarget, IsNamed, KeepsItems, LacksBit, LacksRoom, LeavesItsItem, MovesItsItem, UsesRows}
+use Rattle.segsolo.specs.Alone.{frequencies_in, IsAlone, keys_stored_in, or_empty, ServesAlone, state_at}
+use Rattle.segsolo.proofs.AlonePass.{locked_here, not_own, own_is}
+use Rattle.segsolo.proofs.AloneRefills.{with_at-other}
+use Rattle.segsolo.proofs.AloneRefusals.{out_of_rows}
+use Rattle.segsolo.proofs.AloneMoves.{frequency_is, gone, has_moved, HasMoved, is_to_move, last_row, names_now, names_then, often, seldom, stays, StaysAlone}
+
+-- ---- what the model makes of the rows from one on
+
+-- in a state in which so many items were moved
+abbrev rows_left : Board → ℕ → ℕ → ℕ → ℕ → ℕ → State → KeepAnswer × State
+rows_left b segment into cutoff row count state =
+    keep_rows b.shape segment into cutoff (drop row (state.filling segment).keys) (drop row (state.filling segment).frequencies) count state
+
+-- The row was gone over: the pass is alone again, items are still moved into the same segment, as many rows of the segment are used, and the rows after it come to what this row and they came to before.
+record GoesOnTo (b : Board) (segment into cutoff row count more : ℕ) (p q : Pass) : Type 0 where
+  pub alone : IsAlone b q
+  pub target : IsKeepTarget segment into q
+  pub used : length (keys_stored_in (seen q) segment) ≡ length (keys_stored_in (seen p) segment)
+  pub rest : rows_left b segment into cutoff row count (state_at b.shape p) ≡ rows_left b segment into cutoff (suc row) more (state_at b.shape q)
+
+-- or the keep ended at it, with this answer
+record EndsAt (b : Board) (segment into cutoff row count : ℕ) (told : KeepAnswer) (p q : Pass) : Type 0 where
+  pub alone : IsAlone b q
+  pub end : rows_left b segment into cutoff row count (state_at b.shape p) ≡ (told, state_at b.shape q)
+
+-- ---- what a row comes to
+
+module _ (b : Board) (segment into cutoff row count : ℕ) (p q : Pass) (was : IsAlone b p) (target : IsKeepTarget segment into p) (within : row < length (keys_stored_in (seen p) segment)) where
+  abbrev keys : List (List ℕ)
+  keys = keys_stored_in (seen p) segment
+
+  abbrev frequencies : List ℕ
+  frequencies = frequencies_in p segment
+
+  long : length frequencies ≡ length keys
+  long = was.kept.frequencies segment
+
+  -- the next row, by either way to count
+  next_rows : (more : ℕ) (state : State) → keep_rows b.shape segment into cutoff (drop (row + 1) (state.filling segment).keys) (drop (row + 1) (state.filling segment).frequencies) more state
+      ≡ rows_left b segment into cutoff (suc row) more state
+  next_rows more state = ap (λ n. keep_rows b.shape segment into cutoff (drop n (state.filling segment).keys) (drop n (state.filling segment).frequencies) more state) (add-one row)
+
+  -- ---- it stays as it was, and the model passes over it
+
+  target_still : ChangesNothing p q → IsKeepTarget segment into q
+  target_still nothing = record {
+    current = ap (λ (x : Plain). x.current) nothing.plain ∙ target.current;
+    other = target.other;
+    deadlines = ap (λ (x : Plain). deadline_in (own_segment x segment)) nothing.plain ∙ (target.deadlines ∙ sym (ap (λ (x : Plain). deadline_in (own_segment x into)) nothing.plain));
+  }
+
+  passed : is_to_move segment cutoff row (state_at b.shape p) ≡ false → ChangesNothing p q → StaysAlone b p q → GoesOnTo b segment into cutoff row count count p q
+  passed is nothing same = record {
+    alone = same.alone;
+    target = target_still nothing;
+    used = ap (λ (s : State). length (s.filling segment).keys) same.state;
+    rest = passes b.shape segment into cutoff count (state_at b.shape p) keys frequencies row within long is
+        ∙ (next_rows count (state_at b.shape p) ∙ ap (rows_left b segment into cutoff (suc row) count) (sym same.state));
+  }
+
+  gone_then : ¬ (IsNamed b.shape segment row (marked q)) → ChangesNothing p q → StaysAlone b p q → GoesOnTo b segment into cutoff row count count p q
+  gone_then none nothing same = passed
+      (subst (λ s. is_to_move segment cutoff row s ≡ false) same.state
+      (gone b segment cutoff row q same.alone (subst (λ n. row < n) (sym (ap (λ (s : State). length (s.filling segment).keys) same.state)) within) none))
+      nothing same
+
+  -- it reads as no reader does
+  unraised_in : ReadsNothing p q → RaisesNothing p q
+  unraised_in none = ap (λ r. r.0) none
+
+  leaves : LeavesItsItem b segment row cutoff p q → GoesOnTo b segment into cutoff row count count p q
+  leaves is = ⊎_elim
+      (λ none. gone_then none nothing same)
+      (λ some. passed (seldom b segment cutoff row p was within some.0 (names_then b segment cutoff row p was within q is.on unraised nothing (λ frequency. frequency < cutoff) some.0 some.1)) nothing same)
+      is.answer.3
+    where
+      nothing : ChangesNothing p q
+      nothing = is.answer.2
+
+      unraised : RaisesNothing p q
+      unraised = unraised_in is.costs.reads_nothing
+
+      same : StaysAlone b p q
+      same = stays b p q was is.on is.costs.draws_nothing unraised nothing
+
+  -- ---- the keep ends at it
+
+  out_is : is_out_of_rows b.shape (state_at b.shape p).filling (Some into) ≡ not (has_room b.shape p)
+  out_is = ap (is_out_of_rows b.shape (state_at b.shape p).filling) (sym target.current) ∙ out_of_rows b p was
+
+  runs_out : LacksRoom b segment row cutoff p q → EndsAt b segment into cutoff row count (keep.NoRoom count) p q
+  runs_out is = ⊎_elim
+      (λ nowhere. absurd (nowhere.0 into target))
+      (λ out. ended is.costs.draws_nothing (unraised_in is.costs.reads_nothing) is.on out.2 out.3 out.4.0 out.4.1)
+      is.answer
+    where
+      ended : DrawsNothing p q → RaisesNothing p q → GoesOn b p q → ChangesNothing p q → has_room b.shape q ≡ false → (owner : List ℕ)
+          → HadFrequency b.shape segment row (λ frequency. cutoff ≤ frequency) (marked q) (marked q) owner → EndsAt b segment into cutoff row count (keep.NoRoom count) p q
+      ended undrawn unraised on nothing full owner had =
+          let same = stays b p q was on undrawn unraised nothing in
+          let full_then : has_room b.shape p ≡ false = subst (λ (x : Plain). has_room b.shape (record p { plain = x }) ≡ false) nothing.plain full in record {
+            alone = same.alone;
+            end = ends b.shape segment into cutoff count (state_at b.shape p) keys frequencies row within long (often b segment cutoff row p was within owner (names_now b segment cutoff row p was within q on unraised nothing owner had)) (out_is ∙ ap not full_then)
+                ∙ ap (λ s. (keep.NoRoom count, s)) (sym same.state);
+          }
+
+  is_blocked : LacksBit b segment row cutoff p q → EndsAt b segment into cutoff row count (keep.Busy count) p q
+  is_blocked is =
+      let nothing = is.answer.2 in
+      let owner = is.answer.4.0 in
+      let unraised = unraised_in is.costs.reads_nothing in
+      let names = names_then b segment cutoff row p was within q is.on unraised nothing (λ frequency. cutoff ≤ frequency) owner is.answer.4.1 in
+      let same = stays b p q was is.on is.costs.draws_nothing unraised nothing in
+      let room : has_room b.shape p ≡ true = subst (λ (x : Plain). has_room b.shape (record p { plain = x }) ≡ true) nothing.plain is.answer.3 in record {
+        alone = same.alone;
+        end = blocks b.shape segment into cutoff count (state_at b.shape p) keys frequencies row within long (often b segment cutoff row p was within owner names) (out_is ∙ ap not room)
+            (ap (is_locked b.shape (state_at b.shape p)) (last_row b segment cutoff row p was within (λ frequency. cutoff ≤ frequency) owner names).0 ∙ locked_here b.shape p owner (own_lock owner is.answer.4.2))
+            ∙ ap (λ s. (keep.Busy count, s)) (sym same.state);
+      }
+    where
+      -- only its own lock refuses it
+      own_lock : (owner : List ℕ) → (locked_of p ≡ Some (bucket_of b.shape owner)) ⊎ (passes.count (bounced (bucket_of b.shape owner)) p + 64 ≤ passes.count (bounced (bucket_of b.shape owner)) q) → locked_of p ≡ Some (bucket_of b.shape owner)
+      own_lock owner (inl own) = own
+      own_lock owner (inr met) = let none = bounced_alone b q (bucket_of b.shape owner) is.on.quiet.pass was.one in let many = met in absurd (omega arith)
+
+  -- ---- its item is moved
+
+  module _ (on : GoesOn b p q) (undrawn : DrawsNothing p q) (unraised : RaisesNothing p q) (uses : UsesRows into 1 p q) (owner : List ℕ) (carries : CarriesItem b.shape segment row cutoff into p q owner) where
+    abbrev had : ℕ
+    had = frequency_in (marked p) segment row
+
+    is_moved : HasMoved b segment into cutoff row p q owner
+    is_moved = has_moved b segment into cutoff row p q was target within on undrawn unraised uses owner carries
+
+    -- the rows of the segment that was left stay as they are
+    rows_kept : (moved_to owner had into (state_at b.shape p)).filling segment ≡ (state_at b.shape p).filling segment
+    rows_kept = with_at-other (state_at b.shape p).filling into segment (with_key owner had ((state_at b.shape p).filling into)) (λ e. target.other (sym e))
+
+    goes_on : GoesOnTo b segment into cutoff row count (count + 1) p q
+    goes_on = record {
+      alone = is_moved.alone;
+      target = record {
+        current = uses.current ∙ target.current;
+        other = target.other;
+        deadlines = uses.deadlines segment ∙ (target.deadlines ∙ sym (uses.deadlines into));
+      };
+      used = ap (λ (s : State). length (s.filling segment).keys) is_moved.state ∙ ap (λ (f : Filling). length f.keys) rows_kept;
+      rest = moves_on b.shape segment into cutoff count (state_at b.shape p) keys frequencies row within long (often b segment cutoff row p was within owner is_moved.names)
+          (lt-leb b.shape.rows (length (keys_stored_in (seen p) into)) is_moved.fits) (ap (is_locked b.shape (state_at b.shape p)) key_is ∙ is_moved.free)
+          ∙ ((λ i. keep_rows b.shape segment into cutoff (drop (row + 1) (sym rows_kept i).keys) (drop (row + 1) (sym rows_kept i).frequencies) (count + 1) (moved_to (key_is i) (frequency_is b segment cutoff row p was within i) into (state_at b.shape p)))
+          ∙ (next_rows (count + 1) (moved_to owner had into (state_at b.shape p))
+          ∙ ap (rows_left b segment into cutoff (suc row) (count + 1)) (sym is_moved.state)));
+    }
+      where
+        key_is : get_or keys row [] ≡ owner
+        key_is = (last_row b segment cutoff row p was within (λ frequency. cutoff ≤ frequency) owner is_moved.names).0
+
+  moves_item : MovesItsItem b segment row cutoff p q → GoesOnTo b segment into cutoff row count (count + 1) p q
+  moves_item is =
+      let a = is.answer in
+      let same : a.0 ≡ into = same_Some a.0 into (sym a.1.current ∙ target.current) in
+      let there = subst (λ n. UsesRows n 1 p q × CarriesItem b.shape segment row cutoff n p q a.3.0) same (a.2, a.3.1) in
+      goes_on is.on is.costs.draws_nothing (unraised_in is.costs.reads_nothing) there.0 a.3.0 there.1
 
 -- ---- row after row
 

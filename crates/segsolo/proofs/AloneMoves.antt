@@ -1,41 +1,27 @@
--- With one pass, a row that a keep goes over is one that the model passes over, or whose item it moves, or at which it ends.
-use Rattle.std.proofs.Common.{◌≡◌, ◌≢◌, ◌⊎◌, ℕ, suc, ◌+◌, ◌<◌, ◌≤◌, ◌&&◌, add-one, cond, eqb, nat_le, not, Bool, true, false, IsSomeAnd, List, [], ◌∷◌, ◌++◌, drop, get_or, length, Option, Some, None, option_map, refl, sym, ap, ◌∙◌, subst, inl, inr, ⊎_elim, arith, eq-eqb}
+-- With one pass, whether the item of a row is to be moved, and the state that it is at once it was moved.
+use Rattle.std.proofs.Common.{◌≡◌, ◌≢◌, ◌⊎◌, ℕ, ◌+◌, ◌<◌, ◌≤◌, ◌&&◌, cond, eqb, nat_le, not, Bool, true, false, IsSomeAnd, List, [], ◌∷◌, ◌++◌, drop, get_or, length, Option, Some, None, option_map, refl, sym, ap, ◌∙◌, subst, ⊎_elim, arith, eq-eqb}
 use Rattle.std.specs.BTreeMap.{is_at}
 use Rattle.std.proofs.lemmas.Bool.{and_from, and_right, cases_Bool, cond-false, eqb-true, false≢true, le-leb, lt-leb}
-use Rattle.std.proofs.lemmas.Option.{same_Some}
-use Rattle.segmodel.specs.declared.answer.KeepAnswer.{KeepAnswer}
-use Rattle.segmodel.specs.declared.answer.KeepAnswer.TheVariants as keep
 use Rattle.segmodel.specs.declared.entry.Entry.TheVariants as entry
-use Rattle.segmodel.specs.Words.{after, bucket_of, Cached, entries_of, Entry, Filling, is_among}
-use Rattle.segmodel.specs.Words.{is_last_of, is_locked, is_named, is_of, is_out_of_rows, IsSound}
-use Rattle.segmodel.specs.Words.{keep_rows, key_cmp, moved_to}
-use Rattle.segmodel.specs.Words.{standing, stands_in, StandsIn, State, with_key, with_segment}
+use Rattle.segmodel.specs.Words.{after, bucket_of, Cached, entries_of, Entry, is_among, is_last_of, is_locked, is_named, is_of, IsSound, key_cmp, moved_to, standing, stands_in, StandsIn, State, with_segment}
 use Rattle.segmodel.proofs.Counts.{both, count_by-cons}
-use Rattle.segmodel.proofs.Keeping.{blocks, ends, in_there, IsKept-moved, moves as moves_on, passes}
+use Rattle.segmodel.proofs.Keeping.{in_there, IsKept-moved}
 use Rattle.segmodel.proofs.Moves.{standing-moved}
 use Rattle.segcore.specs.Mark as mark
-use Rattle.segcore.specs.Words.{bounced, cached, frequency_in, slot}
+use Rattle.segcore.specs.Words.{cached, frequency_in, slot}
 use Rattle.segcore.proofs.Caches.{has_value}
 use Rattle.segcore.proofs.Exact.{stands_at}
 use Rattle.segcore.proofs.Marked.{entries_marked}
 use Rattle.segcore.proofs.Moments.{marked_begins}
-use Rattle.segbase.specs.declared.pass.Plain.{Plain}
-use Rattle.segbase.specs.Passes as passes
-use Rattle.segbase.specs.Words.{Board, deadline_in, Locked, locked, locked_of, marked, Memo}
-use Rattle.segbase.specs.Words.{number, own_segment, Pass, seen, trace, used_of}
-use Rattle.segbase.proofs.Alone.{bounced_alone}
-use Rattle.segstore.specs.Words.{ChangesNothing, DrawsNothing, GoesOn, has_room}
-use Rattle.segstore.specs.Words.{RaisesNothing, ReadsNothing}
+use Rattle.segbase.specs.Words.{Board, Locked, locked, marked, Memo, number, Pass, seen, trace, used_of}
+use Rattle.segstore.specs.Words.{ChangesNothing, DrawsNothing, GoesOn, RaisesNothing}
 use Rattle.segstore.proofs.Keeping.{stored_in}
-use Rattle.segevict.specs.Words.{CarriesItem, HadFrequency, HadThen, IsKeepTarget, IsNamed, LacksBit, LacksRoom}
-use Rattle.segevict.specs.Words.{LeavesItsItem, MovesItsItem, UsesRows}
-use Rattle.segsolo.specs.Alone.{frequencies_in, item_of, keys_stored_in, IsAlone, IsLastRow, state_at}
+use Rattle.segevict.specs.Words.{CarriesItem, HadFrequency, HadThen, IsKeepTarget, IsNamed, UsesRows}
+use Rattle.segsolo.specs.Alone.{frequencies_in, IsAlone, IsLastRow, item_of, keys_stored_in, state_at}
 use Rattle.segindex.proofs.QuietPass.{none_since}
 use Rattle.segsolo.proofs.AloneBrought.{counts, frequencies_then, keys_then, named, state_then}
 use Rattle.segsolo.proofs.AloneMoments.{brings_moved, names_moved, names_still, NamesRow}
-use Rattle.segsolo.proofs.AlonePass.{at_state, counts_still, left, locked_here, more_seen, same_seen}
-use Rattle.segsolo.proofs.AloneRefills.{with_at-other}
-use Rattle.segsolo.proofs.AloneRefusals.{out_of_rows}
+use Rattle.segsolo.proofs.AlonePass.{at_state, counts_still, left, more_seen, same_seen}
 use Rattle.segsolo.proofs.AloneRows.{frequencies_still, still_named}
 use Rattle.segsolo.proofs.AloneWidths.{same_widths}
 use Rattle.segsolo.proofs.Marks.{BringsItem}
@@ -62,30 +48,13 @@ stays b p q was on undrawn unraised nothing =
       state = same;
     }
 
--- ---- what the model makes of the rows from one on
-
--- in a state in which so many items were moved
-abbrev pub rows_left : Board → ℕ → ℕ → ℕ → ℕ → ℕ → State → KeepAnswer × State
-rows_left b segment into cutoff row count state =
-    keep_rows b.shape segment into cutoff (drop row (state.filling segment).keys) (drop row (state.filling segment).frequencies) count state
+-- ---- whether a row's item is to be moved
 
 -- whether the row's item is to be moved: the row is the last one of a key that stands there, and its frequency isn't below the cutoff
-abbrev is_to_move : ℕ → ℕ → ℕ → State → Bool
+abbrev pub is_to_move : ℕ → ℕ → ℕ → State → Bool
 is_to_move segment cutoff row state =
     is_last_of state segment (get_or (state.filling segment).keys row []) (drop (row + 1) (state.filling segment).keys)
     && nat_le cutoff (get_or (state.filling segment).frequencies row 0)
-
--- The row was gone over: the pass is alone again, items are still moved into the same segment, as many rows of the segment are used, and the rows after it come to what this row and they came to before.
-pub record GoesOnTo (b : Board) (segment into cutoff row count more : ℕ) (p q : Pass) : Type 0 where
-  pub alone : IsAlone b q
-  pub target : IsKeepTarget segment into q
-  pub used : length (keys_stored_in (seen q) segment) ≡ length (keys_stored_in (seen p) segment)
-  pub rest : rows_left b segment into cutoff row count (state_at b.shape p) ≡ rows_left b segment into cutoff (suc row) more (state_at b.shape q)
-
--- or the keep ended at it, with this answer
-pub record EndsAt (b : Board) (segment into cutoff row count : ℕ) (told : KeepAnswer) (p q : Pass) : Type 0 where
-  pub alone : IsAlone b q
-  pub end : rows_left b segment into cutoff row count (state_at b.shape p) ≡ (told, state_at b.shape q)
 
 -- ---- a row that no item names
 
@@ -116,12 +85,12 @@ module _ (b : Board) (segment cutoff row : ℕ) (p : Pass) (alone : IsAlone b p)
         last = word.last ∙ ap (λ n. Some (slot named_key segment n)) same;
       })
 
-  gone : is_to_move segment cutoff row (state_at b.shape p) ≡ false
+  pub gone : is_to_move segment cutoff row (state_at b.shape p) ≡ false
   gone = ap (λ t. t && nat_le cutoff (get_or (frequencies_in p segment) row 0)) (⊎_elim (λ is. absurd (not_last is)) (λ no. no) (cases_Bool (is_last_of (state_at b.shape p) segment named_key keys_after)))
 
--- ---- what a row comes to
+-- ---- a row that an item names
 
-module _ (b : Board) (segment into cutoff row count : ℕ) (p q : Pass) (was : IsAlone b p) (target : IsKeepTarget segment into p) (within : row < length (keys_stored_in (seen p) segment)) where
+module _ (b : Board) (segment cutoff row : ℕ) (p : Pass) (was : IsAlone b p) (within : row < length (keys_stored_in (seen p) segment)) where
   abbrev keys : List (List ℕ)
   keys = keys_stored_in (seen p) segment
 
@@ -134,18 +103,8 @@ module _ (b : Board) (segment into cutoff row count : ℕ) (p q : Pass) (was : I
   abbrev frequency : ℕ
   frequency = get_or frequencies row 0
 
-  long : length frequencies ≡ length keys
-  long = was.kept.frequencies segment
-
-  frequency_is : frequency ≡ frequency_in (marked p) segment row
+  pub frequency_is : frequency ≡ frequency_in (marked p) segment row
   frequency_is = of_rows_at (frequency_in (marked p) segment) 0 (length keys) row within ∙ ap (frequency_in (marked p) segment) (let same : 0 + row ≡ row = omega arith in same)
-
-  -- the next row, by either way to count
-  next_rows : (more : ℕ) (state : State) → keep_rows b.shape segment into cutoff (drop (row + 1) (state.filling segment).keys) (drop (row + 1) (state.filling segment).frequencies) more state
-      ≡ rows_left b segment into cutoff (suc row) more state
-  next_rows more state = ap (λ n. keep_rows b.shape segment into cutoff (drop n (state.filling segment).keys) (drop n (state.filling segment).frequencies) more state) (add-one row)
-
-  -- ---- a row that an item names
 
   module _ (IsSo : ℕ → Type 0) (owner : List ℕ) (names : NamesRow b.shape segment row IsSo p owner) where
     -- the row is the last one of the key
@@ -154,7 +113,7 @@ module _ (b : Board) (segment into cutoff row count : ℕ) (p q : Pass) (was : I
         let value = has_value b.shape (seen p) owner segment names.stands in
         (value.0, value.1, was.rows owner value.0 segment row value.1 names.last)
 
-    last_row : (key ≡ owner) × (is_among (drop (row + 1) keys) owner ≡ false)
+    pub last_row : (key ≡ owner) × (is_among (drop (row + 1) keys) owner ≡ false)
     last_row = last_parts owner keys row stands_here.2
 
     last_is : is_last_of (state_at b.shape p) segment key (drop (row + 1) keys) ≡ true
@@ -164,208 +123,107 @@ module _ (b : Board) (segment into cutoff row count : ℕ) (p q : Pass) (was : I
     is_so : IsSo frequency
     is_so = subst IsSo (sym frequency_is) names.is
 
-  often : (owner : List ℕ) → NamesRow b.shape segment row (λ frequency. cutoff ≤ frequency) p owner → is_to_move segment cutoff row (state_at b.shape p) ≡ true
+  pub often : (owner : List ℕ) → NamesRow b.shape segment row (λ frequency. cutoff ≤ frequency) p owner → is_to_move segment cutoff row (state_at b.shape p) ≡ true
   often owner names = and_from (is_last_of (state_at b.shape p) segment key (drop (row + 1) keys)) (nat_le cutoff frequency)
       (last_is (λ frequency. cutoff ≤ frequency) owner names) (le-leb cutoff frequency (is_so (λ frequency. cutoff ≤ frequency) owner names))
 
-  seldom : (owner : List ℕ) → NamesRow b.shape segment row (λ frequency. frequency < cutoff) p owner → is_to_move segment cutoff row (state_at b.shape p) ≡ false
+  pub seldom : (owner : List ℕ) → NamesRow b.shape segment row (λ frequency. frequency < cutoff) p owner → is_to_move segment cutoff row (state_at b.shape p) ≡ false
   seldom owner names = and_right (is_last_of (state_at b.shape p) segment key (drop (row + 1) keys)) (nat_le cutoff frequency)
       (lt-leb cutoff frequency (is_so (λ frequency. frequency < cutoff) owner names))
 
   -- so it was at a moment of a call that changed nothing
-  module _ (on : GoesOn b p q) (unraised : RaisesNothing p q) (nothing : ChangesNothing p q) where
-    names_then : (IsSo : ℕ → Type 0) (owner : List ℕ) → HadThen b.shape segment row IsSo p q owner → NamesRow b.shape segment row IsSo p owner
+  module _ (q : Pass) (on : GoesOn b p q) (unraised : RaisesNothing p q) (nothing : ChangesNothing p q) where
+    pub names_then : (IsSo : ℕ → Type 0) (owner : List ℕ) → HadThen b.shape segment row IsSo p q owner → NamesRow b.shape segment row IsSo p owner
     names_then IsSo owner (start, first, had) =
         names_still b p q was on unraised segment row IsSo owner (mark.marked start) nothing.entries (marked_begins (trace p) start (first.others, first.since)) had
 
-    names_now : (owner : List ℕ) → HadFrequency b.shape segment row (λ frequency. cutoff ≤ frequency) (marked q) (marked q) owner → NamesRow b.shape segment row (λ frequency. cutoff ≤ frequency) p owner
+    pub names_now : (owner : List ℕ) → HadFrequency b.shape segment row (λ frequency. cutoff ≤ frequency) (marked q) (marked q) owner → NamesRow b.shape segment row (λ frequency. cutoff ≤ frequency) p owner
     names_now owner had = names_still b p q was on unraised segment row (λ frequency. cutoff ≤ frequency) owner (marked q) nothing.entries on.marked had
 
-  -- ---- it stays as it was, and the model passes over it
+-- ---- a row whose item is moved
 
-  target_still : ChangesNothing p q → IsKeepTarget segment into q
-  target_still nothing = record {
-    current = ap (λ (x : Plain). x.current) nothing.plain ∙ target.current;
-    other = target.other;
-    deadlines = ap (λ (x : Plain). deadline_in (own_segment x segment)) nothing.plain ∙ (target.deadlines ∙ sym (ap (λ (x : Plain). deadline_in (own_segment x into)) nothing.plain));
+-- The pass is alone again, at the state after the move. The row's item was to be moved, and could be.
+pub record HasMoved (b : Board) (segment into cutoff row : ℕ) (p q : Pass) (owner : List ℕ) : Type 0 where
+  pub alone : IsAlone b q
+  pub state : state_at b.shape q ≡ moved_to owner (frequency_in (marked p) segment row) into (state_at b.shape p)
+  pub names : NamesRow b.shape segment row (λ frequency. cutoff ≤ frequency) p owner
+  pub fits : length (keys_stored_in (seen p) into) < b.shape.rows
+  pub free : is_locked b.shape (state_at b.shape p) owner ≡ false
+
+module _ (b : Board) (segment into cutoff row : ℕ) (p q : Pass) (was : IsAlone b p) (target : IsKeepTarget segment into p) (within : row < length (keys_stored_in (seen p) segment))
+    (on : GoesOn b p q) (undrawn : DrawsNothing p q) (unraised : RaisesNothing p q) (uses : UsesRows into 1 p q) (owner : List ℕ) (carries : CarriesItem b.shape segment row cutoff into p q owner) where
+  abbrev had : ℕ
+  had = frequency_in (marked p) segment row
+
+  abbrev moved : Entry
+  moved = entry.Moved (number p) owner segment into
+
+  seen_now : seen q ≡ moved ∷ seen p
+  seen_now = more_seen b p q (moved ∷ []) was on.quiet carries.entries
+
+  -- the next row of the other segment
+  next : carries.to ≡ length (keys_stored_in (seen p) into)
+  next = was.used into carries.to carries.next
+
+  used_is : used_of p into ≡ Some (length (keys_stored_in (seen p) into))
+  used_is = carries.next ∙ ap Some next
+
+  left_rows : length (keys_stored_in (seen p) into) < b.shape.rows
+  left_rows = subst (λ n. n < b.shape.rows) next carries.fits
+
+  abbrev brought : BringsItem owner into had (marked p) (marked q)
+  brought = (brings_moved b p q was on unraised segment row cutoff into owner carries).0
+
+  brought_to : brought.row ≡ length (keys_stored_in (seen p) into)
+  brought_to = (brings_moved b p q was on unraised segment row cutoff into owner carries).1 ∙ next
+
+  names_it : NamesRow b.shape segment row (λ frequency. cutoff ≤ frequency) p owner
+  names_it = names_moved b p q was on unraised segment row cutoff into owner carries
+
+  stored_so : (s : ℕ) → keys_stored_in (seen q) s ≡ cond (eqb into s) (keys_stored_in (seen p) s ++ owner ∷ []) (keys_stored_in (seen p) s)
+  stored_so s = ap (λ h. keys_stored_in h s) seen_now
+
+  others : (other : List ℕ) → owner ≢ other → standing (after b.shape (seen q)) other ≡ standing (after b.shape (seen p)) other
+  others other ne = ap (λ h. standing (after b.shape h) other) seen_now
+      ∙ (standing-moved owner into (after b.shape (seen p)) other
+      ∙ cond-false (is_at (key_cmp owner) other) (option_map (with_segment into) (standing (after b.shape (seen p)) other)) (standing (after b.shape (seen p)) other) (at_other owner other ne))
+
+  state_now : state_at b.shape q ≡ moved_to owner had into (state_at b.shape p)
+  state_now = at_state b.shape q (moved_to owner had into (state_at b.shape p))
+      (ap (after b.shape) seen_now)
+      (state_then b p q owner had into was stored_so used_is uses)
+      (keys_then b p q owner had into was stored_so used_is uses)
+      (frequencies_then b p q owner had into was stored_so used_is uses on.quiet brought brought_to)
+      uses.current
+      (same_widths b p q was on undrawn).wide
+      (same_widths b p q was on undrawn).drawn
+      (ap (λ (m : Memo). option_map item_of m.holding) uses.memo)
+      uses.locked
+
+  alone_now : IsAlone b q
+  alone_now = let here = stands_here b segment cutoff row p was within (λ frequency. cutoff ≤ frequency) owner names_it in record {
+    one = was.one;
+    quiet = on.quiet;
+    used = counts b p q owner had into was stored_so used_is uses;
+    rows = named b p q owner had into was stored_so used_is uses on.quiet brought brought_to others;
+    kept = subst (IsSound b.shape) (sym state_now) (IsKept-moved b.shape owner had into (cached here.0 segment) (state_at b.shape p) was.kept target.current here.1 left_rows);
   }
 
-  passed : is_to_move segment cutoff row (state_at b.shape p) ≡ false → ChangesNothing p q → StaysAlone b p q → GoesOnTo b segment into cutoff row count count p q
-  passed is nothing same = record {
-    alone = same.alone;
-    target = target_still nothing;
-    used = ap (λ (s : State). length (s.filling segment).keys) same.state;
-    rest = passes b.shape segment into cutoff count (state_at b.shape p) keys frequencies row within long is
-        ∙ (next_rows count (state_at b.shape p) ∙ ap (rows_left b segment into cutoff (suc row) count) (sym same.state));
-  }
-
-  gone_then : ¬ (IsNamed b.shape segment row (marked q)) → ChangesNothing p q → StaysAlone b p q → GoesOnTo b segment into cutoff row count count p q
-  gone_then none nothing same = passed
-      (subst (λ s. is_to_move segment cutoff row s ≡ false) same.state
-      (gone b segment cutoff row q same.alone (subst (λ n. row < n) (sym (ap (λ (s : State). length (s.filling segment).keys) same.state)) within) none))
-      nothing same
-
-  -- it reads as no reader does
-  unraised_in : ReadsNothing p q → RaisesNothing p q
-  unraised_in none = ap (λ r. r.0) none
-
-  pub leaves : LeavesItsItem b segment row cutoff p q → GoesOnTo b segment into cutoff row count count p q
-  leaves is = ⊎_elim
-      (λ none. gone_then none nothing same)
-      (λ some. passed (seldom some.0 (names_then is.on unraised nothing (λ frequency. frequency < cutoff) some.0 some.1)) nothing same)
-      is.answer.3
+  -- nothing of a bucket that the pass has locked comes in, so the key's bucket is another
+  free : is_locked b.shape (state_at b.shape p) owner ≡ false
+  free = ⊎_elim (λ here. absurd (by (locked p) refl here)) (λ other. other) (cases_Bool (is_locked b.shape (state_at b.shape p) owner))
     where
-      nothing : ChangesNothing p q
-      nothing = is.answer.2
+      by : (lock : Option Locked) → locked p ≡ lock → is_locked b.shape (state_at b.shape p) owner ≡ true → ⊥
+      by None unlocked here = false≢true (sym (ap (λ o. is_named o (bucket_of b.shape owner)) (was.quiet.locks ∙ ap (option_map (λ (l : Locked). l.bucket)) unlocked)) ∙ here)
+      by (Some lock) held here =
+          let bucket : lock.bucket ≡ bucket_of b.shape owner =
+          eqb-true lock.bucket (bucket_of b.shape owner) (sym (ap (λ o. is_named o (bucket_of b.shape owner)) (was.quiet.locks ∙ ap (option_map (λ (l : Locked). l.bucket)) held)) ∙ here) in
+          let before = (none_since b p lock was.quiet held).1 in
+          let now = (none_since b q lock on.quiet (ap (λ (m : Memo). m.locked) uses.memo ∙ held)).1 in
+          let more : entries_of b.shape lock.bucket (seen q) ≡ 1 + entries_of b.shape lock.bucket (seen p) =
+          ap (entries_of b.shape lock.bucket) seen_now
+          ∙ (count_by-cons (is_of b.shape lock.bucket) moved (seen p)
+          ∙ ap (λ t. cond {A = ℕ} t 1 0 + entries_of b.shape lock.bucket (seen p)) (eq-eqb (bucket_of b.shape owner) lock.bucket (sym bucket))) in absurd (omega arith)
 
-      unraised : RaisesNothing p q
-      unraised = unraised_in is.costs.reads_nothing
-
-      same : StaysAlone b p q
-      same = stays b p q was is.on is.costs.draws_nothing unraised nothing
-
-  -- ---- the keep ends at it
-
-  out_is : is_out_of_rows b.shape (state_at b.shape p).filling (Some into) ≡ not (has_room b.shape p)
-  out_is = ap (is_out_of_rows b.shape (state_at b.shape p).filling) (sym target.current) ∙ out_of_rows b p was
-
-  pub runs_out : LacksRoom b segment row cutoff p q → EndsAt b segment into cutoff row count (keep.NoRoom count) p q
-  runs_out is = ⊎_elim
-      (λ nowhere. absurd (nowhere.0 into target))
-      (λ out. ended is.costs.draws_nothing (unraised_in is.costs.reads_nothing) is.on out.2 out.3 out.4.0 out.4.1)
-      is.answer
-    where
-      ended : DrawsNothing p q → RaisesNothing p q → GoesOn b p q → ChangesNothing p q → has_room b.shape q ≡ false → (owner : List ℕ)
-          → HadFrequency b.shape segment row (λ frequency. cutoff ≤ frequency) (marked q) (marked q) owner → EndsAt b segment into cutoff row count (keep.NoRoom count) p q
-      ended undrawn unraised on nothing full owner had =
-          let same = stays b p q was on undrawn unraised nothing in
-          let full_then : has_room b.shape p ≡ false = subst (λ (x : Plain). has_room b.shape (record p { plain = x }) ≡ false) nothing.plain full in record {
-            alone = same.alone;
-            end = ends b.shape segment into cutoff count (state_at b.shape p) keys frequencies row within long (often owner (names_now on unraised nothing owner had)) (out_is ∙ ap not full_then)
-                ∙ ap (λ s. (keep.NoRoom count, s)) (sym same.state);
-          }
-
-  pub is_blocked : LacksBit b segment row cutoff p q → EndsAt b segment into cutoff row count (keep.Busy count) p q
-  is_blocked is =
-      let nothing = is.answer.2 in
-      let owner = is.answer.4.0 in
-      let unraised = unraised_in is.costs.reads_nothing in
-      let names = names_then is.on unraised nothing (λ frequency. cutoff ≤ frequency) owner is.answer.4.1 in
-      let same = stays b p q was is.on is.costs.draws_nothing unraised nothing in
-      let room : has_room b.shape p ≡ true = subst (λ (x : Plain). has_room b.shape (record p { plain = x }) ≡ true) nothing.plain is.answer.3 in record {
-        alone = same.alone;
-        end = blocks b.shape segment into cutoff count (state_at b.shape p) keys frequencies row within long (often owner names) (out_is ∙ ap not room)
-            (ap (is_locked b.shape (state_at b.shape p)) (last_row (λ frequency. cutoff ≤ frequency) owner names).0 ∙ locked_here b.shape p owner (own_lock owner is.answer.4.2))
-            ∙ ap (λ s. (keep.Busy count, s)) (sym same.state);
-      }
-    where
-      -- only its own lock refuses it
-      own_lock : (owner : List ℕ) → (locked_of p ≡ Some (bucket_of b.shape owner)) ⊎ (passes.count (bounced (bucket_of b.shape owner)) p + 64 ≤ passes.count (bounced (bucket_of b.shape owner)) q) → locked_of p ≡ Some (bucket_of b.shape owner)
-      own_lock owner (inl own) = own
-      own_lock owner (inr met) = let none = bounced_alone b q (bucket_of b.shape owner) is.on.quiet.pass was.one in let many = met in absurd (omega arith)
-
-  -- ---- its item is moved
-
-  module _ (on : GoesOn b p q) (undrawn : DrawsNothing p q) (unraised : RaisesNothing p q) (uses : UsesRows into 1 p q) (owner : List ℕ) (carries : CarriesItem b.shape segment row cutoff into p q owner) where
-    abbrev had : ℕ
-    had = frequency_in (marked p) segment row
-
-    abbrev moved : Entry
-    moved = entry.Moved (number p) owner segment into
-
-    seen_now : seen q ≡ moved ∷ seen p
-    seen_now = more_seen b p q (moved ∷ []) was on.quiet carries.entries
-
-    -- the next row of the other segment
-    next : carries.to ≡ length (keys_stored_in (seen p) into)
-    next = was.used into carries.to carries.next
-
-    used_is : used_of p into ≡ Some (length (keys_stored_in (seen p) into))
-    used_is = carries.next ∙ ap Some next
-
-    left_rows : length (keys_stored_in (seen p) into) < b.shape.rows
-    left_rows = subst (λ n. n < b.shape.rows) next carries.fits
-
-    abbrev brought : BringsItem owner into had (marked p) (marked q)
-    brought = (brings_moved b p q was on unraised segment row cutoff into owner carries).0
-
-    brought_to : brought.row ≡ length (keys_stored_in (seen p) into)
-    brought_to = (brings_moved b p q was on unraised segment row cutoff into owner carries).1 ∙ next
-
-    names_it : NamesRow b.shape segment row (λ frequency. cutoff ≤ frequency) p owner
-    names_it = names_moved b p q was on unraised segment row cutoff into owner carries
-
-    stored_so : (s : ℕ) → keys_stored_in (seen q) s ≡ cond (eqb into s) (keys_stored_in (seen p) s ++ owner ∷ []) (keys_stored_in (seen p) s)
-    stored_so s = ap (λ h. keys_stored_in h s) seen_now
-
-    others : (other : List ℕ) → owner ≢ other → standing (after b.shape (seen q)) other ≡ standing (after b.shape (seen p)) other
-    others other ne = ap (λ h. standing (after b.shape h) other) seen_now
-        ∙ (standing-moved owner into (after b.shape (seen p)) other
-        ∙ cond-false (is_at (key_cmp owner) other) (option_map (with_segment into) (standing (after b.shape (seen p)) other)) (standing (after b.shape (seen p)) other) (at_other owner other ne))
-
-    state_now : state_at b.shape q ≡ moved_to owner had into (state_at b.shape p)
-    state_now = at_state b.shape q (moved_to owner had into (state_at b.shape p))
-        (ap (after b.shape) seen_now)
-        (state_then b p q owner had into was stored_so used_is uses)
-        (keys_then b p q owner had into was stored_so used_is uses)
-        (frequencies_then b p q owner had into was stored_so used_is uses on.quiet brought brought_to)
-        uses.current
-        (same_widths b p q was on undrawn).wide
-        (same_widths b p q was on undrawn).drawn
-        (ap (λ (m : Memo). option_map item_of m.holding) uses.memo)
-        uses.locked
-
-    alone_now : IsAlone b q
-    alone_now = let here = stands_here (λ frequency. cutoff ≤ frequency) owner names_it in record {
-      one = was.one;
-      quiet = on.quiet;
-      used = counts b p q owner had into was stored_so used_is uses;
-      rows = named b p q owner had into was stored_so used_is uses on.quiet brought brought_to others;
-      kept = subst (IsSound b.shape) (sym state_now) (IsKept-moved b.shape owner had into (cached here.0 segment) (state_at b.shape p) was.kept target.current here.1 left_rows);
-    }
-
-    -- nothing of a bucket that the pass has locked comes in, so the key's bucket is another
-    free : is_locked b.shape (state_at b.shape p) owner ≡ false
-    free = ⊎_elim (λ here. absurd (by (locked p) refl here)) (λ other. other) (cases_Bool (is_locked b.shape (state_at b.shape p) owner))
-      where
-        by : (lock : Option Locked) → locked p ≡ lock → is_locked b.shape (state_at b.shape p) owner ≡ true → ⊥
-        by None unlocked here = false≢true (sym (ap (λ o. is_named o (bucket_of b.shape owner)) (was.quiet.locks ∙ ap (option_map (λ (l : Locked). l.bucket)) unlocked)) ∙ here)
-        by (Some lock) held here =
-            let bucket : lock.bucket ≡ bucket_of b.shape owner =
-            eqb-true lock.bucket (bucket_of b.shape owner) (sym (ap (λ o. is_named o (bucket_of b.shape owner)) (was.quiet.locks ∙ ap (option_map (λ (l : Locked). l.bucket)) held)) ∙ here) in
-            let before = (none_since b p lock was.quiet held).1 in
-            let now = (none_since b q lock on.quiet (ap (λ (m : Memo). m.locked) uses.memo ∙ held)).1 in
-            let more : entries_of b.shape lock.bucket (seen q) ≡ 1 + entries_of b.shape lock.bucket (seen p) =
-            ap (entries_of b.shape lock.bucket) seen_now
-            ∙ (count_by-cons (is_of b.shape lock.bucket) moved (seen p)
-            ∙ ap (λ t. cond {A = ℕ} t 1 0 + entries_of b.shape lock.bucket (seen p)) (eq-eqb (bucket_of b.shape owner) lock.bucket (sym bucket))) in absurd (omega arith)
-
-    -- the rows of the segment that was left stay as they are
-    rows_kept : (moved_to owner had into (state_at b.shape p)).filling segment ≡ (state_at b.shape p).filling segment
-    rows_kept = with_at-other (state_at b.shape p).filling into segment (with_key owner had ((state_at b.shape p).filling into)) (λ e. target.other (sym e))
-
-    goes_on : GoesOnTo b segment into cutoff row count (count + 1) p q
-    goes_on = record {
-      alone = alone_now;
-      target = record {
-        current = uses.current ∙ target.current;
-        other = target.other;
-        deadlines = uses.deadlines segment ∙ (target.deadlines ∙ sym (uses.deadlines into));
-      };
-      used = ap (λ (s : State). length (s.filling segment).keys) state_now ∙ ap (λ (f : Filling). length f.keys) rows_kept;
-      rest = moves_on b.shape segment into cutoff count (state_at b.shape p) keys frequencies row within long (often owner names_it)
-          (lt-leb b.shape.rows (length (keys_stored_in (seen p) into)) left_rows) (ap (is_locked b.shape (state_at b.shape p)) key_is ∙ free)
-          ∙ ((λ i. keep_rows b.shape segment into cutoff (drop (row + 1) (sym rows_kept i).keys) (drop (row + 1) (sym rows_kept i).frequencies) (count + 1) (moved_to (key_is i) (frequency_is i) into (state_at b.shape p)))
-          ∙ (next_rows (count + 1) (moved_to owner had into (state_at b.shape p))
-          ∙ ap (rows_left b segment into cutoff (suc row) (count + 1)) (sym state_now)));
-    }
-      where
-        key_is : key ≡ owner
-        key_is = (last_row (λ frequency. cutoff ≤ frequency) owner names_it).0
-
-  pub moves_item : MovesItsItem b segment row cutoff p q → GoesOnTo b segment into cutoff row count (count + 1) p q
-  moves_item is =
-      let a = is.answer in
-      let same : a.0 ≡ into = same_Some a.0 into (sym a.1.current ∙ target.current) in
-      let there = subst (λ n. UsesRows n 1 p q × CarriesItem b.shape segment row cutoff n p q a.3.0) same (a.2, a.3.1) in
-      goes_on is.on is.costs.draws_nothing (unraised_in is.costs.reads_nothing) there.0 a.3.0 there.1
+  pub has_moved : HasMoved b segment into cutoff row p q owner
+  has_moved = record { alone = alone_now; state = state_now; names = names_it; fits = left_rows; free = free }
