@@ -5,8 +5,7 @@ use Rattle.std.proofs.lemmas.Grind.{flat_map-append}
 use Rattle.std.proofs.lemmas.Bool.{eqb-true}
 use Rattle.segmodel.specs.Words.{Outcome}
 use Rattle.segmodel.proofs.RunLemmas.{Runs-append}
-use Rattle.segscript.specs.Spelling.{PassTurn, IsSayable, spelling}
-use Rattle.segscript.specs.Replies.{reply}
+use Rattle.segscript.specs.Spelling.{PassTurn, IsSayable, reply, spelling}
 use Rattle.segscript.specs.Script.{IsLine, ended, Splits, Say, IsBad, ServesLines, ServesScript}
 use Rattle.segscript.specs.Device.{IsBeginning}
 use Rattle.segscript.specs.Run.{ServesWholeLines, StopsWriting, IsSeenBad}

@@ -7,7 +7,6 @@ pub mod Memory
 pub mod Passes
 pub mod Reading
 pub mod Reasons
-pub mod Replies
 pub mod Run
 pub mod Running
 pub mod Script

@@ -3,8 +3,7 @@ use Rattle.std.specs.Prelude.{◌⊎◌, ◌≡◌, ◌≢◌, ℕ, ◌+◌, ◌
 use Rattle.std.specs.List.{flat_map, AllByRecursion}
 use Rattle.segword.specs.Words.{Shape}
 use Rattle.segmodel.specs.Words.{fresh, Outcome, Runs, State, Turns}
-use Rattle.segscript.specs.Spelling.{PassTurn, IsSayable, spelling}
-use Rattle.segscript.specs.Replies.{reply}
+use Rattle.segscript.specs.Spelling.{PassTurn, IsSayable, reply, spelling}
 
 -- ---- lines
 

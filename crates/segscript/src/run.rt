@@ -9,8 +9,7 @@ ghost use Rattle.segscript.specs.Run.{is_make_fault};
 use crate::device::{Failed, Sink, Source, write_all};
 use crate::engine::Engine;
 use crate::fault::RunFault;
-use crate::line::read_line;
-use crate::reply::reply_of;
+use crate::line::{read_line, reply_of};
 use arrayvec::ArrayVec;
 
 /// One more than the number of bytes that a script can have.
