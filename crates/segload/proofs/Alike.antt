@@ -21,10 +21,14 @@ use Rattle.segsolo.specs.Alone.{IsSameButFrequencies, with_frequencies}
 abbrev other : Filling → List ℕ → Filling
 other filling frequencies = record filling { frequencies = frequencies }
 
--- a command that is no keep
-abbrev pub IsNoKeep : Command → Type 0
-IsNoKeep (command.Keep segment cutoff) = ⊥
-IsNoKeep _ = Unit {0}
+-- a command that a load makes: its own, and those that make room
+abbrev pub IsMadeByLoads : Command → Type 0
+IsMadeByLoads (command.Write asked) = Unit {0}
+IsMadeByLoads (command.Get key now) = Unit {0}
+IsMadeByLoads (command.Gets key now) = Unit {0}
+IsMadeByLoads (command.Evict segment) = Unit {0}
+IsMadeByLoads (command.Refill segment deadline) = Unit {0}
+IsMadeByLoads _ = ⊥
 
 module _ (shape : Shape) (f : ℕ → List ℕ) (s : State) where
   abbrev old : State
@@ -151,20 +155,20 @@ module _ (shape : Shape) (f : ℕ → List ℕ) (s : State) where
       → ServesAlike (λ state. (told : WriteAnswer) × (given ≡ answer.Write told) × ServesStore shape s asked told state) new
   stores_alike asked given new (told, is, served) = let alike = store_alike asked told new served in (alike.0, (told, is, alike.1), alike.2)
 
-  pub serves_alike : (asked : Command) (given : Answer) (new : State) → IsNoKeep asked → Serves shape old asked given new → ServesAlike (Serves shape s asked given) new
-  serves_alike (command.Write (request.Delete key now)) given new none (told, is, served) = let alike = delete_alike key now told new served in (alike.0, (told, is, alike.1), alike.2)
-  serves_alike (command.Write (request.Set key value now)) given new none served = stores_alike (request.Set key value now) given new served
-  serves_alike (command.Write (request.Add key value now)) given new none served = stores_alike (request.Add key value now) given new served
-  serves_alike (command.Write (request.Replace key value now)) given new none served = stores_alike (request.Replace key value now) given new served
-  serves_alike (command.Write (request.Cas key value version now)) given new none served = stores_alike (request.Cas key value version now) given new served
-  serves_alike (command.Get key now) given new none (is, left) =
+  pub serves_alike : (asked : Command) (given : Answer) (new : State) → IsMadeByLoads asked → Serves shape old asked given new → ServesAlike (Serves shape s asked given) new
+  serves_alike (command.Write (request.Delete key now)) given new made (told, is, served) = let alike = delete_alike key now told new served in (alike.0, (told, is, alike.1), alike.2)
+  serves_alike (command.Write (request.Set key value now)) given new made served = stores_alike (request.Set key value now) given new served
+  serves_alike (command.Write (request.Add key value now)) given new made served = stores_alike (request.Add key value now) given new served
+  serves_alike (command.Write (request.Replace key value now)) given new made served = stores_alike (request.Replace key value now) given new served
+  serves_alike (command.Write (request.Cas key value version now)) given new made served = stores_alike (request.Cas key value version now) given new served
+  serves_alike (command.Get key now) given new made (is, left) =
       let found = present s.cache now key in let hit = hit_as key found in (after_hit key found s, (is, refl), (hit.0, left ∙ hit.1))
-  serves_alike (command.Gets key now) given new none (is, left) =
+  serves_alike (command.Gets key now) given new made (is, left) =
       let found = present s.cache now key in let locked = is_locked shape s key in let hit = if_hit_as locked key found in
       (cond locked s (after_hit key found s), (is, refl), (hit.0, left ∙ hit.1))
-  serves_alike (command.Keep segment cutoff) given new none served = absurd none
-  serves_alike (command.Evict segment) given new none (told, is, served) = let alike = own_alike segment (is_own shape segment) told new served in (alike.0, (told, is, alike.1), alike.2)
-  serves_alike (command.Refill segment deadline) given new none (is, left) =
+  serves_alike (command.Evict segment) given new made (told, is, served) = let alike = own_alike segment (is_own shape segment) told new served in (alike.0, (told, is, alike.1), alike.2)
+  serves_alike (command.Refill segment deadline) given new made (is, left) =
       let told = cond (is_own shape segment) (refill_answer s segment (s.filling segment).state) refill.NotYours in
       let filled = refilled_as segment deadline told in
       (after_refill segment deadline told s, (is, refl), (filled.0, left ∙ filled.1))
+  serves_alike asked given new made served = absurd made

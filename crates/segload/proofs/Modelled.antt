@@ -23,7 +23,7 @@ use Rattle.segload.specs.Making.{ClientState, draws_after, load_deadline, start_
 use Rattle.segload.specs.Calls.{asked_by, command_of, MakesCalls, MakesRoom, ServedAtOnce, ServedInNewRoom, ServedNoRoom, ServesLoad, TriesForRoom}
 use Rattle.segload.specs.Loads.{CountsCommands, keys_of}
 use Rattle.segload.specs.OnePass.{OnePassIsModelled, ServedByModel}
-use Rattle.segload.proofs.Alike.{IsNoKeep, serves_alike}
+use Rattle.segload.proofs.Alike.{IsMadeByLoads, serves_alike}
 
 -- the model came to a state, and the pass is alone at the same but for frequencies
 pub record Modelled (b : Board) (Served : State → Type 0) (q : Pass) : Type 0 where
@@ -32,22 +32,22 @@ pub record Modelled (b : Board) (Served : State → Type 0) (q : Pass) : Type 0 
   pub served : Served state
   pub same : IsSameButFrequencies state (state_at b.shape q)
 
-no_keep : (of : Kind) (version : ℕ) (load : Load) → IsNoKeep (asked_by of version load)
-no_keep kind.Get version load = tt
-no_keep kind.Gets version load = tt
-no_keep kind.Set version load = tt
-no_keep kind.Add version load = tt
-no_keep kind.Replace version load = tt
-no_keep kind.Cas version load = tt
-no_keep kind.Delete version load = tt
+is_made : (of : Kind) (version : ℕ) (load : Load) → IsMadeByLoads (asked_by of version load)
+is_made kind.Get version load = tt
+is_made kind.Gets version load = tt
+is_made kind.Set version load = tt
+is_made kind.Add version load = tt
+is_made kind.Replace version load = tt
+is_made kind.Cas version load = tt
+is_made kind.Delete version load = tt
 
 module _ (any_draw : AnyDrawIsServed) (b : Board) where
   -- ---- one call
 
-  one_call : (asked : Command) (draw : ℕ) (given : Answer) (p q : Pass) (s : State) → IsNoKeep asked → IsAlone b p → IsSameButFrequencies s (state_at b.shape p) → AnswersCommand b asked draw given p q → Modelled b (Serves b.shape s asked given) q
-  one_call asked draw given p q s none was same calls =
+  one_call : (asked : Command) (draw : ℕ) (given : Answer) (p q : Pass) (s : State) → IsMadeByLoads asked → IsAlone b p → IsSameButFrequencies s (state_at b.shape p) → AnswersCommand b asked draw given p q → Modelled b (Serves b.shape s asked given) q
+  one_call asked draw given p q s by_load was same calls =
       let served = any_draw b p q asked draw given was calls in
-      let alike = serves_alike b.shape same.0 s asked given served.1 none (subst (λ (o : State). Serves b.shape o asked given served.1) same.1 served.2) in record {
+      let alike = serves_alike b.shape same.0 s asked given served.1 by_load (subst (λ (o : State). Serves b.shape o asked given served.1) same.1 served.2) in record {
         alone = served.0;
         state = alike.0;
         served = alike.1;
@@ -91,7 +91,7 @@ module _ (any_draw : AnyDrawIsServed) (b : Board) where
 
     asked_once : (given : Answer) (here there : Pass) (at : State) → IsAlone b here → IsSameButFrequencies at (state_at b.shape here) → AnswersCommand b (command_of from.version load) load.draw given here there
         → Modelled b (Serves b.shape at (command_of from.version load) given) there
-    asked_once given here there at alone alike calls = one_call (command_of from.version load) load.draw given here there at (no_keep load.kind from.version load) alone alike calls
+    asked_once given here there at alone alike calls = one_call (command_of from.version load) load.draw given here there at (is_made load.kind from.version load) alone alike calls
 
     at_once : ServedAtOnce (AnswersCommand b) load told from to p q → Modelled b ByModel q
     at_once served =

@@ -40,12 +40,13 @@ command_of version load = asked_by load.kind version load
 
 -- ---- answers
 
--- No command of a load is answered as an evict, a keep or a refill.
+-- A command of a load is answered as a read, a write or a delete.
 abbrev pub IsOfLoad : Answer → Type 0
-IsOfLoad (answer.Evict told) = ⊥
-IsOfLoad (answer.Keep told) = ⊥
-IsOfLoad (answer.Refill told) = ⊥
-IsOfLoad told = Unit {0}
+IsOfLoad (answer.Get told) = Unit {0}
+IsOfLoad (answer.Gets told) = Unit {0}
+IsOfLoad (answer.Write told) = Unit {0}
+IsOfLoad (answer.Delete told) = Unit {0}
+IsOfLoad _ = ⊥
 
 -- how a command of a load that was answered so is counted
 abbrev pub tally_of : Answer → Tally

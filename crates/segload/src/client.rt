@@ -57,7 +57,7 @@ fn tally_of(answer: &Answer) -> Tally
         Answer::Gets(told) => Tally::of_gets(told),
         Answer::Write(told) => Tally::of_write(*told),
         Answer::Delete(told) => Tally::of_delete(*told),
-        Answer::Evict(_) | Answer::Keep(_) | Answer::Refill(_) => unreachable!(),
+        _ => unreachable!(),
     }
 }
 
