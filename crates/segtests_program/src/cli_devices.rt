@@ -1,12 +1,11 @@
 //! Readers and writers that fail under the program.
 use crate::cli_runs::{
-    Devices, NO_TOTALS, REPLIES, SCRIPT, SOUND, check_ended, check_same, run_with,
+    Devices, End, NO_TOTALS, REPLIES, SCRIPT, SOUND, check_ended, check_same, run_with,
 };
 use segscript::WhenFull;
 use std::alloc::AllocGlobal;
 use std::process::Abort;
 use std::sync::Wait;
-use std::test::Fail;
 use std::thread::Threads;
 
 /// Checks a run whose reader hands out so many bytes, and whose writers take so many,
@@ -16,10 +15,8 @@ fn check_failing<R: Threads + Wait + AllocGlobal + Abort + Sync>(
     words: &[&str],
     good: Option<usize>,
     rooms: (usize, usize),
-    status: u8,
-    written: &[u8],
-    printed: &[u8],
-) -> Result<(), Fail> {
+    end: End<'_>,
+) {
     for when_full in [WhenFull::Fails, WhenFull::TakesNone] {
         let devices = Devices {
             good,
@@ -27,14 +24,13 @@ fn check_failing<R: Threads + Wait + AllocGlobal + Abort + Sync>(
             when_full,
             ..SOUND
         };
-        let ended = run_with(rt, words, SCRIPT, devices)?;
-        check_ended(rt, words, &ended, status, written, printed);
+        let ended = run_with(rt, words, SCRIPT, devices);
+        check_ended(rt, words, &ended, end);
     }
-    Ok(())
 }
 
 #[test]
-fn a_reader_that_fails_is_told(rt: HostRuntime) -> Result<(), Fail> {
+fn a_reader_that_fails_is_told(rt: HostRuntime) {
     for good in 0..=49usize {
         let written = match good {
             0..=22 => 0,
@@ -42,21 +38,17 @@ fn a_reader_that_fails_is_told(rt: HostRuntime) -> Result<(), Fail> {
             37..=48 => 16,
             _ => 24,
         };
-        check_failing(
-            &rt,
-            &[],
-            Some(good),
-            (100, 100),
-            3,
-            &REPLIES[..written],
-            b"read failed\n",
-        )?;
+        let end = End {
+            status: 3,
+            written: &REPLIES[..written],
+            printed: b"read failed\n",
+        };
+        check_failing(&rt, &[], Some(good), (100, 100), end);
     }
-    Ok(())
 }
 
 #[test]
-fn a_writer_that_fails_is_told(rt: HostRuntime) -> Result<(), Fail> {
+fn a_writer_that_fails_is_told(rt: HostRuntime) {
     for (words, whole) in [
         (["script"].as_slice(), REPLIES),
         (
@@ -67,22 +59,18 @@ fn a_writer_that_fails_is_told(rt: HostRuntime) -> Result<(), Fail> {
         (["--version"].as_slice(), b"segrun 0.2.0\n".as_slice()),
     ] {
         for room in 0..whole.len() {
-            check_failing(
-                &rt,
-                words,
-                None,
-                (room, 100),
-                3,
-                &whole[..room],
-                b"write failed\n",
-            )?;
+            let end = End {
+                status: 3,
+                written: &whole[..room],
+                printed: b"write failed\n",
+            };
+            check_failing(&rt, words, None, (room, 100), end);
         }
     }
-    Ok(())
 }
 
 #[test]
-fn a_fault_that_can_not_be_printed_keeps_its_status(rt: HostRuntime) -> Result<(), Fail> {
+fn a_fault_that_can_not_be_printed_keeps_its_status(rt: HostRuntime) {
     for (words, good, status, written, line) in [
         (
             ["word", "0"].as_slice(),
@@ -100,29 +88,31 @@ fn a_fault_that_can_not_be_printed_keeps_its_status(rt: HostRuntime) -> Result<(
         ),
     ] {
         for room in 0..=line.len() {
-            let rooms = (100, room);
-            check_failing(&rt, words, good, rooms, status, written, &line[..room])?;
+            let end = End {
+                status,
+                written,
+                printed: &line[..room],
+            };
+            check_failing(&rt, words, good, (100, room), end);
         }
     }
-    Ok(())
 }
 
 #[test]
-fn a_help_that_can_not_be_printed_keeps_its_status(rt: HostRuntime) -> Result<(), Fail> {
+fn a_help_that_can_not_be_printed_keeps_its_status(rt: HostRuntime) {
     for room in 0..40usize {
         let devices = Devices {
             rooms: (100, room),
             ..SOUND
         };
-        let ended = run_with(&rt, &["scrpt"], SCRIPT, devices)?;
+        let ended = run_with(&rt, &["scrpt"], SCRIPT, devices);
         check_same(&rt, &["scrpt"], ended.status, 2);
         check_same(&rt, &["scrpt"], ended.printed.len(), room);
     }
-    Ok(())
 }
 
 #[test]
-fn a_flush_that_fails_is_a_fault_of_the_writer(rt: HostRuntime) -> Result<(), Fail> {
+fn a_flush_that_fails_is_a_fault_of_the_writer(rt: HostRuntime) {
     let devices = Devices {
         flush_fails: (true, false),
         ..SOUND
@@ -136,21 +126,37 @@ fn a_flush_that_fails_is_a_fault_of_the_writer(rt: HostRuntime) -> Result<(), Fa
         (["load", "--commands", "0"].as_slice(), NO_TOTALS),
         (["--version"].as_slice(), b"segrun 0.2.0\n".as_slice()),
     ] {
-        let ended = run_with(&rt, words, SCRIPT, devices)?;
-        check_ended(&rt, words, &ended, 3, written, b"write failed\n");
+        let ended = run_with(&rt, words, SCRIPT, devices);
+        check_ended(
+            &rt,
+            words,
+            &ended,
+            End {
+                status: 3,
+                written,
+                printed: b"write failed\n",
+            },
+        );
         check_same(&rt, words, ended.flushes, (2, 1));
     }
-    Ok(())
 }
 
 #[test]
-fn a_fault_keeps_its_line_if_a_flush_before_it_fails(rt: HostRuntime) -> Result<(), Fail> {
+fn a_fault_keeps_its_line_if_a_flush_before_it_fails(rt: HostRuntime) {
     let devices = Devices {
         flush_fails: (true, true),
         ..SOUND
     };
     let script = b"p0 refill 0 4294967295\nx\n";
-    let ended = run_with(&rt, &[], script, devices)?;
-    check_ended(&rt, &[], &ended, 2, b"REFILLED\n", b"bad line 2\n");
-    Ok(())
+    let ended = run_with(&rt, &[], script, devices);
+    check_ended(
+        &rt,
+        &[],
+        &ended,
+        End {
+            status: 2,
+            written: b"REFILLED\n",
+            printed: b"bad line 2\n",
+        },
+    );
 }

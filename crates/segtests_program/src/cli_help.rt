@@ -1,9 +1,8 @@
 //! Help and the version.
-use crate::cli_runs::{SCRIPT, check_part, check_program, check_same, run};
+use crate::cli_runs::{SCRIPT, check_part, check_program, check_same, run, text_of, writes};
 use std::alloc::AllocGlobal;
 use std::process::Abort;
 use std::sync::Wait;
-use std::test::Fail;
 use std::thread::Threads;
 
 const PROGRAM: [&str; 14] = [
@@ -107,19 +106,18 @@ fn check_shown<R: Threads + Wait + AllocGlobal + Abort + Sync>(
     rt: &R,
     words: &[&str],
     parts: &[&str],
-) -> Result<(), Fail> {
-    let ended = run(rt, words, SCRIPT)?;
+) {
+    let ended = run(rt, words, SCRIPT);
     check_same(rt, words, ended.status, 0);
     check_same(rt, words, ended.printed.as_slice(), b"");
     check_same(rt, words, ended.flushes, (1, 0));
     for part in parts {
         check_part(rt, words, ended.written.as_slice(), part);
     }
-    Ok(())
 }
 
 #[test]
-fn help_tells_a_newcomer_what_to_do(rt: HostRuntime) -> Result<(), Fail> {
+fn help_tells_a_newcomer_what_to_do(rt: HostRuntime) {
     for (words, parts) in [
         (["--help"].as_slice(), PROGRAM.as_slice()),
         (["-h"].as_slice(), PROGRAM.as_slice()),
@@ -139,13 +137,12 @@ fn help_tells_a_newcomer_what_to_do(rt: HostRuntime) -> Result<(), Fail> {
         (["word", "-h"].as_slice(), WORDS.as_slice()),
         (["help", "word"].as_slice(), WORDS.as_slice()),
     ] {
-        check_shown(&rt, words, parts)?;
+        check_shown(&rt, words, parts);
     }
-    Ok(())
 }
 
 #[test]
-fn help_fits_forty_lines(rt: HostRuntime) -> Result<(), Fail> {
+fn help_fits_forty_lines(rt: HostRuntime) {
     for words in [
         ["--help"].as_slice(),
         ["script", "--help"].as_slice(),
@@ -153,17 +150,15 @@ fn help_fits_forty_lines(rt: HostRuntime) -> Result<(), Fail> {
         ["replay", "--help"].as_slice(),
         ["word", "--help"].as_slice(),
     ] {
-        let ended = run(&rt, words, b"")?;
-        let lines = str::from_utf8(ended.written.as_slice())?.lines().count();
+        let ended = run(&rt, words, b"");
+        let lines = text_of(&rt, &ended).lines().count();
         assert!(rt; lines <= 40, "{words:?}: {lines}");
     }
-    Ok(())
 }
 
 #[test]
-fn the_version_is_told(rt: HostRuntime) -> Result<(), Fail> {
+fn the_version_is_told(rt: HostRuntime) {
     for word in ["--version", "-V"] {
-        check_program(&rt, &[word], b"", 0, b"segrun 0.2.0\n", b"")?;
+        check_program(&rt, &[word], b"", writes(b"segrun 0.2.0\n"));
     }
-    Ok(())
 }

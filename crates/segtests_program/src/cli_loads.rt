@@ -1,9 +1,8 @@
 //! Loads over the program: the text of their totals.
-use crate::cli_runs::{NO_TOTALS, SCRIPT, check_program, check_same, run};
+use crate::cli_runs::{NO_TOTALS, SCRIPT, check_program, check_same, fails, run, text_of, writes};
 use std::alloc::AllocGlobal;
 use std::process::Abort;
 use std::sync::Wait;
-use std::test::Fail;
 use std::thread::Threads;
 
 // The numbers of a line's tallies, added up: each stands behind a `=`,
@@ -23,9 +22,9 @@ fn check_tallies(rt: &impl Abort, line: &str, commands: u64) {
 }
 
 #[test]
-fn a_load_without_commands_counts_nothing(rt: HostRuntime) -> Result<(), Fail> {
+fn a_load_without_commands_counts_nothing(rt: HostRuntime) {
     let words = ["load", "--commands", "0"];
-    check_program(&rt, &words, SCRIPT, 0, NO_TOTALS, b"")
+    check_program(&rt, &words, SCRIPT, writes(NO_TOTALS));
 }
 
 // Checks the totals of a load of one pass, twice, and that its tallies add up.
@@ -34,17 +33,16 @@ fn check_load<R: Threads + Wait + AllocGlobal + Abort + Sync>(
     words: &[&str],
     commands: u64,
     totals: &str,
-) -> Result<(), Fail> {
-    check_program(rt, words, b"x\n", 0, totals.as_bytes(), b"")?;
-    check_program(rt, words, b"x\n", 0, totals.as_bytes(), b"")?;
-    check_tallies(rt, totals.lines().next().ok_or("a line")?, commands);
-    Ok(())
+) {
+    check_program(rt, words, b"x\n", writes(totals.as_bytes()));
+    check_program(rt, words, b"x\n", writes(totals.as_bytes()));
+    check_tallies(rt, totals.lines().next().expect(rt, "a line"), commands);
 }
 
 // The totals are those of another program,
 // which draws the same commands and serves them by a plain map.
 #[test]
-fn one_pass_counts_as_a_plain_map(rt: HostRuntime) -> Result<(), Fail> {
+fn one_pass_counts_as_a_plain_map(rt: HostRuntime) {
     for (words, commands, totals) in [
         (
             [
@@ -106,13 +104,12 @@ fn one_pass_counts_as_a_plain_map(rt: HostRuntime) -> Result<(), Fail> {
             "p0 commands=500 hit=81 miss=236 stored=56 not_stored=25 exists=3 not_found=53 deleted=17 noroom=0 bucketfull=29 busy=0\ntotal commands=500 keys=17\n",
         ),
     ] {
-        check_load(&rt, words, commands, totals)?;
+        check_load(&rt, words, commands, totals);
     }
-    Ok(())
 }
 
 #[test]
-fn totals_are_one_object(rt: HostRuntime) -> Result<(), Fail> {
+fn totals_are_one_object(rt: HostRuntime) {
     for (words, totals) in [
         (
             ["load", "--format=json", "--seed=7", "--commands=500"].as_slice(),
@@ -127,14 +124,13 @@ fn totals_are_one_object(rt: HostRuntime) -> Result<(), Fail> {
             NO_TOTALS,
         ),
     ] {
-        check_program(&rt, words, b"", 0, totals, b"")?;
+        check_program(&rt, words, b"", writes(totals));
     }
-    Ok(())
 }
 
 // With room for its keys a load of one pass counts as a plain map.
 #[test]
-fn a_load_has_a_shape_for_its_keys(rt: HostRuntime) -> Result<(), Fail> {
+fn a_load_has_a_shape_for_its_keys(rt: HostRuntime) {
     let totals =
         "p0 commands=500 hit=113 miss=204 stored=85 not_stored=25 exists=6 not_found=45 deleted=22 noroom=0 bucketfull=0 busy=0\ntotal commands=500 keys=36\n";
     check_load(
@@ -142,7 +138,7 @@ fn a_load_has_a_shape_for_its_keys(rt: HostRuntime) -> Result<(), Fail> {
         &["load", "--for-keys=64", "--seed=7", "--commands=500"],
         500,
         totals,
-    )?;
+    );
     check_program(
         &rt,
         &[
@@ -153,10 +149,10 @@ fn a_load_has_a_shape_for_its_keys(rt: HostRuntime) -> Result<(), Fail> {
             "--format=json",
         ],
         b"",
-        0,
-        b"{\"passes\":[{\"pass\":0,\"commands\":500,\"hit\":113,\"miss\":204,\"stored\":85,\"not_stored\":25,\"exists\":6,\"not_found\":45,\"deleted\":22,\"noroom\":0,\"bucketfull\":0,\"busy\":0}],\"total\":{\"commands\":500,\"keys\":36}}\n",
-        b"",
-    )
+        writes(
+            b"{\"passes\":[{\"pass\":0,\"commands\":500,\"hit\":113,\"miss\":204,\"stored\":85,\"not_stored\":25,\"exists\":6,\"not_found\":45,\"deleted\":22,\"noroom\":0,\"bucketfull\":0,\"busy\":0}],\"total\":{\"commands\":500,\"keys\":36}}\n",
+        ),
+    );
 }
 
 // Checks that the lines begin so.
@@ -186,7 +182,7 @@ fn check_lines(rt: &impl Abort, text: &str) {
 }
 
 #[test]
-fn each_pass_has_a_line(rt: HostRuntime) -> Result<(), Fail> {
+fn each_pass_has_a_line(rt: HostRuntime) {
     let words = [
         "load",
         "--passes=4",
@@ -195,15 +191,14 @@ fn each_pass_has_a_line(rt: HostRuntime) -> Result<(), Fail> {
         "--rows=32",
         "--commands=200",
     ];
-    let ended = run(&rt, &words, b"")?;
+    let ended = run(&rt, &words, b"");
     check_same(&rt, &words, ended.status, 0);
     check_same(&rt, &words, ended.printed.as_slice(), b"");
-    check_lines(&rt, str::from_utf8(ended.written.as_slice())?);
-    Ok(())
+    check_lines(&rt, text_of(&rt, &ended));
 }
 
 #[test]
-fn a_load_has_no_totals_over_a_bad_shape(rt: HostRuntime) -> Result<(), Fail> {
+fn a_load_has_no_totals_over_a_bad_shape(rt: HostRuntime) {
     for (option, fault) in [
         ("--buckets=3", b"bad shape 1\n".as_slice()),
         ("--overflow=65537", b"bad shape 2\n".as_slice()),
@@ -211,8 +206,8 @@ fn a_load_has_no_totals_over_a_bad_shape(rt: HostRuntime) -> Result<(), Fail> {
         ("--segments=1025", b"bad shape 4\n".as_slice()),
         ("--rows=4097", b"bad shape 5\n".as_slice()),
     ] {
-        check_program(&rt, &["load", option], SCRIPT, 3, b"", fault)?;
+        check_program(&rt, &["load", option], SCRIPT, fails(3, fault));
     }
     let words = ["load", "--passes=64", "--segments=1024", "--rows=128"];
-    check_program(&rt, &words, SCRIPT, 3, b"", b"bad shape 6\n")
+    check_program(&rt, &words, SCRIPT, fails(3, b"bad shape 6\n"));
 }

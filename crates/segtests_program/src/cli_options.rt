@@ -1,9 +1,10 @@
 //! The options of a shape, at the ends of what they take.
-use crate::cli_runs::{NO_TOTALS, REPLIES, SCRIPT, check_part, check_program, check_same, run};
+use crate::cli_runs::{
+    NO_TOTALS, REPLIES, SCRIPT, check_part, check_program, check_same, fails, run, writes,
+};
 use std::alloc::AllocGlobal;
 use std::process::Abort;
 use std::sync::Wait;
-use std::test::Fail;
 use std::thread::Threads;
 
 /// Checks that the words are a bad command line, and that its text has this part.
@@ -11,8 +12,8 @@ fn check_refused<R: Threads + Wait + AllocGlobal + Abort + Sync>(
     rt: &R,
     words: &[&str],
     part: &str,
-) -> Result<(), Fail> {
-    let ended = run(rt, words, SCRIPT)?;
+) {
+    let ended = run(rt, words, SCRIPT);
     check_same(rt, words, ended.status, 2);
     check_same(rt, words, ended.written.as_slice(), b"");
     check_same(
@@ -23,7 +24,6 @@ fn check_refused<R: Threads + Wait + AllocGlobal + Abort + Sync>(
     );
     check_part(rt, words, ended.printed.as_slice(), part);
     check_same(rt, words, ended.flushes, (1, 1));
-    Ok(())
 }
 
 /// Checks that the option stands once, and has a number that is under this one.
@@ -32,42 +32,40 @@ fn check_numbers<R: Threads + Wait + AllocGlobal + Abort + Sync>(
     command: &str,
     option: &str,
     above: &str,
-) -> Result<(), Fail> {
+) {
     for number in [above, "-1", "x", "", "1.5"] {
-        check_refused(rt, &[command, option, number], "error: ")?;
+        check_refused(rt, &[command, option, number], "error: ");
     }
-    check_refused(rt, &[command, option, above], option)?;
-    check_refused(rt, &[command, option], option)?;
-    check_refused(rt, &[command, option, "1", option, "1"], option)
+    check_refused(rt, &[command, option, above], option);
+    check_refused(rt, &[command, option], option);
+    check_refused(rt, &[command, option, "1", option, "1"], option);
 }
 
 #[test]
-fn an_option_takes_32_bits(rt: HostRuntime) -> Result<(), Fail> {
+fn an_option_takes_32_bits(rt: HostRuntime) {
     for (option, fault) in [
         ("--buckets", b"bad shape 1\n".as_slice()),
         ("--passes", b"bad shape 3\n".as_slice()),
         ("--segments", b"bad shape 4\n".as_slice()),
         ("--rows", b"bad shape 5\n".as_slice()),
     ] {
-        check_program(&rt, &["script", option, "0"], SCRIPT, 3, b"", fault)?;
-        check_program(&rt, &["script", option, "1"], SCRIPT, 0, REPLIES, b"")?;
+        check_program(&rt, &["script", option, "0"], SCRIPT, fails(3, fault));
+        check_program(&rt, &["script", option, "1"], SCRIPT, writes(REPLIES));
         let words = ["script", option, "4294967295"];
-        check_program(&rt, &words, SCRIPT, 3, b"", fault)?;
+        check_program(&rt, &words, SCRIPT, fails(3, fault));
     }
-    Ok(())
 }
 
 #[test]
-fn a_first_version_is_any_number_of_32_bits(rt: HostRuntime) -> Result<(), Fail> {
+fn a_first_version_is_any_number_of_32_bits(rt: HostRuntime) {
     for version in ["0", "1", "4294967295"] {
         let words = ["script", "--first-version", version];
-        check_program(&rt, &words, SCRIPT, 0, REPLIES, b"")?;
+        check_program(&rt, &words, SCRIPT, writes(REPLIES));
     }
-    Ok(())
 }
 
 #[test]
-fn an_option_stands_once_and_has_a_number(rt: HostRuntime) -> Result<(), Fail> {
+fn an_option_stands_once_and_has_a_number(rt: HostRuntime) {
     for (command, option, above) in [
         ("script", "--buckets", "4294967296"),
         ("script", "--overflow", "4294967296"),
@@ -81,26 +79,25 @@ fn an_option_stands_once_and_has_a_number(rt: HostRuntime) -> Result<(), Fail> {
         ("load", "--for-keys", "425985"),
         ("script", "--for-keys", "425985"),
     ] {
-        check_numbers(&rt, command, option, above)?;
+        check_numbers(&rt, command, option, above);
     }
-    Ok(())
 }
 
 #[test]
-fn a_load_takes_a_seed_and_a_number_of_commands(rt: HostRuntime) -> Result<(), Fail> {
+fn a_load_takes_a_seed_and_a_number_of_commands(rt: HostRuntime) {
     for seed in ["0", "1", "18446744073709551615"] {
         let words = ["load", "--commands", "0", "--seed", seed];
-        check_program(&rt, &words, b"", 0, NO_TOTALS, b"")?;
+        check_program(&rt, &words, b"", writes(NO_TOTALS));
     }
     // Without rows the most commands there are take no time.
     let words = ["load", "--commands", "4294967295", "--rows", "0"];
-    check_program(&rt, &words, b"", 3, b"", b"bad shape 5\n")
+    check_program(&rt, &words, b"", fails(3, b"bad shape 5\n"));
 }
 
 #[test]
-fn a_load_makes_one_command(rt: HostRuntime) -> Result<(), Fail> {
+fn a_load_makes_one_command(rt: HostRuntime) {
     let words = ["load", "--commands", "1"];
-    let ended = run(&rt, &words, b"")?;
+    let ended = run(&rt, &words, b"");
     check_same(&rt, &words, ended.status, 0);
     check_part(
         &rt,
@@ -108,20 +105,18 @@ fn a_load_makes_one_command(rt: HostRuntime) -> Result<(), Fail> {
         ended.written.as_slice(),
         "\ntotal commands=1 keys=",
     );
-    Ok(())
 }
 
 #[test]
-fn a_load_takes_1_to_1000000_keys(rt: HostRuntime) -> Result<(), Fail> {
+fn a_load_takes_1_to_1000000_keys(rt: HostRuntime) {
     for keys in ["1", "64", "+64", "1000000"] {
         let words = ["load", "--commands", "0", "--keys", keys];
-        check_program(&rt, &words, b"", 0, NO_TOTALS, b"")?;
+        check_program(&rt, &words, b"", writes(NO_TOTALS));
     }
-    Ok(())
 }
 
 #[test]
-fn a_bad_option_of_a_load_is_refused(rt: HostRuntime) -> Result<(), Fail> {
+fn a_bad_option_of_a_load_is_refused(rt: HostRuntime) {
     for (words, part) in [
         (["load", "--keys", "0"].as_slice(), "--keys"),
         (["load", "--keys", "x"].as_slice(), "--keys"),
@@ -144,78 +139,67 @@ fn a_bad_option_of_a_load_is_refused(rt: HostRuntime) -> Result<(), Fail> {
         // The option takes no value, so the number is a word too many.
         (["load", "--progress", "1"].as_slice(), "'1'"),
     ] {
-        check_refused(&rt, words, part)?;
+        check_refused(&rt, words, part);
     }
-    Ok(())
 }
 
 #[test]
-fn a_load_may_tell_its_progress(rt: HostRuntime) -> Result<(), Fail> {
+fn a_load_may_tell_its_progress(rt: HostRuntime) {
     for words in [
         ["load", "--progress", "--commands", "0"].as_slice(),
         ["load", "--commands", "0", "--progress"].as_slice(),
     ] {
-        check_program(&rt, words, b"", 0, NO_TOTALS, b"")?;
+        check_program(&rt, words, b"", writes(NO_TOTALS));
     }
-    Ok(())
 }
 
 // The file is opened by `main`, which hands in what it reads.
 #[test]
-fn a_file_and_explain_change_no_reply(rt: HostRuntime) -> Result<(), Fail> {
+fn a_file_and_explain_change_no_reply(rt: HostRuntime) {
     for words in [
         ["script", "-"].as_slice(),
         ["script", "file"].as_slice(),
         ["script", "--explain"].as_slice(),
         ["script", "--explain", "--rows=8", "file"].as_slice(),
     ] {
-        check_program(&rt, words, SCRIPT, 0, REPLIES, b"")?;
-        check_program(&rt, words, b"x\n", 2, b"", b"bad line 1\n")?;
+        check_program(&rt, words, SCRIPT, writes(REPLIES));
+        check_program(&rt, words, b"x\n", fails(2, b"bad line 1\n"));
     }
-    Ok(())
 }
 
 #[test]
-fn each_option_changes_its_own_part(rt: HostRuntime) -> Result<(), Fail> {
+fn each_option_changes_its_own_part(rt: HostRuntime) {
     // The second pass, and the second segment of the first.
     check_program(
         &rt,
         &["script", "--passes", "2", "--segments", "2"],
         b"p0 refill 1 4294967295\np1 refill 1 4294967295\np1 refill 3 4294967295\np1 refill 4 4294967295\n",
-        0,
-        b"REFILLED\nNOT_YOURS\nREFILLED\nNOT_YOURS\n",
-        b"",
-    )?;
+        writes(b"REFILLED\nNOT_YOURS\nREFILLED\nNOT_YOURS\n"),
+    );
     check_program(
         &rt,
         &["script", "--rows", "1"],
         b"p0 refill 0 4294967295\np0 set a 1 @0\np0 set a 2 @0\n",
-        0,
-        b"REFILLED\nSTORED\nNOROOM\n",
-        b"",
-    )?;
+        writes(b"REFILLED\nSTORED\nNOROOM\n"),
+    );
     // Over two buckets the keys a and b have one each.
     let locks = b"p0 lock a\np1 lock b\n";
     check_program(
         &rt,
         &["script", "--passes=2", "--buckets=2"],
         locks,
-        0,
-        b"LOCKED\nLOCKED\n",
-        b"",
-    )?;
+        writes(b"LOCKED\nLOCKED\n"),
+    );
     check_program(
         &rt,
         &["script", "--passes=2", "--buckets=1"],
         locks,
-        0,
-        b"LOCKED\nBUSY\n",
-        b"",
-    )
+        writes(b"LOCKED\nBUSY\n"),
+    );
 }
 
 #[test]
-fn a_full_bucket_takes_an_overflow_bucket(rt: HostRuntime) -> Result<(), Fail> {
+fn a_full_bucket_takes_an_overflow_bucket(rt: HostRuntime) {
     let script =
         b"p0 refill 0 4294967295\np0 set a 1 @0\np0 set b 1 @0\np0 set c 1 @0\np0 set d 1 @0\np0 set e 1 @0\np0 set f 1 @0\np0 set g 1 @0\np0 set h 1 @0\np0 get h @0\n";
     let full =
@@ -228,23 +212,21 @@ fn a_full_bucket_takes_an_overflow_bucket(rt: HostRuntime) -> Result<(), Fail> {
         ("65536", grown.as_slice()),
     ] {
         let words = ["script", "--overflow", overflow, "--rows", "8"];
-        check_program(&rt, &words, script, 0, replies, b"")?;
+        check_program(&rt, &words, script, writes(replies));
     }
-    Ok(())
 }
 
 #[test]
-fn more_than_65536_overflow_buckets_are_refused(rt: HostRuntime) -> Result<(), Fail> {
+fn more_than_65536_overflow_buckets_are_refused(rt: HostRuntime) {
     for overflow in ["65537", "4294967295"] {
         let words = ["script", "--overflow", overflow];
-        check_program(&rt, &words, SCRIPT, 3, b"", b"bad shape 2\n")?;
+        check_program(&rt, &words, SCRIPT, fails(3, b"bad shape 2\n"));
     }
-    Ok(())
 }
 
 // Two passes have 64 segments of one row each.
 #[test]
-fn a_shape_is_for_its_keys(rt: HostRuntime) -> Result<(), Fail> {
+fn a_shape_is_for_its_keys(rt: HostRuntime) {
     let script =
         b"p0 refill 63 4294967295\np1 refill 127 4294967295\np1 refill 128 4294967295\np0 set a 1 @0\np0 set b 1 @0\np0 set c 1 @0\n";
     for (words, replies) in [
@@ -258,17 +240,16 @@ fn a_shape_is_for_its_keys(rt: HostRuntime) -> Result<(), Fail> {
             b"REFILLED\nREFILLED\nNOT_YOURS\nSTORED\nSTORED\nNOROOM\n".as_slice(),
         ),
     ] {
-        check_program(&rt, words, script, 0, replies, b"")?;
+        check_program(&rt, words, script, writes(replies));
     }
     for passes in ["--passes=0", "--passes=65"] {
         let words = ["script", "--for-keys=10", passes];
-        check_program(&rt, &words, script, 3, b"", b"bad shape 3\n")?;
+        check_program(&rt, &words, script, fails(3, b"bad shape 3\n"));
     }
-    Ok(())
 }
 
 #[test]
-fn a_bad_shape_has_a_reason(rt: HostRuntime) -> Result<(), Fail> {
+fn a_bad_shape_has_a_reason(rt: HostRuntime) {
     for (option, printed) in [
         (
             "--buckets=3",
@@ -281,7 +262,7 @@ fn a_bad_shape_has_a_reason(rt: HostRuntime) -> Result<(), Fail> {
     ] {
         for command in ["script", "load"] {
             let words = [command, "--explain", option];
-            check_program(&rt, &words, SCRIPT, 3, b"", printed)?;
+            check_program(&rt, &words, SCRIPT, fails(3, printed));
         }
     }
     let words = [
@@ -292,11 +273,11 @@ fn a_bad_shape_has_a_reason(rt: HostRuntime) -> Result<(), Fail> {
         "--rows=128",
     ];
     let printed = b"bad shape 6\nthe table: at most 67108864 words of 8 bytes\n";
-    check_program(&rt, &words, SCRIPT, 3, b"", printed)
+    check_program(&rt, &words, SCRIPT, fails(3, printed));
 }
 
 #[test]
-fn a_bad_command_line_says_what_is_wrong(rt: HostRuntime) -> Result<(), Fail> {
+fn a_bad_command_line_says_what_is_wrong(rt: HostRuntime) {
     for (words, part) in [
         (["--rows", "4"].as_slice(), "--rows"),
         (["scrpt"].as_slice(), "script"),
@@ -326,7 +307,6 @@ fn a_bad_command_line_says_what_is_wrong(rt: HostRuntime) -> Result<(), Fail> {
         (["help", "lode"].as_slice(), "lode"),
         (["help", "-x"].as_slice(), "segrun"),
     ] {
-        check_refused(&rt, words, part)?;
+        check_refused(&rt, words, part);
     }
-    Ok(())
 }

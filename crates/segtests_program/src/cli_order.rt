@@ -7,7 +7,6 @@ use segcli::Streams;
 use segscript::{Failed, MemSink, MemSource, Sink};
 use std::alloc::{AllocError, Global};
 use std::cell::Cell;
-use std::test::Fail;
 
 /// A writer that keeps when it was flushed last, and when it was written to first.
 /// Each call of the writer is a tick of the clock. 0 stands for never.
@@ -65,7 +64,7 @@ fn timed(alloc: Global, clock: &Cell<u32>) -> Result<TimedSink<'_>, AllocError>
 }
 
 #[test]
-fn the_writer_is_flushed_before_a_fault_is_printed(rt: HostRuntime) -> Result<(), Fail> {
+fn the_writer_is_flushed_before_a_fault_is_printed(rt: HostRuntime) {
     for words in [
         ["script", "--buckets", "3"].as_slice(),
         ["script", "--rows", "2"].as_slice(),
@@ -75,13 +74,12 @@ fn the_writer_is_flushed_before_a_fault_is_printed(rt: HostRuntime) -> Result<()
         let clock = Cell::new(0);
         let mut streams = Streams {
             source: MemSource::new(b"p0 refill 0 4294967295\nx\n"),
-            writer: timed(rt.alloc(), &clock)?,
-            errors: timed(rt.alloc(), &clock)?,
+            writer: timed(rt.alloc(), &clock).expect(&rt, "memory for a writer"),
+            errors: timed(rt.alloc(), &clock).expect(&rt, "memory for a writer"),
         };
-        let status = run_over(&rt, words, &mut streams)?;
+        let status = run_over(&rt, words, &mut streams);
         let (flushed, printed) = (streams.writer.flushed_at, streams.errors.written_at);
         assert!(rt; status != 0, "{words:?}");
         assert!(rt; 0 < flushed && flushed < printed, "{words:?}");
     }
-    Ok(())
 }

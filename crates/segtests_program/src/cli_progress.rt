@@ -1,12 +1,11 @@
 //! What a watch sees of a load, and its line of progress.
-use crate::cli_runs::{Ended, SOUND, check_ended, check_same, run_watched};
+use crate::cli_runs::{Ended, check_ended, check_same, run_watched, writes};
 use segcli::{Watch, progress_line};
-use std::alloc::{AllocError, AllocGlobal, Global};
+use std::alloc::AllocGlobal;
 use std::process::Abort;
 use std::sync::Wait;
 use std::sync::atomic::AtomicU64;
 use std::sync::atomic::Ordering::SeqCst;
-use std::test::Fail;
 use std::thread::{Threads, yield_now};
 
 // How often the first call of a watch lets other threads go first.
@@ -69,12 +68,12 @@ impl Watch for Seen {
 }
 
 /// Runs a load while the watch looks on, with devices that don't fail.
-fn run_seen<R: Threads + Wait + AllocGlobal + Sync>(
+fn run_seen<R: Threads + Wait + AllocGlobal + Abort + Sync>(
     rt: &R,
     words: &[&str],
     seen: &Seen,
-) -> Result<Ended, AllocError> {
-    run_watched(rt, words, b"", SOUND, seen)
+) -> Ended {
+    run_watched(rt, words, seen)
 }
 
 /// Checks how a load ends, and what a watch sees of it.
@@ -83,12 +82,11 @@ fn check_watched<R: Threads + Wait + AllocGlobal + Abort + Sync>(
     words: &[&str],
     seen: &Seen,
     calls: u64,
-) -> Result<(), Fail> {
-    let ended = run_seen(rt, words, seen)?;
+) {
+    let ended = run_seen(rt, words, seen);
     check_same(rt, words, ended.status, 0);
     check_same(rt, words, ended.printed.as_slice(), b"");
     check_same(rt, words, seen.calls.load(SeqCst), calls);
-    Ok(())
 }
 
 /// Checks what a watch sees of a load of one pass.
@@ -97,47 +95,46 @@ fn check_seen<R: Threads + Wait + AllocGlobal + Abort + Sync>(
     words: &[&str],
     calls: u64,
     told: [(u64, u64); 4],
-) -> Result<(), Fail> {
+) {
     let seen = Seen::new();
-    check_watched(rt, words, &seen, calls)?;
+    check_watched(rt, words, &seen, calls);
     check_same(rt, words, seen.told(), told);
-    Ok(())
 }
 
 // The watch is called after each 1,024 commands of pass 0.
 #[test]
-fn a_watch_sees_each_1024_commands(rt: HostRuntime) -> Result<(), Fail> {
+fn a_watch_sees_each_1024_commands(rt: HostRuntime) {
     let none = [(0, 0); 4];
-    check_seen(&rt, &["load", "--progress", "--commands", "0"], 0, none)?;
-    check_seen(&rt, &["load", "--progress", "--commands", "1023"], 0, none)?;
+    check_seen(&rt, &["load", "--progress", "--commands", "0"], 0, none);
+    check_seen(&rt, &["load", "--progress", "--commands", "1023"], 0, none);
     check_seen(
         &rt,
         &["load", "--progress", "--commands", "1024"],
         1,
         [(1024, 1024), (0, 0), (0, 0), (0, 0)],
-    )?;
+    );
     check_seen(
         &rt,
         &["load", "--progress", "--commands", "4096"],
         4,
         [(1024, 4096), (2048, 4096), (3072, 4096), (4096, 4096)],
-    )?;
+    );
     check_seen(
         &rt,
         &["load", "--progress", "--commands", "5119"],
         4,
         [(1024, 5119), (2048, 5119), (3072, 5119), (4096, 5119)],
-    )
+    );
 }
 
 #[test]
-fn a_watch_sees_nothing_without_the_option(rt: HostRuntime) -> Result<(), Fail> {
-    check_seen(&rt, &["load", "--commands", "4096"], 0, [(0, 0); 4])
+fn a_watch_sees_nothing_without_the_option(rt: HostRuntime) {
+    check_seen(&rt, &["load", "--commands", "4096"], 0, [(0, 0); 4]);
 }
 
 // The calls are those of pass 0, and they tell the commands of all passes: 3 times 2,048.
 #[test]
-fn a_watch_sees_the_commands_of_all_passes(rt: HostRuntime) -> Result<(), Fail> {
+fn a_watch_sees_the_commands_of_all_passes(rt: HostRuntime) {
     let words = [
         "load",
         "--passes=3",
@@ -146,7 +143,7 @@ fn a_watch_sees_the_commands_of_all_passes(rt: HostRuntime) -> Result<(), Fail> 
         "--progress",
     ];
     let seen = Seen::new();
-    check_watched(&rt, &words, &seen, 2)?;
+    check_watched(&rt, &words, &seen, 2);
     let told = seen.told();
     let [(first, _), (second, _), _, _] = told;
     check_same(
@@ -159,7 +156,6 @@ fn a_watch_sees_the_commands_of_all_passes(rt: HostRuntime) -> Result<(), Fail> 
         1024 <= first && first < second && 2048 < second && second <= 6144,
         "{told:?}"
     );
-    Ok(())
 }
 
 /// Checks the totals of a load of one pass, with a watch.
@@ -167,16 +163,15 @@ fn check_totals<R: Threads + Wait + AllocGlobal + Abort + Sync>(
     rt: &R,
     words: &[&str],
     totals: &str,
-) -> Result<(), Fail> {
-    let ended = run_seen(rt, words, &Seen::new())?;
-    check_ended(rt, words, &ended, 0, totals.as_bytes(), b"");
+) {
+    let ended = run_seen(rt, words, &Seen::new());
+    check_ended(rt, words, &ended, writes(totals.as_bytes()));
     check_same(rt, words, ended.flushes, (1, 0));
-    Ok(())
 }
 
 // The totals are those of another program, with the option and without it.
 #[test]
-fn a_watch_changes_no_totals(rt: HostRuntime) -> Result<(), Fail> {
+fn a_watch_changes_no_totals(rt: HostRuntime) {
     let short =
         "p0 commands=500 hit=113 miss=204 stored=85 not_stored=25 exists=6 not_found=45 deleted=22 noroom=0 bucketfull=0 busy=0\ntotal commands=500 keys=36\n";
     let shape = ["load", "--buckets=16", "--segments=2", "--rows=128"];
@@ -190,44 +185,40 @@ fn a_watch_changes_no_totals(rt: HostRuntime) -> Result<(), Fail> {
         "--seed=7",
         "--progress",
     ];
-    check_totals(&rt, &words[..6], short)?;
-    check_totals(&rt, &words, short)?;
+    check_totals(&rt, &words[..6], short);
+    check_totals(&rt, &words, short);
     let usual =
         "p0 commands=1000 hit=303 miss=311 stored=165 not_stored=53 exists=18 not_found=95 deleted=55 noroom=0 bucketfull=0 busy=0\ntotal commands=1000 keys=37\n";
-    check_totals(&rt, &shape, usual)?;
-    check_totals(&rt, &[load, buckets, segments, rows, "--progress"], usual)
+    check_totals(&rt, &shape, usual);
+    check_totals(&rt, &[load, buckets, segments, rows, "--progress"], usual);
 }
 
 // More commands than a watch is called after, with the option and without it.
 #[test]
-fn a_watch_that_is_called_changes_no_totals(rt: HostRuntime) -> Result<(), Fail> {
+fn a_watch_that_is_called_changes_no_totals(rt: HostRuntime) {
     let shape = ["load", "--commands=5000", "--buckets=8", "--rows=64"];
-    let plain = run_seen(&rt, &shape, &Seen::new())?;
+    let plain = run_seen(&rt, &shape, &Seen::new());
     let [load, commands, buckets, rows] = shape;
     let seen = Seen::new();
     let words = [load, commands, buckets, rows, "--progress"];
-    let watched = run_seen(&rt, &words, &seen)?;
+    let watched = run_seen(&rt, &words, &seen);
     check_same(&rt, &shape, plain.status, 0);
-    check_ended(&rt, &words, &watched, 0, plain.written.as_slice(), b"");
+    check_ended(&rt, &words, &watched, writes(plain.written.as_slice()));
     check_same(&rt, &words, seen.calls.load(SeqCst), 4);
-    Ok(())
 }
 
-fn check_line(
-    rt: &impl Abort,
-    alloc: Global,
-    made: u64,
-    of: u64,
+fn check_line<R: AllocGlobal + Abort>(
+    rt: &R,
+    (made, of): (u64, u64),
     each_second: Option<u128>,
     line: &str,
-) -> Result<(), Fail> {
-    let text = progress_line(alloc, made, of, each_second)?;
+) {
+    let text = progress_line(rt.alloc(), made, of, each_second).expect(rt, "memory for a line");
     assert_eq!(rt; text.as_slice(), line.as_bytes(), "{line}");
-    Ok(())
 }
 
 #[test]
-fn a_line_tells_commands_share_and_rate(rt: HostRuntime) -> Result<(), Fail> {
+fn a_line_tells_commands_share_and_rate(rt: HostRuntime) {
     for (made, of, each_second, line) in [
         (0, 0, None, "0 of 0, 0 %\n"),
         (
@@ -246,7 +237,6 @@ fn a_line_tells_commands_share_and_rate(rt: HostRuntime) -> Result<(), Fail> {
             "18446744073709551615 of 18446744073709551615, 100 %, 340282366920938463463374607431768211455 a second\n",
         ),
     ] {
-        check_line(&rt, rt.alloc(), made, of, each_second, line)?;
+        check_line(&rt, (made, of), each_second, line);
     }
-    Ok(())
 }

@@ -1,11 +1,11 @@
 //! Why a line is bad: what the program prints of the first bad line of a script.
 use crate::cli_runs::{check_same, run_over};
+use crate::same::same;
 use segcli::{Streams, bad_line_text};
 use segscript::{Explaining, MemSink, MemSource};
-use std::alloc::AllocGlobal;
+use std::alloc::{AllocError, AllocGlobal, Global};
 use std::process::Abort;
 use std::sync::Wait;
-use std::test::Fail;
 use std::thread::Threads;
 
 // Runs a script, and checks the line of its fault and the reason that is given for it.
@@ -14,26 +14,34 @@ fn check_reason<R: Threads + Wait + AllocGlobal + Abort + Sync>(
     script: &[u8],
     printed: &[u8],
     reason: &str,
-) -> Result<(), Fail> {
+) {
     let words = ["script", "--explain"];
     let mut streams = Streams {
         source: Explaining::new(MemSource::new(script), 1),
-        writer: MemSink::new(rt.alloc(), 1_000)?,
-        errors: MemSink::new(rt.alloc(), 1_000)?,
+        writer: MemSink::new(rt.alloc(), 1_000).expect(rt, "memory for a writer"),
+        errors: MemSink::new(rt.alloc(), 1_000).expect(rt, "memory for a writer"),
     };
-    let status = run_over(rt, &words, &mut streams)?;
+    let status = run_over(rt, &words, &mut streams);
     check_same(rt, &words, status, if printed.is_empty() { 0 } else { 2 });
     check_same(rt, &words, streams.errors.taken.as_slice(), printed);
     let text = match streams.source.bad_line() {
-        Some(bad) => bad_line_text(rt.alloc(), bad)?,
+        Some(bad) => bad_line_text(rt.alloc(), bad).expect(rt, "memory for a reason"),
         None => Vec::new(rt.alloc()),
     };
-    assert_eq!(rt; str::from_utf8(text.as_slice())?, reason);
-    Ok(())
+    same(rt, &str::from_utf8(text.as_slice()), &Ok(reason));
+}
+
+// A script whose second line is this one.
+fn script_with(alloc: Global, line: &[u8]) -> Result<Vec<u8>, AllocError> {
+    let mut script = Vec::new(alloc);
+    script.extend_from_slice(b"p0 release\n")?;
+    script.extend_from_slice(line)?;
+    script.push(b'\n')?;
+    Ok(script)
 }
 
 #[test]
-fn each_way_to_be_bad_has_a_reason(rt: HostRuntime) -> Result<(), Fail> {
+fn each_way_to_be_bad_has_a_reason(rt: HostRuntime) {
     for (line, reason) in [
         (
             b"p0  held".as_slice(),
@@ -97,51 +105,57 @@ fn each_way_to_be_bad_has_a_reason(rt: HostRuntime) -> Result<(), Fail> {
         (b"p0 held a b c d e f g", "8: no word stands here"),
         (b"# a comment", "1: a pass is p and its number, as p0"),
     ] {
-        let mut script = Vec::new(rt.alloc());
-        script.extend_from_slice(b"p0 release\n")?;
-        script.extend_from_slice(line)?;
-        script.push(b'\n')?;
-        let text = format!(in rt.alloc(); "line 2, word {reason}\n")?;
-        check_reason(&rt, script.as_slice(), b"bad line 2\n", text.as_str())?;
+        let mut script = script_with(rt.alloc(), line).expect(&rt, "memory for a script");
+        let text = format!(in rt.alloc(); "line 2, word {reason}\n").expect(
+            &rt,
+            "memory for a reason",
+        );
+        check_reason(&rt, script.as_slice(), b"bad line 2\n", text.as_str());
         // The last line may have no end.
         script.pop();
-        check_reason(&rt, script.as_slice(), b"bad line 2\n", text.as_str())?;
+        check_reason(&rt, script.as_slice(), b"bad line 2\n", text.as_str());
     }
-    Ok(())
 }
 
-#[test]
-fn a_long_line_has_a_reason(rt: HostRuntime) -> Result<(), Fail> {
-    let text = "line 2: it has more than 128 bytes\n";
-    let mut script = Vec::new(rt.alloc());
+// A script whose second line is too long, and has no end.
+fn long_script(alloc: Global) -> Result<Vec<u8>, AllocError> {
+    let mut script = Vec::new(alloc);
     script.extend_from_slice(b"\np0 get ")?;
     for _ in 0..122 {
         script.push(b'a')?;
     }
-    check_reason(&rt, script.as_slice(), b"bad line 2\n", text)?;
-    script.extend_from_slice(b"aaa\n")?;
-    check_reason(&rt, script.as_slice(), b"bad line 2\n", text)
+    Ok(script)
 }
 
 #[test]
-fn the_first_bad_line_is_told(rt: HostRuntime) -> Result<(), Fail> {
+fn a_long_line_has_a_reason(rt: HostRuntime) {
+    let text = "line 2: it has more than 128 bytes\n";
+    let mut script = long_script(rt.alloc()).expect(&rt, "memory for a script");
+    check_reason(&rt, script.as_slice(), b"bad line 2\n", text);
+    script
+        .extend_from_slice(b"aaa\n")
+        .expect(&rt, "memory for a script");
+    check_reason(&rt, script.as_slice(), b"bad line 2\n", text);
+}
+
+#[test]
+fn the_first_bad_line_is_told(rt: HostRuntime) {
     check_reason(
         &rt,
         b"p0 held\n\nx\np0 lock\n",
         b"bad line 3\n",
         "line 3, word 1: a pass is p and its number, as p0\n",
-    )
+    );
 }
 
 #[test]
-fn a_good_script_has_no_reason(rt: HostRuntime) -> Result<(), Fail> {
+fn a_good_script_has_no_reason(rt: HostRuntime) {
     for script in [
         b"".as_slice(),
         b"\n\n",
         b"p0 refill 0 4294967295\np0 set a - @0\np0 cas a 1 0 @4294967295\np0 keep 0 255\n",
         b"p0 evict 0\np0 get a @0\np0 lock abcdefghijklmnopqrstuvwx\np0 unlock",
     ] {
-        check_reason(&rt, script, b"", "")?;
+        check_reason(&rt, script, b"", "");
     }
-    Ok(())
 }

@@ -7,7 +7,6 @@ use std::alloc::{AllocError, AllocGlobal, Global};
 use std::fmt::Debug;
 use std::process::Abort;
 use std::sync::Wait;
-use std::test::Fail;
 use std::thread::Threads;
 
 /// A script of three lines, and its replies.
@@ -48,6 +47,32 @@ pub struct Ended {
     pub flushes: (u64, u64),
 }
 
+/// How a run of the program has to end: its status, what it writes and what it prints.
+#[derive(Clone, Copy)]
+pub struct End<'e> {
+    pub status: u8,
+    pub written: &'e [u8],
+    pub printed: &'e [u8],
+}
+
+/// The end of a run without a fault, which prints nothing.
+pub fn writes(written: &[u8]) -> End<'_> {
+    End {
+        status: 0,
+        written,
+        printed: b"",
+    }
+}
+
+/// The end of a run with a fault, which writes nothing.
+pub fn fails(status: u8, printed: &[u8]) -> End<'_> {
+    End {
+        status,
+        written: b"",
+        printed,
+    }
+}
+
 /// The words as the program gets them.
 pub fn words_of(alloc: Global, words: &[&str]) -> Result<Vec<String>, AllocError> {
     let mut list = Vec::new(alloc);
@@ -59,32 +84,17 @@ pub fn words_of(alloc: Global, words: &[&str]) -> Result<Vec<String>, AllocError
 
 /// Runs the program over these devices. The tests stand on this call:
 /// at one of `run_program` the proof of a test would have to read its whole contract.
-pub fn run_over<R: Threads + Wait + AllocGlobal + Sync, S: Source, W: Sink, E: Sink>(
+pub fn run_over<R: Threads + Wait + AllocGlobal + Abort + Sync, S: Source, W: Sink, E: Sink>(
     rt: &R,
     words: &[&str],
     streams: &mut Streams<S, W, E>,
-) -> Result<u8, AllocError>
+) -> u8
     requires source_works { S.has_failed streams.old.source ≡ false }
     requires writer_works { W.has_failed streams.old.writer ≡ false }
     requires errors_work { E.has_failed streams.old.errors ≡ false }
 {
-    let words = words_of(rt.alloc(), words)?;
-    Ok(run_program(rt, rt.alloc(), words.as_slice(), streams))
-}
-
-/// Runs the program over these devices while a watch looks on.
-fn run_over_watched<R: Threads + Wait + AllocGlobal + Sync, S: Source, W: Sink, E: Sink, V: Watch>(
-    rt: &R,
-    words: &[&str],
-    streams: &mut Streams<S, W, E>,
-    watch: &V,
-) -> Result<u8, AllocError>
-    requires source_works { S.has_failed streams.old.source ≡ false }
-    requires writer_works { W.has_failed streams.old.writer ≡ false }
-    requires errors_work { E.has_failed streams.old.errors ≡ false }
-{
-    let words = words_of(rt.alloc(), words)?;
-    Ok(run_program_watched(rt, rt.alloc(), words.as_slice(), streams, watch))
+    let words = words_of(rt.alloc(), words).expect(rt, "memory for words");
+    run_program(rt, rt.alloc(), words.as_slice(), streams)
 }
 
 fn reader_of(script: &[u8], good: Option<usize>) -> MemSource<'_>
@@ -109,27 +119,29 @@ fn writer_of(
     Ok(writer)
 }
 
-// A reader of the script and two writers, which do this.
-fn streams_of(
-    alloc: Global,
-    script: &[u8],
+/// A reader of the script and two writers, which do this.
+pub fn streams_of<'s, R: AllocGlobal + Abort>(
+    rt: &R,
+    script: &'s [u8],
     devices: Devices,
-) -> Result<Streams<MemSource<'_>, MemSink, MemSink>, AllocError>
-    ensures source { IfOk result (λ streams. streams.source.failed ≡ false) }
-    ensures writer { IfOk result (λ streams. streams.writer.failed ≡ false) }
-    ensures errors { IfOk result (λ streams. streams.errors.failed ≡ false) }
+) -> Streams<MemSource<'s>, MemSink, MemSink>
+    ensures source { result.source.failed ≡ false }
+    ensures writer { result.writer.failed ≡ false }
+    ensures errors { result.errors.failed ≡ false }
 {
     let (room, error_room) = devices.rooms;
     let (fails, error_fails) = devices.flush_fails;
-    Ok(Streams {
+    let writer = writer_of(rt.alloc(), room, devices.when_full, fails);
+    let errors = writer_of(rt.alloc(), error_room, devices.when_full, error_fails);
+    Streams {
         source: reader_of(script, devices.good),
-        writer: writer_of(alloc, room, devices.when_full, fails)?,
-        errors: writer_of(alloc, error_room, devices.when_full, error_fails)?,
-    })
+        writer: writer.expect(rt, "memory for a writer"),
+        errors: errors.expect(rt, "memory for a writer"),
+    }
 }
 
-// What was written and printed by a run that ended with this status.
-fn end_of(status: u8, streams: Streams<MemSource<'_>, MemSink, MemSink>) -> Ended {
+/// What was written and printed by a run that ended with this status.
+pub fn end_of(status: u8, streams: Streams<MemSource<'_>, MemSink, MemSink>) -> Ended {
     let Streams { writer, errors, .. } = streams;
     Ended {
         status,
@@ -140,37 +152,41 @@ fn end_of(status: u8, streams: Streams<MemSource<'_>, MemSink, MemSink>) -> Ende
 }
 
 /// Runs the program over devices in memory while a watch looks on.
-pub fn run_watched<R: Threads + Wait + AllocGlobal + Sync, V: Watch>(
+pub fn run_watched<R: Threads + Wait + AllocGlobal + Abort + Sync, V: Watch>(
     rt: &R,
     words: &[&str],
-    script: &[u8],
-    devices: Devices,
     watch: &V,
-) -> Result<Ended, AllocError> {
-    let mut streams = streams_of(rt.alloc(), script, devices)?;
-    let status = run_over_watched(rt, words, &mut streams, watch)?;
-    Ok(end_of(status, streams))
+) -> Ended {
+    let words = words_of(rt.alloc(), words).expect(rt, "memory for words");
+    let mut streams = streams_of(rt, b"", SOUND);
+    let status = run_program_watched(rt, rt.alloc(), words.as_slice(), &mut streams, watch);
+    end_of(status, streams)
 }
 
 /// Runs the program over devices in memory.
-pub fn run_with<R: Threads + Wait + AllocGlobal + Sync>(
+pub fn run_with<R: Threads + Wait + AllocGlobal + Abort + Sync>(
     rt: &R,
     words: &[&str],
     script: &[u8],
     devices: Devices,
-) -> Result<Ended, AllocError> {
-    let mut streams = streams_of(rt.alloc(), script, devices)?;
-    let status = run_over(rt, words, &mut streams)?;
-    Ok(end_of(status, streams))
+) -> Ended {
+    let mut streams = streams_of(rt, script, devices);
+    let status = run_over(rt, words, &mut streams);
+    end_of(status, streams)
 }
 
 /// Runs the program with devices that don't fail.
-pub fn run<R: Threads + Wait + AllocGlobal + Sync>(
+pub fn run<R: Threads + Wait + AllocGlobal + Abort + Sync>(
     rt: &R,
     words: &[&str],
     script: &[u8],
-) -> Result<Ended, AllocError> {
+) -> Ended {
     run_with(rt, words, script, SOUND)
+}
+
+/// The text that a run wrote.
+pub fn text_of<'e>(rt: &impl Abort, ended: &'e Ended) -> &'e str {
+    str::from_utf8(ended.written.as_slice()).expect(rt, "a text")
 }
 
 /// Checks one thing that a run with these words came to.
@@ -184,17 +200,10 @@ pub fn check_same<T: Copy + PartialEq + Debug>(
 }
 
 /// Checks what the program wrote, printed and returned.
-pub fn check_ended(
-    rt: &impl Abort,
-    words: &[&str],
-    ended: &Ended,
-    status: u8,
-    written: &[u8],
-    printed: &[u8],
-) {
-    check_same(rt, words, ended.written.as_slice(), written);
-    check_same(rt, words, ended.printed.as_slice(), printed);
-    check_same(rt, words, ended.status, status);
+pub fn check_ended(rt: &impl Abort, words: &[&str], ended: &Ended, end: End<'_>) {
+    check_same(rt, words, ended.written.as_slice(), end.written);
+    check_same(rt, words, ended.printed.as_slice(), end.printed);
+    check_same(rt, words, ended.status, end.status);
 }
 
 /// Checks what the program writes, prints and returns,
@@ -203,14 +212,11 @@ pub fn check_program<R: Threads + Wait + AllocGlobal + Abort + Sync>(
     rt: &R,
     words: &[&str],
     script: &[u8],
-    status: u8,
-    written: &[u8],
-    printed: &[u8],
-) -> Result<(), Fail> {
-    let ended = run(rt, words, script)?;
-    check_ended(rt, words, &ended, status, written, printed);
-    check_same(rt, words, ended.flushes, (1, u64::from(status != 0)));
-    Ok(())
+    end: End<'_>,
+) {
+    let ended = run(rt, words, script);
+    check_ended(rt, words, &ended, end);
+    check_same(rt, words, ended.flushes, (1, u64::from(end.status != 0)));
 }
 
 /// Checks that the bytes are a text that has this part.

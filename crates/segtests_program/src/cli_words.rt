@@ -1,21 +1,20 @@
 //! Item words that are explained.
-use crate::cli_runs::check_program;
+use crate::cli_runs::{check_program, fails, writes};
 use std::alloc::AllocGlobal;
 use std::process::Abort;
 use std::sync::Wait;
-use std::test::Fail;
 use std::thread::Threads;
 
 fn check_word<R: Threads + Wait + AllocGlobal + Abort + Sync>(
     rt: &R,
     word: &str,
     explanation: &[u8],
-) -> Result<(), Fail> {
-    check_program(rt, &["word", word], b"", 0, explanation, b"")
+) {
+    check_program(rt, &["word", word], b"", writes(explanation));
 }
 
 #[test]
-fn a_word_has_three_readings(rt: HostRuntime) -> Result<(), Fail> {
+fn a_word_has_three_readings(rt: HostRuntime) {
     for (word, explanation) in [
         (
             "af60100000200003",
@@ -33,25 +32,24 @@ fn a_word_has_three_readings(rt: HostRuntime) -> Result<(), Fail> {
             b"item tag=fff freq=255 seg=16777215 row=1048575\n".as_slice(),
         ),
     ] {
-        check_word(&rt, word, explanation)?;
+        check_word(&rt, word, explanation);
     }
-    Ok(())
 }
 
 #[test]
-fn digits_have_either_case(rt: HostRuntime) -> Result<(), Fail> {
+fn digits_have_either_case(rt: HostRuntime) {
     for word in ["AF60100000200003", "aF60100000200003"] {
-        check_word(&rt, word, b"item tag=af6 freq=1 seg=2 row=3\n")?;
+        check_word(&rt, word, b"item tag=af6 freq=1 seg=2 row=3\n");
     }
     check_word(
         &rt,
         "ABCDEF0123456789",
         b"item tag=abc freq=222 seg=15733300 row=354185\n",
-    )
+    );
 }
 
 #[test]
-fn other_words_are_bad(rt: HostRuntime) -> Result<(), Fail> {
+fn other_words_are_bad(rt: HostRuntime) {
     for word in [
         "0000000100000001",
         "0000000000010001",
@@ -63,13 +61,12 @@ fn other_words_are_bad(rt: HostRuntime) -> Result<(), Fail> {
         "000000000000000 ",
         "00000000000000é",
     ] {
-        check_program(&rt, &["word", word], b"", 2, b"", b"bad word\n")?;
+        check_program(&rt, &["word", word], b"", fails(2, b"bad word\n"));
     }
-    Ok(())
 }
 
 #[test]
-fn a_word_has_a_kind(rt: HostRuntime) -> Result<(), Fail> {
+fn a_word_has_a_kind(rt: HostRuntime) {
     for (words, explanation) in [
         (
             ["word", "--kind=item", "af60100000200003"].as_slice(),
@@ -92,25 +89,22 @@ fn a_word_has_a_kind(rt: HostRuntime) -> Result<(), Fail> {
             b"segment deadline=0 readers=4294967295\n",
         ),
     ] {
-        check_program(&rt, words, b"", 0, explanation, b"")?;
+        check_program(&rt, words, b"", writes(explanation));
     }
-    Ok(())
 }
 
 #[test]
-fn a_prefix_is_told(rt: HostRuntime) -> Result<(), Fail> {
+fn a_prefix_is_told(rt: HostRuntime) {
     check_program(
         &rt,
         &["word", "--explain", "0xaf6"],
         b"",
-        2,
-        b"",
-        b"bad word\nHEX: the digits stand without 0x\n",
-    )
+        fails(2, b"bad word\nHEX: the digits stand without 0x\n"),
+    );
 }
 
 #[test]
-fn a_bad_word_has_a_reason(rt: HostRuntime) -> Result<(), Fail> {
+fn a_bad_word_has_a_reason(rt: HostRuntime) {
     for (kind, word, reason) in [
         (
             "--kind=item",
@@ -151,11 +145,10 @@ fn a_bad_word_has_a_reason(rt: HostRuntime) -> Result<(), Fail> {
             "HEX: one of its bits 1 to 31 is set",
         ),
     ] {
-        let text = format!(in rt.alloc(); "bad word\n{reason}\n")?;
+        let text = format!(in rt.alloc(); "bad word\n{reason}\n").expect(&rt, "memory for a text");
         let words = ["word", "--explain", kind, word];
-        check_program(&rt, &words, b"", 2, b"", text.as_bytes())?;
+        check_program(&rt, &words, b"", fails(2, text.as_bytes()));
         let words = ["word", kind, word];
-        check_program(&rt, &words, b"", 2, b"", b"bad word\n")?;
+        check_program(&rt, &words, b"", fails(2, b"bad word\n"));
     }
-    Ok(())
 }

@@ -42,6 +42,8 @@ mod model_cases;
 #[cfg(test)]
 mod model_keeps;
 #[cfg(test)]
+mod same;
+#[cfg(test)]
 mod script_bad_lines;
 #[cfg(test)]
 mod script_evicting;

@@ -2,7 +2,9 @@
 ghost use Rattle.std.specs.Prelude.{◌≡◌, ◌<◌, ◌≤◌, ◌^◌};
 
 use crate::load_runs::{SHAPE, run, run_over};
-use segload::{OpenGate, PassTotals, Recycled, Tallies};
+use crate::same::{check_that, same};
+use segindex::IndexStats;
+use segload::{OpenGate, PassTotals, Plan, Recycled, Tallies, Totals};
 use segmodel::{
     Answer, Command, DeleteAnswer, EvictAnswer, GetAnswer, GetsAnswer, RefillAnswer, Request,
     WriteAnswer,
@@ -14,14 +16,13 @@ use std::alloc::{AllocGlobal, Global};
 use std::num::NonZeroU32;
 use std::process::Abort;
 use std::sync::Wait;
-use std::test::Fail;
 use std::thread::Threads;
 
 // The moment of each command.
 const MOMENT: u32 = 0;
 
-/// The seed of a load.
-pub const SEED: u64 = 7;
+// The seed of a load.
+const SEED: u64 = 7;
 
 // Each segment has rows enough for a while. The number of segments is even,
 // so that a load which skipped each second segment would leave some out.
@@ -34,27 +35,20 @@ const WIDE: Shape = Shape {
 };
 
 #[test]
-fn no_commands(rt: HostRuntime) -> Result<(), Fail> {
-    let totals = run(&rt, SHAPE, 1, 0, &OpenGate)?;
-    assert_eq!(rt; totals.keys, 0);
-    let &[
-        PassTotals {
-            commands,
-            tallies,
-            recycled,
-            table,
+fn no_commands(rt: HostRuntime) {
+    let totals = run(&rt, SHAPE, 1, 0, &OpenGate).expect(&rt, "totals");
+    let nothing = PassTotals {
+        commands: 0,
+        tallies: Tallies::new(),
+        recycled: Recycled::new(),
+        table: IndexStats {
+            overflow_buckets: 0,
+            used_rows: 0,
+            named_rows: 0,
         },
-    ] = totals.passes.as_slice()
-    else {
-        return Err("one pass".into());
     };
-    assert_eq!(rt; commands, 0);
-    assert_eq!(rt; tallies, Tallies::new());
-    assert_eq!(rt; recycled, Recycled::new());
-    assert_eq!(rt; table.overflow_buckets, 0);
-    assert_eq!(rt; table.used_rows, 0);
-    assert_eq!(rt; table.named_rows, 0);
-    Ok(())
+    same(&rt, &totals.keys, &0);
+    same(&rt, &totals.passes.as_slice(), &[nothing].as_slice());
 }
 
 /// How many tallies there are. They stand in the order in which a load is printed.
@@ -150,23 +144,17 @@ struct Plain {
 }
 
 // What a plain loop counts over the commands of pass 0 of so many keys, and how many of these stand then.
-fn plain_loop(
-    alloc: Global,
-    shape: Shape,
-    seed: u64,
-    commands: u32,
-    keys: NonZeroU32,
-) -> Result<Plain, Fail>
+fn plain_loop(alloc: Global, shape: Shape, plan: Plan) -> Option<Plain>
     requires one_pass { shape.passes ≡ 1 }
     requires some { (1 ≤ shape.segments_each) × (shape.segments_each < 2 ^ 32) }
 {
-    let mut solo = Solo::new(alloc, shape).ok().ok_or("an index")?;
-    let mut workload = Workload::with_keys(seed, 0, keys.get());
+    let mut solo = Solo::new(alloc, shape).ok()?;
+    let mut workload = Workload::with_keys(plan.seed, 0, plan.keys.get());
     let mut segments = Ring::new(0, shape.segments_each);
     let mut version = 0;
     let mut counts = [0u32; PLACES];
     let mut recycled = Recycled::new();
-    for _ in 0..commands {
+    for _ in 0..plan.commands {
         let command = command_of(workload.next(), version);
         let answer = serve(&mut solo, &mut segments, &command, &mut recycled);
         if let Answer::Gets(GetsAnswer::Found(_, found)) = &answer {
@@ -175,11 +163,11 @@ fn plain_loop(
         let place = place_of(&answer);
         counts[place] = counts[place].saturating_add(1);
     }
-    let again = Workload::with_keys(seed, 0, keys.get());
-    Ok(Plain {
+    let again = Workload::with_keys(plan.seed, 0, plan.keys.get());
+    Some(Plain {
         counts,
         recycled,
-        keys: keys_of(&mut solo, again, commands),
+        keys: keys_of(&mut solo, again, plan.commands),
     })
 }
 
@@ -206,59 +194,80 @@ fn counts_as_plain<R: Threads + Wait + AllocGlobal + Abort + Sync>(
     shape: Shape,
     commands: u32,
     keys: u32,
-) -> Result<(), Fail>
+)
     requires one_pass { shape.passes ≡ 1 }
     requires some { (1 ≤ shape.segments_each) × (shape.segments_each < 2 ^ 32) }
 {
-    let keys = NonZeroU32::new(keys).ok_or("some keys")?;
-    let first = run_over(rt, shape, SEED, commands, keys, &OpenGate)?;
-    let second = run_over(rt, shape, SEED, commands, keys, &OpenGate)?;
-    assert_eq!(rt; first, second);
-    let plain = plain_loop(rt.alloc(), shape, SEED, commands, keys)?;
-    assert_eq!(rt; first.keys, plain.keys);
-    let [totals] = first.passes.as_slice() else {
-        return Err("one pass".into());
-    };
-    assert_eq!(rt; totals.commands, commands);
-    assert_eq!(rt; counts_of(&totals.tallies), plain.counts);
-    assert_eq!(rt; totals.recycled, plain.recycled);
-    assert_eq!(rt; totals.table.named_rows, plain.keys);
-    assert_eq!(rt; totals.tallies.busy, 0);
+    let plan = plan_of(rt, commands, keys);
+    let first = run_over(rt, shape, plan, &OpenGate).expect(rt, "totals");
+    let second = run_over(rt, shape, plan, &OpenGate).expect(rt, "totals");
+    same(rt, &first, &second);
+    let plain = plain_loop(rt.alloc(), shape, plan).expect(rt, "an index");
+    check_counts(rt, &first, &plain, commands);
+}
+
+/// A load of so many commands over so many keys.
+pub fn plan_of(rt: &impl Abort, commands: u32, keys: u32) -> Plan {
+    Plan {
+        seed: SEED,
+        commands,
+        keys: NonZeroU32::new(keys).expect(rt, "some keys"),
+    }
+}
+
+// Checks that the totals of one pass are what a plain loop came to, and that no command was busy.
+fn check_counts(rt: &impl Abort, totals: &Totals, plain: &Plain, commands: u32) {
+    same(rt, &(totals.keys, totals.passes.len()), &(plain.keys, 1));
+    for pass in totals.passes.iter() {
+        same(
+            rt,
+            &(pass.commands, pass.table.named_rows),
+            &(commands, plain.keys),
+        );
+        same(
+            rt,
+            &(counts_of(&pass.tallies), pass.recycled),
+            &(plain.counts, plain.recycled),
+        );
+        same(
+            rt,
+            &(pass.tallies.busy, sum_of(plain.counts)),
+            &(0, commands),
+        );
+    }
+}
+
+fn sum_of(counts: [u32; PLACES]) -> u32 {
     let mut sum = 0u32;
-    for count in plain.counts {
+    for count in counts {
         sum = sum.saturating_add(count);
     }
-    assert_eq!(rt; sum, commands);
-    Ok(())
+    sum
 }
 
 #[test]
-fn a_load_counts_as_a_plain_loop(rt: HostRuntime) -> Result<(), Fail> {
-    counts_as_plain(&rt, SHAPE, 500, 64)
+fn a_load_counts_as_a_plain_loop(rt: HostRuntime) {
+    counts_as_plain(&rt, SHAPE, 500, 64);
 }
 
 #[test]
-fn segments_are_given_up_in_turn(rt: HostRuntime) -> Result<(), Fail> {
-    counts_as_plain(&rt, WIDE, 2000, 64)
+fn segments_are_given_up_in_turn(rt: HostRuntime) {
+    counts_as_plain(&rt, WIDE, 2000, 64);
 }
 
 #[test]
-fn a_load_is_over_any_number_of_keys(rt: HostRuntime) -> Result<(), Fail> {
+fn a_load_is_over_any_number_of_keys(rt: HostRuntime) {
     for keys in [1, 2, 1_000_000, u32::MAX] {
-        counts_as_plain(&rt, WIDE, 2000, keys)?;
+        counts_as_plain(&rt, WIDE, 2000, keys);
     }
     // Over one key each command finds what the one before it left.
-    let one = NonZeroU32::new(1).ok_or("one key")?;
-    let totals = run_over(&rt, WIDE, SEED, 2000, one, &OpenGate)?;
-    assert!(rt; totals.keys <= 1);
-    Ok(())
+    let totals = run_over(&rt, WIDE, plan_of(&rt, 2000, 1), &OpenGate).expect(&rt, "totals");
+    check_that(&rt, totals.keys <= 1);
 }
 
 #[test]
-fn a_load_is_over_64_keys_where_nothing_is_said(rt: HostRuntime) -> Result<(), Fail> {
-    let keys = NonZeroU32::new(64).ok_or("some keys")?;
-    let said = run_over(&rt, WIDE, SEED, 500, keys, &OpenGate)?;
-    let unsaid = run(&rt, WIDE, SEED, 500, &OpenGate)?;
-    assert_eq!(rt; said, unsaid);
-    Ok(())
+fn a_load_is_over_64_keys_where_nothing_is_said(rt: HostRuntime) {
+    let said = run_over(&rt, WIDE, plan_of(&rt, 500, 64), &OpenGate).expect(&rt, "totals");
+    let unsaid = run(&rt, WIDE, SEED, 500, &OpenGate).expect(&rt, "totals");
+    same(&rt, &said, &unsaid);
 }

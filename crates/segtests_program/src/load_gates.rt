@@ -2,12 +2,12 @@
 ghost use Rattle.std.specs.Prelude.{◌≡◌};
 
 use crate::load_runs::{SHAPE, run};
+use crate::same::same;
 use segindex::MakeFault;
 use segload::{Gate, LoadFault, OpenGate};
 use segword::{Shape, ShapeFault};
 use std::sync::atomic::AtomicU64;
 use std::sync::atomic::Ordering::SeqCst;
-use std::test::Fail;
 
 const TURNS: u32 = 1_000_000_000;
 
@@ -50,7 +50,7 @@ impl Gate for Crossing {
 }
 
 #[test]
-fn passes_work_at_the_same_time(rt: HostRuntime) -> Result<(), Fail> {
+fn passes_work_at_the_same_time(rt: HostRuntime) {
     let shape = Shape {
         passes: 2,
         rows: 4,
@@ -60,10 +60,8 @@ fn passes_work_at_the_same_time(rt: HostRuntime) -> Result<(), Fail> {
         first_asked: AtomicU64::new(0),
         second_answered: AtomicU64::new(0),
     };
-    let totals = run(&rt, shape, 1, 100, &gate)?;
-    assert_eq!(rt; totals.passes.len(), 2);
-    assert_eq!(rt; totals.commands(), 200);
-    Ok(())
+    let totals = run(&rt, shape, 1, 100, &gate).expect(&rt, "totals");
+    same(&rt, &(totals.passes.len(), totals.commands()), &(2, 200));
 }
 
 // A gate that lets the commands of two passes through in turn,
@@ -100,7 +98,7 @@ impl Gate for InTurn {
 // A gate that heard of an answer before the command was made would let both run at once,
 // and the two loads would differ.
 #[test]
-fn passes_that_take_turns_count_the_same_each_time(rt: HostRuntime) -> Result<(), Fail> {
+fn passes_that_take_turns_count_the_same_each_time(rt: HostRuntime) {
     let shape = Shape {
         overflow: 3,
         passes: 2,
@@ -108,13 +106,12 @@ fn passes_that_take_turns_count_the_same_each_time(rt: HostRuntime) -> Result<()
         rows: 16,
         ..SHAPE
     };
-    let first = run(&rt, shape, 1, 2000, &InTurn::new())?;
-    let second = run(&rt, shape, 1, 2000, &InTurn::new())?;
-    assert_eq!(rt; first, second);
+    let first = run(&rt, shape, 1, 2000, &InTurn::new()).expect(&rt, "totals");
+    let second = run(&rt, shape, 1, 2000, &InTurn::new()).expect(&rt, "totals");
+    same(&rt, &first, &second);
     for totals in first.passes.iter() {
-        assert_eq!(rt; totals.tallies.busy, 0);
+        same(&rt, &totals.tallies.busy, &0);
     }
-    Ok(())
 }
 
 const PASSES: usize = 4;
@@ -140,6 +137,17 @@ fn no_counts() -> [AtomicU64; PASSES] {
     ]
 }
 
+// What the counts are.
+fn read(counts: &[AtomicU64; PASSES]) -> [u64; PASSES] {
+    let [first, second, third, fourth] = counts;
+    [
+        first.load(SeqCst),
+        second.load(SeqCst),
+        third.load(SeqCst),
+        fourth.load(SeqCst),
+    ]
+}
+
 impl Gate for Stopper {
     fn enter(&self, pass: u32, call: u32) -> bool {
         if let Some(count) = self.asked.get(pass as usize) {
@@ -156,7 +164,7 @@ impl Gate for Stopper {
 }
 
 #[test]
-fn a_stopped_pass_does_not_stop_the_others(rt: HostRuntime) -> Result<(), Fail> {
+fn a_stopped_pass_does_not_stop_the_others(rt: HostRuntime) {
     let shape = Shape {
         buckets: 4,
         passes: 4,
@@ -168,33 +176,24 @@ fn a_stopped_pass_does_not_stop_the_others(rt: HostRuntime) -> Result<(), Fail> 
         answered: no_counts(),
     };
     let fault = run(&rt, shape, 1, COMMANDS, &gate).err();
-    assert_eq!(rt; fault, Some(LoadFault::Stopped(1)));
-    let [first, second, third, fourth] = &gate.answered;
-    assert_eq!(rt; first.load(SeqCst), u64::from(COMMANDS));
-    assert_eq!(rt; second.load(SeqCst), u64::from(STOP));
-    assert_eq!(rt; third.load(SeqCst), u64::from(STOP));
-    assert_eq!(rt; fourth.load(SeqCst), u64::from(COMMANDS));
-
+    same(&rt, &fault, &Some(LoadFault::Stopped(1)));
+    let (all, some) = (u64::from(COMMANDS), u64::from(STOP));
+    same(&rt, &read(&gate.answered), &[all, some, some, all]);
     // Each pass asks once before each command, and a stopped pass doesn't ask again.
-    let [first, second, third, fourth] = &gate.asked;
-    assert_eq!(rt; first.load(SeqCst), u64::from(COMMANDS));
-    assert_eq!(rt; second.load(SeqCst), u64::from(STOP) + 1);
-    assert_eq!(rt; third.load(SeqCst), u64::from(STOP) + 1);
-    assert_eq!(rt; fourth.load(SeqCst), u64::from(COMMANDS));
-    Ok(())
+    same(&rt, &read(&gate.asked), &[all, some + 1, some + 1, all]);
 }
 
 #[test]
-fn a_shape_that_cannot_be_made(rt: HostRuntime) -> Result<(), Fail> {
+fn a_shape_that_cannot_be_made(rt: HostRuntime) {
     let shape = Shape {
         buckets: 3,
         rows: 2,
         ..SHAPE
     };
     let fault = run(&rt, shape, 1, COMMANDS, &OpenGate).err();
-    assert_eq!(rt;
-        fault,
-        Some(LoadFault::Make(MakeFault::Shape(ShapeFault::BadBuckets)))
+    same(
+        &rt,
+        &fault,
+        &Some(LoadFault::Make(MakeFault::Shape(ShapeFault::BadBuckets))),
     );
-    Ok(())
 }

@@ -3,7 +3,6 @@
 use segload::{Gate, LoadFault, Plan, Totals, run_crowd};
 use segword::Shape;
 use std::alloc::AllocGlobal;
-use std::num::NonZeroU32;
 use std::sync::Wait;
 use std::thread::Threads;
 
@@ -28,19 +27,12 @@ pub fn run<R: Threads + Wait + AllocGlobal + Sync, G: Gate>(
     run_crowd(rt, rt.alloc(), shape, Plan::new(seed, commands), gate)
 }
 
-/// Runs a load over so many keys.
+/// Runs a load by a plan.
 pub fn run_over<R: Threads + Wait + AllocGlobal + Sync, G: Gate>(
     rt: &R,
     shape: Shape,
-    seed: u64,
-    commands: u32,
-    keys: NonZeroU32,
+    plan: Plan,
     gate: &G,
 ) -> Result<Totals, LoadFault> {
-    let plan = Plan {
-        seed,
-        commands,
-        keys,
-    };
     run_crowd(rt, rt.alloc(), shape, plan, gate)
 }

@@ -1,21 +1,21 @@
 //! Checks that the worked cases have the answers that they should have.
 use crate::model_cases::{check, command, plain, reply};
+use crate::same::same;
 use segmodel::run;
-use std::test::Fail;
 
 #[test]
-fn first_set_and_get(rt: HostRuntime) -> Result<(), Fail> {
+fn first_set_and_get(rt: HostRuntime) {
     let cases = [
         "set a 1 @0 = NOROOM",
         "refill 0 4294967295 = REFILLED",
         "set a 1 @0 = STORED",
         "get a @0 = VALUE 1",
     ];
-    check(&rt, rt.alloc(), [1, 0, 1, 2, 0], &cases)
+    check(&rt, [1, 0, 1, 2, 0], &cases);
 }
 
 #[test]
-fn replies_and_a_shared_version(rt: HostRuntime) -> Result<(), Fail> {
+fn replies_and_a_shared_version(rt: HostRuntime) {
     let cases = [
         "refill 0 4294967295 = REFILLED",
         "add a 1 @0 = STORED",
@@ -28,22 +28,22 @@ fn replies_and_a_shared_version(rt: HostRuntime) -> Result<(), Fail> {
         "cas a 2 2 @0 = STORED",
         "cas z 1 3 @0 = NOT_FOUND",
     ];
-    check(&rt, rt.alloc(), [4, 0, 1, 8, 0], &cases)
+    check(&rt, [4, 0, 1, 8, 0], &cases);
 }
 
 #[test]
-fn version_wraps(rt: HostRuntime) -> Result<(), Fail> {
+fn version_wraps(rt: HostRuntime) {
     let cases = [
         "refill 0 4294967295 = REFILLED",
         "gets a @0 = MISS",
         "set a 1 @0 = STORED",
         "gets a @0 = VALUE 1 0",
     ];
-    check(&rt, rt.alloc(), [1, 0, 1, 2, 4_294_967_295], &cases)
+    check(&rt, [1, 0, 1, 2, 4_294_967_295], &cases);
 }
 
 #[test]
-fn rows_are_used_up_and_given_back(rt: HostRuntime) -> Result<(), Fail> {
+fn rows_are_used_up_and_given_back(rt: HostRuntime) {
     // A write without a row is NOROOM even if its key would refuse it.
     // An eviction leaves the version.
     let cases = [
@@ -60,11 +60,11 @@ fn rows_are_used_up_and_given_back(rt: HostRuntime) -> Result<(), Fail> {
         "set a 4 @0 = STORED",
         "gets a @0 = VALUE 4 3",
     ];
-    check(&rt, rt.alloc(), [1, 0, 1, 2, 0], &cases)
+    check(&rt, [1, 0, 1, 2, 0], &cases);
 }
 
 #[test]
-fn refusals_and_replies_use_no_row(rt: HostRuntime) -> Result<(), Fail> {
+fn refusals_and_replies_use_no_row(rt: HostRuntime) {
     let cases = [
         "refill 0 4294967295 = REFILLED",
         "set a 1 @0 = STORED",
@@ -78,11 +78,11 @@ fn refusals_and_replies_use_no_row(rt: HostRuntime) -> Result<(), Fail> {
         "delete b @0 = DELETED",
         "gets a @0 = VALUE 1 3",
     ];
-    check(&rt, rt.alloc(), [1, 0, 1, 2, 0], &cases)
+    check(&rt, [1, 0, 1, 2, 0], &cases);
 }
 
 #[test]
-fn another_segment(rt: HostRuntime) -> Result<(), Fail> {
+fn another_segment(rt: HostRuntime) {
     let cases = [
         "refill 0 4294967295 = REFILLED",
         "set a 1 @0 = STORED",
@@ -102,11 +102,11 @@ fn another_segment(rt: HostRuntime) -> Result<(), Fail> {
         "evict 1 = EVICTED 0",
         "get a @0 = MISS",
     ];
-    check(&rt, rt.alloc(), [1, 0, 2, 2, 0], &cases)
+    check(&rt, [1, 0, 2, 2, 0], &cases);
 }
 
 #[test]
-fn a_segment_never_filled(rt: HostRuntime) -> Result<(), Fail> {
+fn a_segment_never_filled(rt: HostRuntime) {
     let cases = [
         "refill 0 4294967295 = REFILLED",
         "evict 1 = EVICTED 0",
@@ -114,11 +114,11 @@ fn a_segment_never_filled(rt: HostRuntime) -> Result<(), Fail> {
         "refill 1 4294967295 = REFILLED",
         "refill 0 4294967295 = NOT_EVICTED",
     ];
-    check(&rt, rt.alloc(), [1, 0, 2, 2, 0], &cases)
+    check(&rt, [1, 0, 2, 2, 0], &cases);
 }
 
 #[test]
-fn full_for_new_keys_alone(rt: HostRuntime) -> Result<(), Fail> {
+fn full_for_new_keys_alone(rt: HostRuntime) {
     let cases = [
         "refill 0 4294967295 = REFILLED",
         "a b c d e f g: set * 1 @0 = STORED",
@@ -128,11 +128,11 @@ fn full_for_new_keys_alone(rt: HostRuntime) -> Result<(), Fail> {
         "set a 2 @0 = STORED",
         "gets a @0 = VALUE 2 8",
     ];
-    check(&rt, rt.alloc(), [1, 0, 1, 32, 0], &cases)
+    check(&rt, [1, 0, 1, 32, 0], &cases);
 }
 
 #[test]
-fn longest_chain(rt: HostRuntime) -> Result<(), Fail> {
+fn longest_chain(rt: HostRuntime) {
     // A chain takes no fourth overflow bucket, though some are left.
     let cases = [
         "refill 0 4294967295 = REFILLED",
@@ -140,21 +140,21 @@ fn longest_chain(rt: HostRuntime) -> Result<(), Fail> {
         "set z 1 @0 = BUCKETFULL",
         "a b c d e f g h i j k l m n o p q r s t u v w x y: get * @0 = VALUE 1",
     ];
-    check(&rt, rt.alloc(), [1, 5, 1, 64, 0], &cases)
+    check(&rt, [1, 5, 1, 64, 0], &cases);
 }
 
 #[test]
-fn as_long_as_overflow_buckets_last(rt: HostRuntime) -> Result<(), Fail> {
+fn as_long_as_overflow_buckets_last(rt: HostRuntime) {
     let cases = [
         "refill 0 4294967295 = REFILLED",
         "a b c d e f g h i j k l m n o p q r s t u v w x y: set * 1 @0 = STORED",
         "set z 1 @0 = BUCKETFULL",
     ];
-    check(&rt, rt.alloc(), [1, 3, 1, 64, 0], &cases)
+    check(&rt, [1, 3, 1, 64, 0], &cases);
 }
 
 #[test]
-fn freed_word_is_used_again(rt: HostRuntime) -> Result<(), Fail> {
+fn freed_word_is_used_again(rt: HostRuntime) {
     let cases = [
         "refill 0 4294967295 = REFILLED",
         "a b c d e f g h i j k l m: set * 1 @0 = STORED",
@@ -163,11 +163,11 @@ fn freed_word_is_used_again(rt: HostRuntime) -> Result<(), Fail> {
         "set n 1 @0 = STORED",
         "set o 1 @0 = BUCKETFULL",
     ];
-    check(&rt, rt.alloc(), [1, 1, 1, 16, 0], &cases)
+    check(&rt, [1, 1, 1, 16, 0], &cases);
 }
 
 #[test]
-fn buckets_share_what_overflows(rt: HostRuntime) -> Result<(), Fail> {
+fn buckets_share_what_overflows(rt: HostRuntime) {
     // Keys of one letter with an odd byte fall in bucket 0, the others in bucket 1.
     let cases = [
         "refill 0 4294967295 = REFILLED",
@@ -177,11 +177,11 @@ fn buckets_share_what_overflows(rt: HostRuntime) -> Result<(), Fail> {
         "get m @0 = VALUE 1",
         "get b @0 = VALUE 2",
     ];
-    check(&rt, rt.alloc(), [2, 1, 1, 32, 0], &cases)
+    check(&rt, [2, 1, 1, 32, 0], &cases);
 }
 
 #[test]
-fn deletes_count(rt: HostRuntime) -> Result<(), Fail> {
+fn deletes_count(rt: HostRuntime) {
     let cases = [
         "refill 0 4294967295 = REFILLED",
         "delete a @0 = NOT_FOUND",
@@ -192,11 +192,11 @@ fn deletes_count(rt: HostRuntime) -> Result<(), Fail> {
         "add a 2 @0 = STORED",
         "gets a @0 = VALUE 2 3",
     ];
-    check(&rt, rt.alloc(), [1, 0, 1, 4, 0], &cases)
+    check(&rt, [1, 0, 1, 4, 0], &cases);
 }
 
 #[test]
-fn longest_and_shortest(rt: HostRuntime) -> Result<(), Fail> {
+fn longest_and_shortest(rt: HostRuntime) {
     let cases = [
         "refill 0 4294967295 = REFILLED",
         "set abcdefghijklmnopqrstuvwx 0123456789abcdef0123456789abcdef @0 = STORED",
@@ -205,25 +205,22 @@ fn longest_and_shortest(rt: HostRuntime) -> Result<(), Fail> {
         "get a @0 = VALUE -",
         "gets a @0 = VALUE - 2",
     ];
-    check(&rt, rt.alloc(), [1, 0, 1, 4, 0], &cases)
+    check(&rt, [1, 0, 1, 4, 0], &cases);
 }
 
 #[test]
-fn run_with_ample_memory(rt: HostRuntime) -> Result<(), Fail> {
+fn run_with_ample_memory(rt: HostRuntime) {
     let wanted = ["REFILLED", "STORED", "VALUE 1"];
     let commands = [
-        command("refill 0 4294967295", "")?,
-        command("set a 1 @0", "")?,
-        command("get a @0", "")?,
+        command("refill 0 4294967295", "").expect(&rt, "a command"),
+        command("set a 1 @0", "").expect(&rt, "a command"),
+        command("get a @0", "").expect(&rt, "a command"),
     ];
-    let mut plain = plain(rt.alloc(), [1, 0, 1, 2, 0])?;
+    let mut plain = plain(&rt, [1, 0, 1, 2, 0]);
     let mut answers = Vec::new(rt.alloc());
-    run(&mut plain, &commands, &mut answers)
-        .ok()
-        .ok_or("out of memory")?;
-    assert_eq!(rt; answers.len(), wanted.len());
+    run(&mut plain, &commands, &mut answers).expect(&rt, "memory for answers");
+    same(&rt, &answers.len(), &wanted.len());
     for (answer, wanted) in answers.into_iter().zip(wanted) {
-        assert_eq!(rt; reply(answer)?.as_slice(), wanted.as_bytes());
+        same(&rt, &reply(answer).as_slice(), &wanted.as_bytes());
     }
-    Ok(())
 }

@@ -1,9 +1,8 @@
 //! Items that a keep moves, by worked cases.
-use crate::model_cases::{check, check_case, plain};
-use std::test::Fail;
+use crate::model_cases::{check, check_cases, plain};
 
 #[test]
-fn items_that_are_read_move(rt: HostRuntime) -> Result<(), Fail> {
+fn items_that_are_read_move(rt: HostRuntime) {
     // The version stays, and b is read past the eviction of the segment that it left.
     let cases = [
         "refill 0 100 = REFILLED",
@@ -19,11 +18,11 @@ fn items_that_are_read_move(rt: HostRuntime) -> Result<(), Fail> {
         "gets b @99 = VALUE 1 3",
         "get b @100 = MISS",
     ];
-    check(&rt, rt.alloc(), [1, 0, 2, 4, 0], &cases)
+    check(&rt, [1, 0, 2, 4, 0], &cases);
 }
 
 #[test]
-fn a_keep_goes_on_where_it_ended(rt: HostRuntime) -> Result<(), Fail> {
+fn a_keep_goes_on_where_it_ended(rt: HostRuntime) {
     let cases = [
         "refill 0 9 = REFILLED",
         "a b c: set * 1 @0 = STORED",
@@ -39,11 +38,11 @@ fn a_keep_goes_on_where_it_ended(rt: HostRuntime) -> Result<(), Fail> {
         "evict 1 = EVICTED 3",
         "evict 2 = EVICTED 1",
     ];
-    check(&rt, rt.alloc(), [1, 0, 3, 3, 0], &cases)
+    check(&rt, [1, 0, 3, 3, 0], &cases);
 }
 
 #[test]
-fn nothing_to_move_to(rt: HostRuntime) -> Result<(), Fail> {
+fn nothing_to_move_to(rt: HostRuntime) {
     // No segment is current, or the segment itself is, or one with another deadline.
     let cases = [
         "keep 0 0 = KEPT 0",
@@ -59,11 +58,11 @@ fn nothing_to_move_to(rt: HostRuntime) -> Result<(), Fail> {
         "refill 1 9 = REFILLED",
         "keep 0 0 = KEPT 1",
     ];
-    check(&rt, rt.alloc(), [1, 0, 2, 2, 0], &cases)
+    check(&rt, [1, 0, 2, 2, 0], &cases);
 }
 
 #[test]
-fn the_cutoff_itself_is_kept(rt: HostRuntime) -> Result<(), Fail> {
+fn the_cutoff_itself_is_kept(rt: HostRuntime) {
     // The set and two hits make 3; the frequency goes along, and a hit later makes 4.
     let cases = [
         "refill 0 9 = REFILLED",
@@ -79,11 +78,11 @@ fn the_cutoff_itself_is_kept(rt: HostRuntime) -> Result<(), Fail> {
         "keep 1 5 = KEPT 0",
         "keep 1 4 = KEPT 1",
     ];
-    check(&rt, rt.alloc(), [1, 0, 2, 2, 0], &cases)
+    check(&rt, [1, 0, 2, 2, 0], &cases);
 }
 
 #[test]
-fn a_set_begins_anew(rt: HostRuntime) -> Result<(), Fail> {
+fn a_set_begins_anew(rt: HostRuntime) {
     // The second row has the item, with a frequency of its own.
     let cases = [
         "refill 0 9 = REFILLED",
@@ -100,11 +99,11 @@ fn a_set_begins_anew(rt: HostRuntime) -> Result<(), Fail> {
         "set c 1 @0 = NOROOM",
         "evict 0 = EVICTED 0",
     ];
-    check(&rt, rt.alloc(), [1, 0, 2, 2, 0], &cases)
+    check(&rt, [1, 0, 2, 2, 0], &cases);
 }
 
 #[test]
-fn rows_without_an_item_are_passed_over(rt: HostRuntime) -> Result<(), Fail> {
+fn rows_without_an_item_are_passed_over(rt: HostRuntime) {
     // a was deleted, and b was stored again elsewhere: c alone uses a row.
     let cases = [
         "refill 0 9 = REFILLED",
@@ -119,11 +118,11 @@ fn rows_without_an_item_are_passed_over(rt: HostRuntime) -> Result<(), Fail> {
         "get b @0 = VALUE 2",
         "get c @0 = VALUE 1",
     ];
-    check(&rt, rt.alloc(), [1, 0, 2, 3, 0], &cases)
+    check(&rt, [1, 0, 2, 3, 0], &cases);
 }
 
 #[test]
-fn expired_items_move_too(rt: HostRuntime) -> Result<(), Fail> {
+fn expired_items_move_too(rt: HostRuntime) {
     // A miss is no hit, so the frequency is 1.
     let cases = [
         "refill 0 9 = REFILLED",
@@ -136,28 +135,23 @@ fn expired_items_move_too(rt: HostRuntime) -> Result<(), Fail> {
         "get a @8 = VALUE 1",
         "evict 1 = EVICTED 1",
     ];
-    check(&rt, rt.alloc(), [1, 0, 2, 2, 0], &cases)
+    check(&rt, [1, 0, 2, 2, 0], &cases);
 }
 
 #[test]
-fn a_frequency_ends_at_255(rt: HostRuntime) -> Result<(), Fail> {
-    let mut plain = plain(rt.alloc(), [1, 0, 2, 2, 0])?;
-    for case in [
+fn a_frequency_ends_at_255(rt: HostRuntime) {
+    let mut plain = plain(&rt, [1, 0, 2, 2, 0]);
+    let cases = [
         "refill 0 9 = REFILLED",
         "set a 1 @0 = STORED",
         "refill 1 9 = REFILLED",
-    ] {
-        check_case(&rt, &mut plain, case)?;
-    }
-    for _ in 0..253 {
-        check_case(&rt, &mut plain, "get a @0 = VALUE 1")?;
-    }
-    for case in [
+    ];
+    check_cases(&rt, &mut plain, &cases);
+    check_cases(&rt, &mut plain, &["get a @0 = VALUE 1"; 253]);
+    let cases = [
         "keep 0 255 = KEPT 0",
         "a a: get * @0 = VALUE 1",
         "keep 0 255 = KEPT 1",
-    ] {
-        check_case(&rt, &mut plain, case)?;
-    }
-    Ok(())
+    ];
+    check_cases(&rt, &mut plain, &cases);
 }

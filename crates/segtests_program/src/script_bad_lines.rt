@@ -1,10 +1,9 @@
 //! Lines that have no reading, beside those of the table of hostile runs.
 use crate::script_runs::check_script;
 use segscript::RunFault;
-use std::test::Fail;
 
 #[test]
-fn each_of_these_lines_is_bad(rt: HostRuntime) -> Result<(), Fail> {
+fn each_of_these_lines_is_bad(rt: HostRuntime) {
     for line in [
         b" p0 get a @0\n".as_slice(),
         b" \n".as_slice(),
@@ -60,7 +59,6 @@ fn each_of_these_lines_is_bad(rt: HostRuntime) -> Result<(), Fail> {
         b"p0 keep 0 1 2\n".as_slice(),
         b"p0 set abcdefghijklmnopqrstuvwxy 1 @0\n".as_slice(),
     ] {
-        check_script(&rt, rt.alloc(), 2, line, Err(RunFault::Line(1)), b"")?;
+        check_script(&rt, 2, line, Err(RunFault::Line(1)), b"");
     }
-    Ok(())
 }

@@ -2,7 +2,6 @@
 use crate::script_lines::{Line, check_lines};
 use crate::script_runs::check_script;
 use segscript::RunFault;
-use std::test::Fail;
 
 // Two segments of two rows.
 // An add at the deadline of the first is stored, since its key is absent by then.
@@ -89,36 +88,28 @@ const BAD: [&str; 4] = [
 ];
 
 #[test]
-fn a_key_is_absent_at_its_deadline(rt: HostRuntime) -> Result<(), Fail> {
-    check_lines(&rt, rt.alloc(), [1, 2, 2], &ABSENT_AT_ITS_DEADLINE)
+fn a_key_is_absent_at_its_deadline(rt: HostRuntime) {
+    check_lines(&rt, [1, 2, 2], &ABSENT_AT_ITS_DEADLINE);
 }
 
 #[test]
-fn expired_keys_stand_in_their_bucket(rt: HostRuntime) -> Result<(), Fail> {
-    check_lines(&rt, rt.alloc(), [1, 1, 16], &A_BUCKET_FULL_OF_EXPIRED_KEYS)
+fn expired_keys_stand_in_their_bucket(rt: HostRuntime) {
+    check_lines(&rt, [1, 1, 16], &A_BUCKET_FULL_OF_EXPIRED_KEYS);
 }
 
 #[test]
-fn a_key_has_the_deadline_of_its_segment(rt: HostRuntime) -> Result<(), Fail> {
-    check_lines(&rt, rt.alloc(), [2, 1, 4], &THE_DEADLINE_OF_ANOTHER_PASS)
+fn a_key_has_the_deadline_of_its_segment(rt: HostRuntime) {
+    check_lines(&rt, [2, 1, 4], &THE_DEADLINE_OF_ANOTHER_PASS);
 }
 
 #[test]
-fn no_deadline_is_for_ever(rt: HostRuntime) -> Result<(), Fail> {
-    check_lines(&rt, rt.alloc(), [1, 1, 4], &THE_FIRST_AND_THE_LAST_DEADLINE)
+fn no_deadline_is_for_ever(rt: HostRuntime) {
+    check_lines(&rt, [1, 1, 4], &THE_FIRST_AND_THE_LAST_DEADLINE);
 }
 
 #[test]
-fn a_line_that_lacks_a_moment_or_a_deadline_is_bad(rt: HostRuntime) -> Result<(), Fail> {
+fn a_line_that_lacks_a_moment_or_a_deadline_is_bad(rt: HostRuntime) {
     for line in BAD {
-        check_script(
-            &rt,
-            rt.alloc(),
-            2,
-            line.as_bytes(),
-            Err(RunFault::Line(1)),
-            b"",
-        )?;
+        check_script(&rt, 2, line.as_bytes(), Err(RunFault::Line(1)), b"");
     }
-    Ok(())
 }

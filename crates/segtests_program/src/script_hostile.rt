@@ -1,9 +1,8 @@
 //! Bad scripts and failing devices: a table, and one function that serves each of its lines.
-use crate::script_runs::{Devices, REPLIES, SCRIPT, SOUND, check, shape_of};
+use crate::script_runs::{Devices, REPLIES, SCRIPT, SOUND, Wanted, check, shape_of};
 use segscript::{RunFault, WhenFull};
-use std::alloc::Global;
+use std::alloc::AllocGlobal;
 use std::process::Abort;
-use std::test::Fail;
 
 // A line: a script, what fails, how the run ends, and what a sound writer would have of the replies.
 // The device fails after each number of bytes from the first to the last. `devices_of` has the words for what fails.
@@ -135,28 +134,29 @@ fn end_of(end: &str) -> Option<Result<(), RunFault>> {
 }
 
 // Serves a line of the table: a run for each number of bytes.
-fn serve(rt: &impl Abort, alloc: Global, line: Line<'_>) -> Result<(), Fail> {
+fn serve<R: AllocGlobal + Abort>(rt: &R, line: Line<'_>) {
     let (script, fails, [first, last], end, replies) = line;
-    let end = end_of(end).ok_or("no end of a run")?;
+    let end = end_of(end).expect(rt, "an end of a run");
     for bytes in first..=last {
-        let devices = devices_of(fails, bytes).ok_or("no device")?;
+        let devices = devices_of(fails, bytes).expect(rt, "devices");
         let given = if fails == "cut" {
             &script[..bytes.min(script.len())]
         } else {
             script
         };
-        let written = &replies[..devices.room.min(replies.len())];
-        check(rt, alloc, shape_of(2), given, devices, end, written)?;
+        let wanted = Wanted {
+            end,
+            replies: &replies[..devices.room.min(replies.len())],
+        };
+        check(rt, shape_of(2), given, devices, wanted);
     }
-    Ok(())
 }
 
 #[test]
-fn each_run_ends_as_its_line_says(rt: HostRuntime) -> Result<(), Fail> {
+fn each_run_ends_as_its_line_says(rt: HostRuntime) {
     for lines in [CUT_SHORT.as_slice(), FAILING.as_slice(), BAD.as_slice()] {
-        for line in lines.iter().copied() {
-            serve(&rt, rt.alloc(), line)?;
+        for line in lines {
+            serve(&rt, *line);
         }
     }
-    Ok(())
 }

@@ -1,6 +1,5 @@
 //! The replies to scripts of keeps: which items move, into which rows, and when none can.
 use crate::script_lines::{Line, check_lines};
-use std::test::Fail;
 
 // Two segments of four rows. The item of b is read twice, so its frequency is 3;
 // those of a and c are 1. What was moved is evicted no more, and expires as before.
@@ -101,31 +100,31 @@ const EXPIRED_ITEMS_MOVE: [Line<'static>; 9] = [
 ];
 
 #[test]
-fn what_was_read_often_moves(rt: HostRuntime) -> Result<(), Fail> {
-    check_lines(&rt, rt.alloc(), [1, 2, 4], &WHAT_WAS_READ_OFTEN)
+fn what_was_read_often_moves(rt: HostRuntime) {
+    check_lines(&rt, [1, 2, 4], &WHAT_WAS_READ_OFTEN);
 }
 
 #[test]
-fn a_keep_ends_where_rows_run_out(rt: HostRuntime) -> Result<(), Fail> {
-    check_lines(&rt, rt.alloc(), [1, 2, 2], &ROWS_RUN_OUT)
+fn a_keep_ends_where_rows_run_out(rt: HostRuntime) {
+    check_lines(&rt, [1, 2, 2], &ROWS_RUN_OUT);
 }
 
 #[test]
-fn a_held_item_moves_and_a_locked_one_does_not(rt: HostRuntime) -> Result<(), Fail> {
-    check_lines(&rt, rt.alloc(), [2, 2, 2], &BESIDE_A_HOLD_AND_A_LOCK)
+fn a_held_item_moves_and_a_locked_one_does_not(rt: HostRuntime) {
+    check_lines(&rt, [2, 2, 2], &BESIDE_A_HOLD_AND_A_LOCK);
 }
 
 #[test]
-fn rows_that_name_nothing_are_passed_over(rt: HostRuntime) -> Result<(), Fail> {
-    check_lines(&rt, rt.alloc(), [1, 2, 4], &ROWS_THAT_NAME_NOTHING)
+fn rows_that_name_nothing_are_passed_over(rt: HostRuntime) {
+    check_lines(&rt, [1, 2, 4], &ROWS_THAT_NAME_NOTHING);
 }
 
 #[test]
-fn a_moved_item_has_its_frequency(rt: HostRuntime) -> Result<(), Fail> {
-    check_lines(&rt, rt.alloc(), [1, 3, 4], &THE_FREQUENCY_GOES_ALONG)
+fn a_moved_item_has_its_frequency(rt: HostRuntime) {
+    check_lines(&rt, [1, 3, 4], &THE_FREQUENCY_GOES_ALONG);
 }
 
 #[test]
-fn an_expired_item_moves_and_stays_expired(rt: HostRuntime) -> Result<(), Fail> {
-    check_lines(&rt, rt.alloc(), [1, 2, 4], &EXPIRED_ITEMS_MOVE)
+fn an_expired_item_moves_and_stays_expired(rt: HostRuntime) {
+    check_lines(&rt, [1, 2, 4], &EXPIRED_ITEMS_MOVE);
 }

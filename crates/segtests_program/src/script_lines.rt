@@ -1,9 +1,8 @@
 //! Scripts as tables: each line stands beside its reply.
-use crate::script_runs::{SOUND, check, shape_of};
+use crate::script_runs::{check_replies, shape_of};
 use segword::Shape;
-use std::alloc::{AllocError, Global};
+use std::alloc::{AllocError, AllocGlobal, Global};
 use std::process::Abort;
-use std::test::Fail;
 
 /// A line of a script and its reply, both without their ends.
 pub type Line<'t> = (&'t str, &'t str);
@@ -17,7 +16,7 @@ fn push_line(text: &mut String, line: &str) -> Result<(), AllocError> {
 fn texts(alloc: Global, lines: &[Line<'_>]) -> Result<(String, String), AllocError> {
     let mut script = String::new(alloc);
     let mut replies = String::new(alloc);
-    for (line, reply) in lines.iter().copied() {
+    for &(line, reply) in lines {
         push_line(&mut script, line)?;
         push_line(&mut replies, reply)?;
     }
@@ -26,25 +25,16 @@ fn texts(alloc: Global, lines: &[Line<'_>]) -> Result<(String, String), AllocErr
 
 /// Checks that each line has the reply that it wants, by an index with one bucket,
 /// and this many passes, segments of a pass and rows of a segment.
-pub fn check_lines(
-    rt: &impl Abort,
-    alloc: Global,
+pub fn check_lines<R: AllocGlobal + Abort>(
+    rt: &R,
     [passes, segments_each, rows]: [u32; 3],
     lines: &[Line<'_>],
-) -> Result<(), Fail> {
+) {
     let shape = Shape {
         passes,
         segments_each,
         ..shape_of(rows)
     };
-    let (script, replies) = texts(alloc, lines)?;
-    check(
-        rt,
-        alloc,
-        shape,
-        script.as_bytes(),
-        SOUND,
-        Ok(()),
-        replies.as_bytes(),
-    )
+    let (script, replies) = texts(rt.alloc(), lines).expect(rt, "memory for texts");
+    check_replies(rt, shape, script.as_bytes(), replies.as_bytes());
 }

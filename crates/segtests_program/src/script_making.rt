@@ -1,32 +1,26 @@
 //! Shapes that no index can have, and the texts of faults.
+use crate::same::same;
 use crate::script_runs::{SCRIPT, check_same, reader_of, run_over};
 use segindex::MakeFault;
 use segscript::{MemSink, RunFault};
 use segword::{Shape, ShapeFault};
-use std::alloc::Global;
+use std::alloc::AllocGlobal;
 use std::process::Abort;
-use std::test::Fail;
 
 // Checks that the shape has this fault, and that nothing is read and nothing written.
-fn check_refused(
-    rt: &impl Abort,
-    alloc: Global,
-    shape: Shape,
-    fault: ShapeFault,
-) -> Result<(), Fail> {
+fn check_refused<R: AllocGlobal + Abort>(rt: &R, shape: Shape, fault: ShapeFault) {
     let mut reader = reader_of(SCRIPT, 5000, None);
-    let mut writer = MemSink::new(alloc, 1000)?;
-    let found = run_over(alloc, &mut reader, &mut writer, shape);
+    let mut writer = MemSink::new(rt.alloc(), 1000).expect(rt, "memory for a writer");
+    let found = run_over(rt.alloc(), &mut reader, &mut writer, shape);
     let end = Err(RunFault::Make(MakeFault::Shape(fault)));
     check_same(rt, 5000, found, end);
     check_same(rt, 5000, reader.left, SCRIPT);
     check_same(rt, 5000, writer.taken.as_slice(), b"");
     check_same(rt, 5000, writer.flushes, 0);
-    Ok(())
 }
 
 #[test]
-fn a_bad_shape_is_answered_by_its_first_fault(rt: HostRuntime) -> Result<(), Fail> {
+fn a_bad_shape_is_answered_by_its_first_fault(rt: HostRuntime) {
     for (buckets, overflow, passes, segments_each, rows, fault) in [
         (3, 0, 1, 1, 2, ShapeFault::BadBuckets),
         (0, 0, 0, 1, 2, ShapeFault::BadBuckets),
@@ -49,13 +43,12 @@ fn a_bad_shape_is_answered_by_its_first_fault(rt: HostRuntime) -> Result<(), Fai
             rows,
             first_version: 0,
         };
-        check_refused(&rt, rt.alloc(), shape, fault)?;
+        check_refused(&rt, shape, fault);
     }
-    Ok(())
 }
 
 #[test]
-fn the_texts_of_faults(rt: HostRuntime) -> Result<(), Fail> {
+fn the_texts_of_faults(rt: HostRuntime) {
     for (fault, text) in [
         (RunFault::Read, "read failed"),
         (RunFault::Write, "write failed"),
@@ -63,8 +56,7 @@ fn the_texts_of_faults(rt: HostRuntime) -> Result<(), Fail> {
         (RunFault::TooLong, "script too long"),
         (RunFault::Make(MakeFault::OutOfMemory), "out of memory"),
     ] {
-        let shown = format!(in rt.alloc(); "{fault}")?;
-        assert_eq!(rt; shown.as_str(), text);
+        let shown = format!(in rt.alloc(); "{fault}").expect(&rt, "memory for a text");
+        same(&rt, &shown.as_str(), &text);
     }
-    Ok(())
 }

@@ -1,9 +1,8 @@
 //! The moment that ends a line: `@` and a number of 32 bits.
 use crate::script_runs::check_script;
 use segscript::RunFault;
-use std::alloc::Global;
+use std::alloc::AllocGlobal;
 use std::process::Abort;
-use std::test::Fail;
 
 // Each line that has a moment, without it, and what an index without any row replies.
 const LINES: [(&str, &str); 8] = [
@@ -18,52 +17,47 @@ const LINES: [(&str, &str); 8] = [
 ];
 
 // Checks the run of a line that ends so.
-fn check_line(
-    rt: &impl Abort,
-    alloc: Global,
+fn check_line<R: AllocGlobal + Abort>(
+    rt: &R,
     line: &str,
     rest: &str,
     end: Result<(), RunFault>,
     reply: &str,
-) -> Result<(), Fail> {
-    let script = format!(in alloc; "p0 {line}{rest}\n")?;
-    check_script(rt, alloc, 2, script.as_bytes(), end, reply.as_bytes())
+) {
+    let script = format!(in rt.alloc(); "p0 {line}{rest}\n").expect(rt, "memory for a script");
+    check_script(rt, 2, script.as_bytes(), end, reply.as_bytes());
 }
 
 // Checks that each line is answered if it ends so.
-fn check_good(rt: &impl Abort, alloc: Global, rest: &str) -> Result<(), Fail> {
+fn check_good<R: AllocGlobal + Abort>(rt: &R, rest: &str) {
     for (line, reply) in LINES {
-        check_line(rt, alloc, line, rest, Ok(()), reply)?;
+        check_line(rt, line, rest, Ok(()), reply);
     }
-    Ok(())
 }
 
 // Checks that each line is bad if it ends so.
-fn check_bad(rt: &impl Abort, alloc: Global, rest: &str) -> Result<(), Fail> {
+fn check_bad<R: AllocGlobal + Abort>(rt: &R, rest: &str) {
     for (line, _reply) in LINES {
-        check_line(rt, alloc, line, rest, Err(RunFault::Line(1)), "")?;
+        check_line(rt, line, rest, Err(RunFault::Line(1)), "");
     }
-    Ok(())
 }
 
 #[test]
-fn a_moment_is_any_number_of_32_bits(rt: HostRuntime) -> Result<(), Fail> {
+fn a_moment_is_any_number_of_32_bits(rt: HostRuntime) {
     for rest in [" @0", " @9", " @10", " @4294967295"] {
-        check_good(&rt, rt.alloc(), rest)?;
+        check_good(&rt, rest);
     }
-    Ok(())
 }
 
 #[test]
-fn a_line_without_a_moment_is_bad(rt: HostRuntime) -> Result<(), Fail> {
+fn a_line_without_a_moment_is_bad(rt: HostRuntime) {
     for rest in ["", " ", " @0 ", "  @0", "@0"] {
-        check_bad(&rt, rt.alloc(), rest)?;
+        check_bad(&rt, rest);
     }
-    Ok(())
 }
 
 #[test]
-fn another_word_is_no_moment(rt: HostRuntime) -> Result<(), Fail> {
+fn another_word_is_no_moment(rt: HostRuntime) {
     for rest in [
         " @",
         " @x",
@@ -87,14 +81,13 @@ fn another_word_is_no_moment(rt: HostRuntime) -> Result<(), Fail> {
         " @0 @0",
         " 1 @0",
     ] {
-        check_bad(&rt, rt.alloc(), rest)?;
+        check_bad(&rt, rest);
     }
-    Ok(())
 }
 
 // A lock, an unlock, what is held, an eviction and a refilling have no moment.
 #[test]
-fn other_lines_have_no_moment(rt: HostRuntime) -> Result<(), Fail> {
+fn other_lines_have_no_moment(rt: HostRuntime) {
     for line in [
         b"p0 lock a @0\n".as_slice(),
         b"p0 unlock @0\n".as_slice(),
@@ -104,7 +97,6 @@ fn other_lines_have_no_moment(rt: HostRuntime) -> Result<(), Fail> {
         b"p0 refill 0 1 @0\n".as_slice(),
         b"p0 refill 0 @0\n".as_slice(),
     ] {
-        check_script(&rt, rt.alloc(), 2, line, Err(RunFault::Line(1)), b"")?;
+        check_script(&rt, 2, line, Err(RunFault::Line(1)), b"");
     }
-    Ok(())
 }

@@ -5,7 +5,6 @@ ghost use Rattle.segscript.specs.Words.{hands_more, takes_more, takes_none};
 use crate::script_runs::{REPLIES, SCRIPT, check_same, reader_of, run_over, shape_of};
 use segscript::{Failed, MemSink, MemSource, Sink, Source};
 use std::cell::Cell;
-use std::test::Fail;
 
 /// A reader that keeps, for each read, how many bytes the writer had taken.
 #[derive(Drop)]
@@ -64,9 +63,7 @@ impl Sink for TellingSink<'_> {
 }
 
 #[test]
-fn the_reply_of_each_whole_line_is_written_before_the_next_read(
-    rt: HostRuntime,
-) -> Result<(), Fail> {
+fn the_reply_of_each_whole_line_is_written_before_the_next_read(rt: HostRuntime) {
     let written = Cell::new(0);
     let mut reader = WatchingSource {
         inner: reader_of(SCRIPT, 7, None),
@@ -74,7 +71,7 @@ fn the_reply_of_each_whole_line_is_written_before_the_next_read(
         at_reads: Vec::new(rt.alloc()),
     };
     let mut writer = TellingSink {
-        inner: MemSink::new(rt.alloc(), 1000)?,
+        inner: MemSink::new(rt.alloc(), 1000).expect(&rt, "memory for a writer"),
         written: &written,
     };
     let found = run_over(rt.alloc(), &mut reader, &mut writer, shape_of(2));
@@ -84,5 +81,4 @@ fn the_reply_of_each_whole_line_is_written_before_the_next_read(
     // The reads begin at bytes 0, 7, 14, 21, 28, 35, 42 and 49.
     let taken = [0, 0, 0, 0, 9, 9, 16, 24];
     check_same(&rt, 7, reader.at_reads.as_slice(), taken.as_slice());
-    Ok(())
 }

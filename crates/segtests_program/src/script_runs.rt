@@ -3,10 +3,9 @@ ghost use Rattle.std.specs.Prelude.{◌≡◌, false, IfOk};
 
 use segscript::{MemSink, MemSource, RunFault, Sink, Source, WhenFull, run_script};
 use segword::Shape;
-use std::alloc::{AllocError, Global};
+use std::alloc::{AllocError, AllocGlobal, Global};
 use std::fmt::Debug;
 use std::process::Abort;
-use std::test::Fail;
 
 /// How many bytes go through a device at a time.
 pub const STEPS: [usize; 3] = [1, 3, 5000];
@@ -82,6 +81,13 @@ fn writer_of(alloc: Global, step: usize, devices: Devices) -> Result<MemSink, Al
     Ok(writer)
 }
 
+/// How a run has to end, and what it has to write.
+#[derive(Clone, Copy)]
+pub struct Wanted<'w> {
+    pub end: Result<(), RunFault>,
+    pub replies: &'w [u8],
+}
+
 /// Checks one thing that a run came to, which moved so many bytes at a time.
 pub fn check_same<T: Copy + PartialEq + Debug>(rt: &impl Abort, step: usize, found: T, wanted: T) {
     assert_eq!(rt; found, wanted, "in pieces of {step}");
@@ -90,58 +96,56 @@ pub fn check_same<T: Copy + PartialEq + Debug>(rt: &impl Abort, step: usize, fou
 /// Runs a script, and checks how the run ends and what it wrote.
 /// The run flushes once if it ended well or the flush failed, else not at all.
 /// It meets the end of the script at most once.
-pub fn check(
-    rt: &impl Abort,
-    alloc: Global,
+pub fn check<R: AllocGlobal + Abort>(
+    rt: &R,
     shape: Shape,
     script: &[u8],
     devices: Devices,
-    end: Result<(), RunFault>,
-    replies: &[u8],
-) -> Result<(), Fail> {
-    let is_flushed = end.is_ok() || devices.flush_fails;
+    wanted: Wanted<'_>,
+) {
+    let is_flushed = wanted.end.is_ok() || devices.flush_fails;
     for step in STEPS {
         let mut reader = reader_of(script, step, devices.good);
-        let mut writer = writer_of(alloc, step, devices)?;
-        let found = run_over(alloc, &mut reader, &mut writer, shape);
-        check_same(rt, step, found, end);
-        check_same(rt, step, writer.taken.as_slice(), replies);
+        let mut writer = writer_of(rt.alloc(), step, devices).expect(rt, "memory for a writer");
+        let found = run_over(rt.alloc(), &mut reader, &mut writer, shape);
+        check_same(rt, step, found, wanted.end);
+        check_same(rt, step, writer.taken.as_slice(), wanted.replies);
         check_same(rt, step, writer.flushes, u64::from(is_flushed));
         check_same(rt, step, reader.ends <= 1, true);
     }
-    Ok(())
+}
+
+/// Checks a script without bad lines, whose devices don't fail.
+pub fn check_replies<R: AllocGlobal + Abort>(rt: &R, shape: Shape, script: &[u8], replies: &[u8]) {
+    let end = Ok(());
+    check(rt, shape, script, SOUND, Wanted { end, replies });
 }
 
 /// Checks a script whose devices don't fail.
-pub fn check_script(
-    rt: &impl Abort,
-    alloc: Global,
+pub fn check_script<R: AllocGlobal + Abort>(
+    rt: &R,
     rows: u32,
     script: &[u8],
     end: Result<(), RunFault>,
     replies: &[u8],
-) -> Result<(), Fail> {
-    check(rt, alloc, shape_of(rows), script, SOUND, end, replies)
+) {
+    check(rt, shape_of(rows), script, SOUND, Wanted { end, replies });
 }
 
 /// Checks a script without bad lines.
 /// The shape has no overflow bucket, and this many buckets, passes,
 /// segments of a pass and rows of a segment.
-pub fn check_turns(
-    rt: &impl Abort,
-    alloc: Global,
+pub fn check_turns<R: AllocGlobal + Abort>(
+    rt: &R,
     [buckets, passes, segments_each, rows]: [u32; 4],
-    first_version: u32,
     script: &[u8],
     replies: &[u8],
-) -> Result<(), Fail> {
+) {
     let shape = Shape {
         buckets,
-        overflow: 0,
         passes,
         segments_each,
-        rows,
-        first_version,
+        ..shape_of(rows)
     };
-    check(rt, alloc, shape, script, SOUND, Ok(()), replies)
+    check_replies(rt, shape, script, replies);
 }

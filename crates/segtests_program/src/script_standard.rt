@@ -1,11 +1,11 @@
 //! Readers and writers of std.
 //! No contract states how often a reader or a writer of std was called, so these count their calls.
+use crate::same::same;
 use crate::script_runs::{REPLIES, SCRIPT, run_over, shape_of};
 use segscript::{Failed, ReadSource, RunFault, Sink, Source, WriteSink};
 use std::alloc::Global;
 use std::io;
 use std::io::{ErrorKind, Read, Write};
-use std::test::Fail;
 
 /// Hands out as many letters as it has left and the buffer takes. Then it ends or fails.
 #[derive(Drop)]
@@ -77,19 +77,18 @@ fn run(alloc: Global, counter: &mut Counter) -> Result<(), RunFault> {
 }
 
 #[test]
-fn a_flush_is_passed_on_and_an_end_is_no_failure(rt: HostRuntime) -> Result<(), Fail> {
+fn a_flush_is_passed_on_and_an_end_is_no_failure(rt: HostRuntime) {
     for (flush_fails, end) in [(false, Ok(())), (true, Err(RunFault::Write))] {
         let mut counter = counter_of(false, flush_fails);
         let found = run(rt.alloc(), &mut counter);
-        assert_eq!(rt; found, end);
-        assert_eq!(rt; counter.bytes, REPLIES.len());
-        assert_eq!(rt; counter.flushes, 1);
+        same(&rt, &found, &end);
+        same(&rt, &counter.bytes, &REPLIES.len());
+        same(&rt, &counter.flushes, &1);
     }
-    Ok(())
 }
 
 #[test]
-fn a_read_is_one_read_of_std(rt: HostRuntime) -> Result<(), Fail> {
+fn a_read_is_one_read_of_std(rt: HostRuntime) {
     for (left, fails, told) in [(2, false, Ok(2)), (0, false, Ok(0)), (0, true, Err(Failed))] {
         let mut letters = Letters {
             left,
@@ -98,32 +97,29 @@ fn a_read_is_one_read_of_std(rt: HostRuntime) -> Result<(), Fail> {
         };
         let mut source = ReadSource::new(&mut letters);
         let mut buffer = [0; 8];
-        assert_eq!(rt; source.read(&mut buffer), told);
-        assert_eq!(rt; letters.reads, 1);
+        same(&rt, &source.read(&mut buffer), &told);
+        same(&rt, &letters.reads, &1);
     }
-    Ok(())
 }
 
 #[test]
-fn a_write_is_one_write_of_std(rt: HostRuntime) -> Result<(), Fail> {
+fn a_write_is_one_write_of_std(rt: HostRuntime) {
     for (write_fails, told) in [(false, Ok(2)), (true, Err(Failed))] {
         let mut counter = counter_of(write_fails, false);
         let mut sink = WriteSink::new(&mut counter);
-        assert_eq!(rt; sink.write(b"ab"), told);
-        assert_eq!(rt; counter.writes, 1);
-        assert_eq!(rt; counter.flushes, 0);
+        same(&rt, &sink.write(b"ab"), &told);
+        same(&rt, &counter.writes, &1);
+        same(&rt, &counter.flushes, &0);
     }
-    Ok(())
 }
 
 #[test]
-fn a_flush_is_one_flush_of_std(rt: HostRuntime) -> Result<(), Fail> {
+fn a_flush_is_one_flush_of_std(rt: HostRuntime) {
     for (flush_fails, told) in [(false, Ok(())), (true, Err(Failed))] {
         let mut counter = counter_of(false, flush_fails);
         let mut sink = WriteSink::new(&mut counter);
-        assert_eq!(rt; sink.flush(), told);
-        assert_eq!(rt; sink.flush(), told);
-        assert_eq!(rt; counter.flushes, 2);
+        same(&rt, &sink.flush(), &told);
+        same(&rt, &sink.flush(), &told);
+        same(&rt, &counter.flushes, &2);
     }
-    Ok(())
 }
