@@ -1,6 +1,7 @@
 //! The index with its one pass beside the plain cache:
 //! over commands drawn at random both return the same.
 //! Their moments and deadlines are small numbers, so that many keys are expired.
+use crate::same::{check_that, same};
 use rand_core::utils::NextWord;
 use rand_pcg::Lcg64Xsh32;
 use segmodel::{
@@ -9,9 +10,8 @@ use segmodel::{
 };
 use segsolo::Solo;
 use segword::{Key, Shape, Value};
-use std::alloc::Global;
+use std::alloc::AllocGlobal;
 use std::process::Abort;
-use std::test::Fail;
 
 const COMMANDS: u32 = 10_000;
 
@@ -61,7 +61,7 @@ const FULL_OF_EXPIRED: Load = Load {
 };
 
 // A plain cache and an index, both of this shape.
-fn both(alloc: Global, load: Load) -> Result<(Plain, Solo), Fail> {
+fn both<R: AllocGlobal + Abort>(rt: &R, load: Load) -> (Plain, Solo) {
     let shape = Shape {
         buckets: load.buckets,
         overflow: load.overflow,
@@ -70,10 +70,10 @@ fn both(alloc: Global, load: Load) -> Result<(Plain, Solo), Fail> {
         rows: load.rows,
         first_version: FIRST_VERSION,
     };
-    shape.check().ok().ok_or("no shape")?;
-    let plain = Plain::new(alloc, &shape).ok().ok_or("out of memory")?;
-    let solo = Solo::new(alloc, shape).ok().ok_or("out of memory")?;
-    Ok((plain, solo))
+    shape.check().expect(rt, "a shape");
+    let plain = Plain::new(rt.alloc(), &shape).expect(rt, "memory");
+    let solo = Solo::new(rt.alloc(), shape).expect(rt, "memory");
+    (plain, solo)
 }
 
 // A number below the limit, which is at least 1.
@@ -199,21 +199,16 @@ impl Came {
 }
 
 // Serves a command by both caches, and returns what both answer.
-fn serve_both(
-    rt: &impl Abort,
-    plain: &mut Plain,
-    solo: &mut Solo,
-    command: &Command,
-) -> Result<Answer, Fail> {
-    let expected = plain.serve(command).ok().ok_or("out of memory")?;
-    let given = solo.serve(command).ok().ok_or("out of memory")?;
+fn serve_both(rt: &impl Abort, plain: &mut Plain, solo: &mut Solo, command: &Command) -> Answer {
+    let expected = plain.serve(command).expect(rt, "memory");
+    let given = solo.serve(command).expect(rt, "memory");
     assert_eq!(rt; given, expected, "{command:?}");
-    Ok(expected)
+    expected
 }
 
 // Serves so many commands by both, each once the one before is answered.
-fn serve_alike(rt: &impl Abort, alloc: Global, load: Load) -> Result<Came, Fail> {
-    let (mut plain, mut solo) = both(alloc, load)?;
+fn serve_alike<R: AllocGlobal + Abort>(rt: &R, load: Load) -> Came {
+    let (mut plain, mut solo) = both(rt, load);
     let seed = load.buckets.wrapping_add(load.overflow.wrapping_mul(8));
     let stream = load.rows ^ load.deadlines;
     let mut generator = Lcg64Xsh32::new(u64::from(seed), u64::from(stream));
@@ -224,23 +219,23 @@ fn serve_alike(rt: &impl Abort, alloc: Global, load: Load) -> Result<Came, Fail>
         version: FIRST_VERSION,
     };
     for _ in 0..COMMANDS {
-        let command = command(&mut generator, load, came.version).ok_or("no command")?;
-        let answer = serve_both(rt, &mut plain, &mut solo, &command)?;
-        came.note(load, &command, &answer).ok_or("Busy or Held")?;
+        let command = command(&mut generator, load, came.version).expect(rt, "a command");
+        let answer = serve_both(rt, &mut plain, &mut solo, &command);
+        came.note(load, &command, &answer)
+            .expect(rt, "neither Busy nor Held");
     }
-    Ok(came)
+    came
 }
 
 #[test]
-fn one_bucket_that_fills(rt: HostRuntime) -> Result<(), Fail> {
-    let came = serve_alike(&rt, rt.alloc(), ONE_BUCKET)?;
-    assert_eq!(rt; came.kinds, [true; KINDS]);
-    Ok(())
+fn one_bucket_that_fills(rt: HostRuntime) {
+    let came = serve_alike(&rt, ONE_BUCKET);
+    same(&rt, &came.kinds, &[true; KINDS]);
 }
 
 // Each second deadline is past all moments, and two segments often have the same one.
 #[test]
-fn items_that_move(rt: HostRuntime) -> Result<(), Fail> {
+fn items_that_move(rt: HostRuntime) {
     let load = Load {
         buckets: 4,
         keys: 40,
@@ -248,65 +243,60 @@ fn items_that_move(rt: HostRuntime) -> Result<(), Fail> {
         moments: 1,
         ..ONE_BUCKET
     };
-    let came = serve_alike(&rt, rt.alloc(), load)?;
-    assert!(rt; came.moved > 50);
-    Ok(())
+    let came = serve_alike(&rt, load);
+    check_that(&rt, came.moved > 50);
 }
 
 #[test]
-fn segments_that_run_out_of_rows(rt: HostRuntime) -> Result<(), Fail> {
+fn segments_that_run_out_of_rows(rt: HostRuntime) {
     let load = Load {
         rows: 3,
         ..ONE_BUCKET
     };
-    let came = serve_alike(&rt, rt.alloc(), load)?;
-    assert!(rt; came.kinds[4]);
-    Ok(())
+    let came = serve_alike(&rt, load);
+    check_that(&rt, came.kinds[4]);
 }
 
 #[test]
-fn more_buckets_than_keys(rt: HostRuntime) -> Result<(), Fail> {
+fn more_buckets_than_keys(rt: HostRuntime) {
     let load = Load {
         buckets: 64,
         rows: 5,
         ..ONE_BUCKET
     };
-    let came = serve_alike(&rt, rt.alloc(), load)?;
-    assert!(rt; !came.kinds[5]);
-    Ok(())
+    let came = serve_alike(&rt, load);
+    check_that(&rt, !came.kinds[5]);
 }
 
 // Three buckets take 19 of the 26 keys.
 #[test]
-fn a_chain_that_takes_all_overflow_buckets(rt: HostRuntime) -> Result<(), Fail> {
+fn a_chain_that_takes_all_overflow_buckets(rt: HostRuntime) {
     let load = Load {
         overflow: 2,
         rows: 40,
         draws: 64,
         ..ONE_BUCKET
     };
-    let came = serve_alike(&rt, rt.alloc(), load)?;
-    assert_eq!(rt; came.kinds, [true; KINDS]);
-    Ok(())
+    let came = serve_alike(&rt, load);
+    same(&rt, &came.kinds, &[true; KINDS]);
 }
 
 // Four buckets take 25, and no chain has a fifth.
 #[test]
-fn a_chain_of_four_buckets(rt: HostRuntime) -> Result<(), Fail> {
+fn a_chain_of_four_buckets(rt: HostRuntime) {
     let load = Load {
         overflow: 9,
         rows: 60,
         draws: 128,
         ..ONE_BUCKET
     };
-    let came = serve_alike(&rt, rt.alloc(), load)?;
-    assert!(rt; came.kinds[5]);
-    Ok(())
+    let came = serve_alike(&rt, load);
+    check_that(&rt, came.kinds[5]);
 }
 
 // One of two chains gets the overflow bucket.
 #[test]
-fn two_chains_and_one_overflow_bucket(rt: HostRuntime) -> Result<(), Fail> {
+fn two_chains_and_one_overflow_bucket(rt: HostRuntime) {
     let load = Load {
         buckets: 2,
         overflow: 1,
@@ -314,52 +304,48 @@ fn two_chains_and_one_overflow_bucket(rt: HostRuntime) -> Result<(), Fail> {
         draws: 128,
         ..ONE_BUCKET
     };
-    let came = serve_alike(&rt, rt.alloc(), load)?;
-    assert!(rt; came.kinds[5]);
-    Ok(())
+    let came = serve_alike(&rt, load);
+    check_that(&rt, came.kinds[5]);
 }
 
 // Serves a load whose buckets have to be full of expired keys again and again.
 // Returns which kinds of answer came.
-fn serve_expired(rt: &impl Abort, alloc: Global, load: Load) -> Result<[bool; KINDS], Fail> {
-    let came = serve_alike(rt, alloc, load)?;
-    assert!(rt; came.full > COMMANDS / 10);
-    Ok(came.kinds)
+fn serve_expired<R: AllocGlobal + Abort>(rt: &R, load: Load) -> [bool; KINDS] {
+    let came = serve_alike(rt, load);
+    check_that(rt, came.full > COMMANDS / 10);
+    came.kinds
 }
 
 #[test]
-fn one_bucket_of_expired_keys(rt: HostRuntime) -> Result<(), Fail> {
-    let kinds = serve_expired(&rt, rt.alloc(), FULL_OF_EXPIRED)?;
-    assert_eq!(rt; kinds, [true; KINDS]);
-    Ok(())
+fn one_bucket_of_expired_keys(rt: HostRuntime) {
+    let kinds = serve_expired(&rt, FULL_OF_EXPIRED);
+    same(&rt, &kinds, &[true; KINDS]);
 }
 
 #[test]
-fn two_buckets_of_expired_keys(rt: HostRuntime) -> Result<(), Fail> {
+fn two_buckets_of_expired_keys(rt: HostRuntime) {
     let load = Load {
         buckets: 2,
         keys: 60,
         ..FULL_OF_EXPIRED
     };
-    serve_expired(&rt, rt.alloc(), load)?;
-    Ok(())
+    serve_expired(&rt, load);
 }
 
 #[test]
-fn a_chain_of_expired_keys(rt: HostRuntime) -> Result<(), Fail> {
+fn a_chain_of_expired_keys(rt: HostRuntime) {
     let load = Load {
         overflow: 2,
         keys: 60,
         draws: 64,
         ..FULL_OF_EXPIRED
     };
-    serve_expired(&rt, rt.alloc(), load)?;
-    Ok(())
+    serve_expired(&rt, load);
 }
 
 // The chain has words for 25 of the 60 keys.
 #[test]
-fn a_chain_of_four_buckets_of_expired_keys(rt: HostRuntime) -> Result<(), Fail> {
+fn a_chain_of_four_buckets_of_expired_keys(rt: HostRuntime) {
     let load = Load {
         overflow: 9,
         rows: 60,
@@ -367,12 +353,11 @@ fn a_chain_of_four_buckets_of_expired_keys(rt: HostRuntime) -> Result<(), Fail> 
         draws: 128,
         ..FULL_OF_EXPIRED
     };
-    serve_expired(&rt, rt.alloc(), load)?;
-    Ok(())
+    serve_expired(&rt, load);
 }
 
 #[test]
-fn two_chains_of_expired_keys(rt: HostRuntime) -> Result<(), Fail> {
+fn two_chains_of_expired_keys(rt: HostRuntime) {
     let load = Load {
         buckets: 2,
         overflow: 1,
@@ -380,56 +365,51 @@ fn two_chains_of_expired_keys(rt: HostRuntime) -> Result<(), Fail> {
         draws: 64,
         ..FULL_OF_EXPIRED
     };
-    serve_expired(&rt, rt.alloc(), load)?;
-    Ok(())
+    serve_expired(&rt, load);
 }
 
 // The deadlines are 0 and 1, so only one of 32 commands may find a key.
 #[test]
-fn one_bucket_that_is_always_expired(rt: HostRuntime) -> Result<(), Fail> {
+fn one_bucket_that_is_always_expired(rt: HostRuntime) {
     let load = Load {
         deadlines: 2,
         ..FULL_OF_EXPIRED
     };
-    serve_expired(&rt, rt.alloc(), load)?;
-    Ok(())
+    serve_expired(&rt, load);
 }
 
 // What a cache answers to a whole list of commands at once.
-fn answers<S: Shelf>(
-    alloc: Global,
+fn answers<R: AllocGlobal + Abort, S: Shelf>(
+    rt: &R,
     shelf: &mut S,
     commands: &[Command],
-) -> Result<Vec<Answer>, Fail> {
-    let mut answers = Vec::new(alloc);
-    run(shelf, commands, &mut answers)
-        .ok()
-        .ok_or("out of memory")?;
-    Ok(answers)
+) -> Vec<Answer> {
+    let mut answers = Vec::new(rt.alloc());
+    run(shelf, commands, &mut answers).expect(rt, "memory");
+    answers
 }
 
 // So many commands, drawn at random.
-fn commands(alloc: Global, number: u32) -> Result<Vec<Command>, Fail> {
+fn commands<R: AllocGlobal + Abort>(rt: &R, number: u32) -> Vec<Command> {
     let mut generator = Lcg64Xsh32::new(1, 2);
-    let mut commands = Vec::new(alloc);
+    let mut commands = Vec::new(rt.alloc());
     for _ in 0..number {
-        let command = command(&mut generator, ONE_BUCKET, FIRST_VERSION).ok_or("no command")?;
-        commands.push(command)?;
+        let command = command(&mut generator, ONE_BUCKET, FIRST_VERSION).expect(rt, "a command");
+        commands.push(command).expect(rt, "memory");
     }
-    Ok(commands)
+    commands
 }
 
 #[test]
-fn a_run_of_commands(rt: HostRuntime) -> Result<(), Fail> {
+fn a_run_of_commands(rt: HostRuntime) {
     let load = Load {
         buckets: 2,
         ..ONE_BUCKET
     };
-    let (mut plain, mut solo) = both(rt.alloc(), load)?;
-    let commands = commands(rt.alloc(), 1_000)?;
-    let expected = answers(rt.alloc(), &mut plain, &commands)?;
-    let given = answers(rt.alloc(), &mut solo, &commands)?;
-    assert_eq!(rt; given.len(), 1_000);
-    assert_eq!(rt; given, expected);
-    Ok(())
+    let (mut plain, mut solo) = both(&rt, load);
+    let commands = commands(&rt, 1_000);
+    let expected = answers(&rt, &mut plain, &commands);
+    let given = answers(&rt, &mut solo, &commands);
+    same(&rt, &given.len(), &1_000);
+    same(&rt, &given, &expected);
 }

@@ -54,19 +54,18 @@ pub fn gets(index: &Index, pass: &mut Pass, key: &Key, draw: u32, now: u32) -> G
     index.gets(pass, key, draw, now)
 }
 
-/// Stores the value and, if it was stored, reads the key.
+/// Stores the value and, if it was stored, reads the key. A hit raises the frequency if it can.
 pub fn probe(
     index: &Index,
     pass: &mut Pass,
     key: &Key,
     value: &Value,
-    draw: u32,
     now: u32,
 ) -> (WriteAnswer, GetAnswer)
     requires { IsQuiet (board_of index.now) pass.old }
     ensures { IsQuiet (board_of index.now) pass.new }
 {
-    index.probe(pass, key, value, draw, now)
+    index.probe(pass, key, value, 0, now)
 }
 
 /// Takes every key out of a segment.

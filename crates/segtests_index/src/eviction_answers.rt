@@ -3,7 +3,6 @@
 use crate::passes::SHAPE;
 use crate::tables::answers;
 use segword::Shape;
-use std::test::Fail;
 
 // Two passes with two segments each: 0 and 1 are of pass 0, 2 and 3 of pass 1.
 // The keys a and c are of bucket 0, b of bucket 1.
@@ -14,7 +13,7 @@ const TWO_EACH: Shape = Shape {
 };
 
 #[test]
-fn an_eviction_counts_what_stands(rt: HostRuntime) -> Result<(), Fail> {
+fn an_eviction_counts_what_stands(rt: HostRuntime) {
     let script = "
         // The key a uses two rows and stands once; b is stored again in another segment.
         p0 refill 0 4294967295 -> REFILLED
@@ -33,11 +32,11 @@ fn an_eviction_counts_what_stands(rt: HostRuntime) -> Result<(), Fail> {
         p0 evict 1 -> EVICTED 1
         p0 get b @0 -> MISS
     ";
-    answers(&rt, rt.alloc(), TWO_EACH, script)
+    answers(&rt, TWO_EACH, script);
 }
 
 #[test]
-fn evicting_the_current_segment_ends_it(rt: HostRuntime) -> Result<(), Fail> {
+fn evicting_the_current_segment_ends_it(rt: HostRuntime) {
     let script = "
         p0 refill 0 4294967295 -> REFILLED
         // A segment that was never filled has nothing to take out,
@@ -53,21 +52,21 @@ fn evicting_the_current_segment_ends_it(rt: HostRuntime) -> Result<(), Fail> {
         p0 evict 0 -> EVICTED 0
         p0 current -> NONE
     ";
-    answers(&rt, rt.alloc(), TWO_EACH, script)
+    answers(&rt, TWO_EACH, script);
 }
 
 #[test]
-fn a_segment_of_nobody_or_another_is_not_yours(rt: HostRuntime) -> Result<(), Fail> {
+fn a_segment_of_nobody_or_another_is_not_yours(rt: HostRuntime) {
     let script = "
         p0 evict 2 -> NOT_YOURS
         p0 evict 4 -> NOT_YOURS
     ";
-    answers(&rt, rt.alloc(), TWO_EACH, script)
+    answers(&rt, TWO_EACH, script);
 }
 
 // A deadline is 0 before the first refilling, and an eviction leaves it.
 #[test]
-fn a_refilling_sets_the_deadline_of_its_segment(rt: HostRuntime) -> Result<(), Fail> {
+fn a_refilling_sets_the_deadline_of_its_segment(rt: HostRuntime) {
     let script = "
         p0 deadline 0 -> 0
         p0 deadline 1 -> 0
@@ -94,11 +93,11 @@ fn a_refilling_sets_the_deadline_of_its_segment(rt: HostRuntime) -> Result<(), F
         p0 deadline 1 -> 8
         p0 deadline 0 -> 0
     ";
-    answers(&rt, rt.alloc(), TWO_EACH, script)
+    answers(&rt, TWO_EACH, script);
 }
 
 #[test]
-fn a_refused_refill_leaves_the_deadline(rt: HostRuntime) -> Result<(), Fail> {
+fn a_refused_refill_leaves_the_deadline(rt: HostRuntime) {
     let script = "
         p0 refill 0 9 -> REFILLED
         p0 refill 0 5 -> NOT_EVICTED
@@ -109,11 +108,11 @@ fn a_refused_refill_leaves_the_deadline(rt: HostRuntime) -> Result<(), Fail> {
         p0 refill 2 5 -> NOT_YOURS
         p1 deadline 2 -> 0
     ";
-    answers(&rt, rt.alloc(), TWO_EACH, script)
+    answers(&rt, TWO_EACH, script);
 }
 
 #[test]
-fn an_eviction_leaves_the_version(rt: HostRuntime) -> Result<(), Fail> {
+fn an_eviction_leaves_the_version(rt: HostRuntime) {
     let script = "
         p0 refill 0 4294967295 -> REFILLED
         p0 set a 1 @0 -> STORED
@@ -124,11 +123,11 @@ fn an_eviction_leaves_the_version(rt: HostRuntime) -> Result<(), Fail> {
         // Two sets, and an eviction that isn't counted.
         p0 gets a @0 -> VALUE 5 2
     ";
-    answers(&rt, rt.alloc(), TWO_EACH, script)
+    answers(&rt, TWO_EACH, script);
 }
 
 #[test]
-fn an_eviction_stops_at_a_locked_bucket(rt: HostRuntime) -> Result<(), Fail> {
+fn an_eviction_stops_at_a_locked_bucket(rt: HostRuntime) {
     let script = "
         p0 refill 0 4294967295 -> REFILLED
         p0 set a 1 @0 -> STORED
@@ -148,11 +147,11 @@ fn an_eviction_stops_at_a_locked_bucket(rt: HostRuntime) -> Result<(), Fail> {
         p0 get b @0 -> MISS
         p0 get c @0 -> MISS
     ";
-    answers(&rt, rt.alloc(), TWO_EACH, script)
+    answers(&rt, TWO_EACH, script);
 }
 
 #[test]
-fn a_lock_bars_its_own_pass(rt: HostRuntime) -> Result<(), Fail> {
+fn a_lock_bars_its_own_pass(rt: HostRuntime) {
     let script = "
         p0 refill 0 4294967295 -> REFILLED
         p0 set a 1 @0 -> STORED
@@ -161,11 +160,11 @@ fn a_lock_bars_its_own_pass(rt: HostRuntime) -> Result<(), Fail> {
         p0 unlock -> UNLOCKED
         p0 evict 0 -> EVICTED 1
     ";
-    answers(&rt, rt.alloc(), TWO_EACH, script)
+    answers(&rt, TWO_EACH, script);
 }
 
 #[test]
-fn a_key_that_is_gone_is_in_no_way(rt: HostRuntime) -> Result<(), Fail> {
+fn a_key_that_is_gone_is_in_no_way(rt: HostRuntime) {
     let script = "
         p0 refill 0 4294967295 -> REFILLED
         p0 set a 1 @0 -> STORED
@@ -177,5 +176,5 @@ fn a_key_that_is_gone_is_in_no_way(rt: HostRuntime) -> Result<(), Fail> {
         p0 evict 0 -> EVICTED 1
         p0 get b @0 -> VALUE 2
     ";
-    answers(&rt, rt.alloc(), TWO_EACH, script)
+    answers(&rt, TWO_EACH, script);
 }

@@ -2,9 +2,9 @@
 //! a key whose deadline has come is absent, and it still stands.
 use crate::holds::{held_value, hold, release};
 use crate::passes::SHAPE;
+use crate::same::same;
 use crate::tables::{answers, answers_alone, answers_and_lists, served};
 use segword::{Key, Shape};
-use std::test::Fail;
 
 // Nine rows, and seven words in the only bucket.
 const NINE_ROWS: Shape = Shape { rows: 9, ..SHAPE };
@@ -16,7 +16,7 @@ const TWO_EACH: Shape = Shape {
 };
 
 #[test]
-fn reads_before_a_deadline_and_at_it(rt: HostRuntime) -> Result<(), Fail> {
+fn reads_before_a_deadline_and_at_it(rt: HostRuntime) {
     let script = "
         p0 refill 0 10 -> REFILLED
         p0 set a 1 @0 -> STORED
@@ -37,11 +37,11 @@ fn reads_before_a_deadline_and_at_it(rt: HostRuntime) -> Result<(), Fail> {
         p0 evict 0 -> EVICTED 1
         p0 refill 0 20 -> REFILLED
     ";
-    answers(&rt, rt.alloc(), SHAPE, script)
+    answers(&rt, SHAPE, script);
 }
 
 #[test]
-fn writes_before_a_deadline(rt: HostRuntime) -> Result<(), Fail> {
+fn writes_before_a_deadline(rt: HostRuntime) {
     let script = "
         p0 refill 0 10 -> REFILLED
         p0 set a 1 @9 -> STORED
@@ -54,11 +54,11 @@ fn writes_before_a_deadline(rt: HostRuntime) -> Result<(), Fail> {
         p0 delete a @9 -> NOT_FOUND
         p0 used 0 -> 3
     ";
-    answers(&rt, rt.alloc(), NINE_ROWS, script)
+    answers(&rt, NINE_ROWS, script);
 }
 
 #[test]
-fn writes_at_a_deadline(rt: HostRuntime) -> Result<(), Fail> {
+fn writes_at_a_deadline(rt: HostRuntime) {
     let script = "
         p0 refill 0 10 -> REFILLED
         p0 set a 1 @9 -> STORED
@@ -77,11 +77,11 @@ fn writes_at_a_deadline(rt: HostRuntime) -> Result<(), Fail> {
         p0 used 0 -> 3
         p0 evict 0 -> EVICTED 1
     ";
-    answers(&rt, rt.alloc(), NINE_ROWS, script)
+    answers(&rt, NINE_ROWS, script);
 }
 
 #[test]
-fn writes_by_a_pass_whose_segment_lives_on(rt: HostRuntime) -> Result<(), Fail> {
+fn writes_by_a_pass_whose_segment_lives_on(rt: HostRuntime) {
     let script = "
         p0 refill 0 10 -> REFILLED
         p1 refill 2 20 -> REFILLED
@@ -104,11 +104,11 @@ fn writes_by_a_pass_whose_segment_lives_on(rt: HostRuntime) -> Result<(), Fail> 
         p0 evict 0 -> EVICTED 0
         p1 evict 2 -> EVICTED 0
     ";
-    answers(&rt, rt.alloc(), TWO_EACH, script)
+    answers(&rt, TWO_EACH, script);
 }
 
 #[test]
-fn a_set_past_the_deadline_of_its_own_segment(rt: HostRuntime) -> Result<(), Fail> {
+fn a_set_past_the_deadline_of_its_own_segment(rt: HostRuntime) {
     let script = "
         p0 refill 0 10 -> REFILLED
         p0 probe a 1 @9 -> STORED VALUE 1
@@ -121,11 +121,11 @@ fn a_set_past_the_deadline_of_its_own_segment(rt: HostRuntime) -> Result<(), Fai
         p0 used 0 -> 5
         p0 evict 0 -> EVICTED 3
     ";
-    answers(&rt, rt.alloc(), NINE_ROWS, script)
+    answers(&rt, NINE_ROWS, script);
 }
 
 #[test]
-fn no_deadline_is_for_ever(rt: HostRuntime) -> Result<(), Fail> {
+fn no_deadline_is_for_ever(rt: HostRuntime) {
     let script = "
         p0 refill 0 4294967295 -> REFILLED
         p0 set a 1 @4294967295 -> STORED
@@ -144,11 +144,11 @@ fn no_deadline_is_for_ever(rt: HostRuntime) -> Result<(), Fail> {
         p0 get a @0 -> VALUE 1
         p0 delete a @4294967294 -> DELETED
     ";
-    answers(&rt, rt.alloc(), TWO_EACH, script)
+    answers(&rt, TWO_EACH, script);
 }
 
 #[test]
-fn a_bucket_full_of_expired_keys(rt: HostRuntime) -> Result<(), Fail> {
+fn a_bucket_full_of_expired_keys(rt: HostRuntime) {
     let script = "
         p0 refill 0 10 -> REFILLED
         p0 set a 1 @1 -> STORED
@@ -174,12 +174,12 @@ fn a_bucket_full_of_expired_keys(rt: HostRuntime) -> Result<(), Fail> {
         p0 get h @10 -> VALUE 1
         p0 evict 1 -> EVICTED 3
     ";
-    answers(&rt, rt.alloc(), TWO_EACH, script)
+    answers(&rt, TWO_EACH, script);
 }
 
 // With one overflow bucket the chain has thirteen words.
 #[test]
-fn a_chain_grows_beside_expired_keys(rt: HostRuntime) -> Result<(), Fail> {
+fn a_chain_grows_beside_expired_keys(rt: HostRuntime) {
     let shape = Shape {
         overflow: 1,
         ..TWO_EACH
@@ -203,12 +203,12 @@ fn a_chain_grows_beside_expired_keys(rt: HostRuntime) -> Result<(), Fail> {
         p0 get g @10 -> VALUE 2
         p0 evict 0 -> EVICTED 6
     ";
-    answers(&rt, rt.alloc(), shape, script)
+    answers(&rt, shape, script);
 }
 
 // A refilling needs each key gone, expired or not.
 #[test]
-fn an_expired_key_is_in_the_way_of_a_refilling(rt: HostRuntime) -> Result<(), Fail> {
+fn an_expired_key_is_in_the_way_of_a_refilling(rt: HostRuntime) {
     let script = "
         p0 refill 0 10 -> REFILLED
         p0 set a 1 @10 -> STORED
@@ -225,11 +225,11 @@ fn an_expired_key_is_in_the_way_of_a_refilling(rt: HostRuntime) -> Result<(), Fa
         p0 set a 2 @10 -> STORED
         p0 get a @10 -> VALUE 2
     ";
-    answers(&rt, rt.alloc(), SHAPE, script)
+    answers(&rt, SHAPE, script);
 }
 
 #[test]
-fn expired_keys_are_listed(rt: HostRuntime) -> Result<(), Fail> {
+fn expired_keys_are_listed(rt: HostRuntime) {
     let script = "
         p0 refill 0 0 -> REFILLED
         p0 set pear 1 @5 -> STORED
@@ -242,11 +242,11 @@ fn expired_keys_are_listed(rt: HostRuntime) -> Result<(), Fail> {
         p0 get apple @9 -> MISS
     ";
     let pairs = [("apple", "3"), ("fig", "4"), ("pear", "1")];
-    answers_and_lists(&rt, rt.alloc(), TWO_EACH, script, &pairs)
+    answers_and_lists(&rt, TWO_EACH, script, &pairs);
 }
 
 #[test]
-fn an_expired_key_of_a_locked_bucket(rt: HostRuntime) -> Result<(), Fail> {
+fn an_expired_key_of_a_locked_bucket(rt: HostRuntime) {
     let script = "
         p0 refill 0 10 -> REFILLED
         p0 set a 1 @0 -> STORED
@@ -276,17 +276,17 @@ fn an_expired_key_of_a_locked_bucket(rt: HostRuntime) -> Result<(), Fail> {
         p0 evict 0 -> EVICTED 1
         p0 refill 0 20 -> REFILLED
     ";
-    answers(&rt, rt.alloc(), SHAPE, script)
+    answers(&rt, SHAPE, script);
 }
 
 #[test]
-fn a_held_item_reads_on_past_its_deadline(rt: HostRuntime) -> Result<(), Fail> {
+fn a_held_item_reads_on_past_its_deadline(rt: HostRuntime) {
     let script = "
         p0 refill 0 10 -> REFILLED
         p0 set a 1 @0 -> STORED
         p1 set_held a 2 @10 -> NOT_HOLDING
     ";
-    let (index, mut first, mut second) = served(&rt, rt.alloc(), SHAPE, script)?;
+    let (index, mut first, mut second) = served(&rt, SHAPE, script);
     let key = Key::new(b"a").expect(&rt, "a key");
     let held = hold(&index, &mut second, &key, 9).expect(&rt, "a hold");
     // The deadline has come for the others, and then the key is taken out.
@@ -300,7 +300,6 @@ fn a_held_item_reads_on_past_its_deadline(rt: HostRuntime) -> Result<(), Fail> {
     let past_eviction = held_value(&index, &mut second, &held);
     release(&index, &mut second, held);
     answers_alone(&rt, &index, &mut first, "p0 refill 0 5 -> REFILLED");
-    assert_eq!(rt; past_deadline.as_bytes(), b"1".as_slice());
-    assert_eq!(rt; past_eviction.as_bytes(), b"1".as_slice());
-    Ok(())
+    let read = [past_deadline.as_bytes(), past_eviction.as_bytes()];
+    same(&rt, &read, &[b"1".as_slice(); 2]);
 }

@@ -4,10 +4,9 @@ use crate::holds::{hold, release};
 use crate::passes::SHAPE;
 use crate::tables::{answers, answers_alone, served};
 use segword::Key;
-use std::test::Fail;
 
 #[test]
-fn a_held_value_outlives_a_set(rt: HostRuntime) -> Result<(), Fail> {
+fn a_held_value_outlives_a_set(rt: HostRuntime) {
     let script = "
         p0 refill 0 4294967295 -> REFILLED
         p0 set_held a 1 @0 -> NOT_HOLDING
@@ -16,11 +15,11 @@ fn a_held_value_outlives_a_set(rt: HostRuntime) -> Result<(), Fail> {
         p0 holding -> NOT_HOLDING
         p0 get a @0 -> VALUE 2
     ";
-    answers(&rt, rt.alloc(), SHAPE, script)
+    answers(&rt, SHAPE, script);
 }
 
 #[test]
-fn a_held_value_outlives_its_eviction(rt: HostRuntime) -> Result<(), Fail> {
+fn a_held_value_outlives_its_eviction(rt: HostRuntime) {
     let script = "
         p0 refill 0 4294967295 -> REFILLED
         p0 set a 7 @0 -> STORED
@@ -28,16 +27,16 @@ fn a_held_value_outlives_its_eviction(rt: HostRuntime) -> Result<(), Fail> {
         p0 get a @0 -> MISS
         p0 refill 0 4294967295 -> REFILLED
     ";
-    answers(&rt, rt.alloc(), SHAPE, script)
+    answers(&rt, SHAPE, script);
 }
 
 #[test]
-fn a_segment_that_is_held_keeps_its_deadline(rt: HostRuntime) -> Result<(), Fail> {
+fn a_segment_that_is_held_keeps_its_deadline(rt: HostRuntime) {
     let script = "
         p0 refill 0 9 -> REFILLED
         p0 set a 1 @0 -> STORED
     ";
-    let (index, mut first, mut second) = served(&rt, rt.alloc(), SHAPE, script)?;
+    let (index, mut first, mut second) = served(&rt, SHAPE, script);
     let key = Key::new(b"a").expect(&rt, "a key");
     let held = hold(&index, &mut second, &key, MOMENT).expect(&rt, "a hold");
     let script = "
@@ -52,5 +51,4 @@ fn a_segment_that_is_held_keeps_its_deadline(rt: HostRuntime) -> Result<(), Fail
         p0 deadline 0 -> 5
     ";
     answers_alone(&rt, &index, &mut first, script);
-    Ok(())
 }

@@ -45,6 +45,8 @@ mod probing;
 #[cfg(test)]
 mod rows;
 #[cfg(test)]
+mod same;
+#[cfg(test)]
 mod seen_numbers;
 #[cfg(test)]
 mod tables;

@@ -1,15 +1,15 @@
 //! Loads out of memory: each request is refused in turn, first those for lists and then those for threads.
 use crate::hoard::{RUNS, STEP, hoard, leave};
+use crate::same::same;
 use segindex::MakeFault;
 use segload::{Gate, LoadFault, Plan, Totals, run_crowd};
 use segword::Shape;
-use std::alloc::AllocGlobal;
+use std::alloc::{AllocError, AllocGlobal, Global};
 use std::num::NonZeroU32;
 use std::process::Abort;
 use std::sync::Wait;
 use std::sync::atomic::AtomicU64;
 use std::sync::atomic::Ordering::SeqCst;
-use std::test::Fail;
 use std::thread::{Threads, yield_now};
 
 const PASSES: usize = 3;
@@ -131,17 +131,17 @@ fn is_counted(
     refused: &mut Refused,
     gate: &Counter,
     ended: &Result<Totals, LoadFault>,
-) -> Result<bool, Fail> {
-    let ran = gate.ran().ok_or("a pass didn't run to its end")?;
+) -> bool {
+    let ran = gate.ran().expect(rt, "a pass ran to its end");
     match ended {
         Err(LoadFault::OutOfMemory) => {}
-        Err(LoadFault::Make(MakeFault::OutOfMemory)) => assert_eq!(rt; ran, 0),
-        _ => return Ok(false),
+        Err(LoadFault::Make(MakeFault::OutOfMemory)) => same(rt, &ran, &0),
+        _ => return false,
     }
     if let Some(count) = refused.get_mut(ran) {
         *count = count.saturating_add(1);
     }
-    Ok(true)
+    true
 }
 
 // Whether runs were refused of which no pass ran, one, and two.
@@ -158,57 +158,64 @@ fn refuse_in_turn<R: Threads + Wait + AllocGlobal + Abort + Sync>(
     rt: &R,
     keys: Option<NonZeroU32>,
     stops: bool,
-) -> Result<Result<Totals, LoadFault>, Fail> {
+) -> Result<Totals, LoadFault> {
     let mut ended = load(rt, keys, &Counter::new(stops, PATIENCE));
-    let all = hoard(rt.alloc())?;
+    let all = hoard(rt.alloc()).expect(rt, "memory");
     let mut refused = [0; PASSES + 1];
     for run in 0..RUNS {
         let gate = Counter::new(stops, YIELDS);
-        let taken = leave(rt.alloc(), STEP * run)?;
+        let taken = leave(rt.alloc(), STEP * run).expect(rt, "memory");
         ended = load(rt, keys, &gate);
         drop(taken);
-        if !is_counted(rt, &mut refused, &gate, &ended)? && has_each(&refused) {
+        if !is_counted(rt, &mut refused, &gate, &ended) && has_each(&refused) {
             break;
         }
     }
     drop(all);
     assert!(rt; has_each(&refused), "{refused:?}");
-    Ok(ended)
+    ended
 }
 
 #[test]
-fn a_load_has_its_lists_or_memory_is_wanted(rt: HostRuntime) -> Result<(), Fail> {
+fn a_load_has_its_lists_or_memory_is_wanted(rt: HostRuntime) {
     for keys in [None, NonZeroU32::new(1)] {
-        let totals = refuse_in_turn(&rt, keys, false)??;
-        assert_eq!(rt; totals.passes.len(), PASSES);
-        assert_eq!(rt; totals.commands(), 150);
+        let totals = refuse_in_turn(&rt, keys, false).expect(&rt, "totals");
+        same(
+            &rt,
+            &(totals.passes.len(), totals.commands()),
+            &(PASSES, 150),
+        );
     }
-    Ok(())
 }
 
 // In the runs where one or two passes ran, the gate stopped pass 0 and another had no thread.
 #[test]
-fn want_of_memory_is_told_before_a_stop(rt: HostRuntime) -> Result<(), Fail> {
-    let ended = refuse_in_turn(&rt, None, true)?;
-    assert_eq!(rt; ended.err(), Some(LoadFault::Stopped(0)));
-    Ok(())
+fn want_of_memory_is_told_before_a_stop(rt: HostRuntime) {
+    let ended = refuse_in_turn(&rt, None, true);
+    same(&rt, &ended.err(), &Some(LoadFault::Stopped(0)));
+}
+
+// The blocks that are given up one by one.
+fn room_of(alloc: Global) -> Result<Vec<Vec<u8>>, AllocError> {
+    let mut room = Vec::with_capacity(alloc, BLOCKS)?;
+    for _ in 0..BLOCKS {
+        let block: Vec<u8> = Vec::with_capacity(alloc, BLOCK)?;
+        room.push(block)?;
+    }
+    Ok(room)
 }
 
 #[test]
-fn a_pass_without_a_thread_does_not_stop_the_others(rt: HostRuntime) -> Result<(), Fail> {
-    let mut room = Vec::with_capacity(rt.alloc(), BLOCKS)?;
-    for _ in 0..BLOCKS {
-        let block: Vec<u8> = Vec::with_capacity(rt.alloc(), BLOCK)?;
-        room.push(block)?;
-    }
-    let all = hoard(rt.alloc())?;
+fn a_pass_without_a_thread_does_not_stop_the_others(rt: HostRuntime) {
+    let room = room_of(rt.alloc()).expect(&rt, "memory");
+    let all = hoard(rt.alloc()).expect(&rt, "memory");
     let mut refused = [0; PASSES + 1];
     let mut commands = 0;
     for block in room {
         let gate = Counter::new(false, YIELDS);
         let ended = load(&rt, None, &gate);
-        if !is_counted(&rt, &mut refused, &gate, &ended)? {
-            commands = ended?.commands();
+        if !is_counted(&rt, &mut refused, &gate, &ended) {
+            commands = ended.expect(&rt, "totals").commands();
             if has_each(&refused) {
                 break;
             }
@@ -217,6 +224,5 @@ fn a_pass_without_a_thread_does_not_stop_the_others(rt: HostRuntime) -> Result<(
     }
     drop(all);
     assert!(rt; has_each(&refused) && refused[PASSES] == 0, "{refused:?}");
-    assert_eq!(rt; commands, 150);
-    Ok(())
+    same(&rt, &commands, &150);
 }

@@ -5,7 +5,6 @@ use segscript::{MemSink, MemSource};
 use std::alloc::{AllocError, AllocGlobal, Global};
 use std::process::Abort;
 use std::sync::Wait;
-use std::test::Fail;
 use std::thread::Threads;
 
 const SCRIPT: &[u8] = b"p0 refill 0 4294967295\np0 set a 1 @0\np0 get a @0\n";
@@ -36,49 +35,41 @@ fn is_refused<R: Threads + Wait + AllocGlobal + Abort + Sync>(
     words: &[&str],
     status: u8,
     bytes: Option<usize>,
-) -> Result<bool, Fail> {
-    let list = words_of(rt.alloc(), words)?;
+) -> bool {
+    let list = words_of(rt.alloc(), words).expect(rt, "memory");
     let mut streams = Streams {
         source: MemSource::new(input_of(words)),
-        writer: MemSink::new(rt.alloc(), 10_000)?,
-        errors: MemSink::new(rt.alloc(), 10_000)?,
+        writer: MemSink::new(rt.alloc(), 10_000).expect(rt, "memory"),
+        errors: MemSink::new(rt.alloc(), 10_000).expect(rt, "memory"),
     };
     let taken = match bytes {
-        Some(bytes) => Some(leave(rt.alloc(), bytes)?),
+        Some(bytes) => Some(leave(rt.alloc(), bytes).expect(rt, "memory")),
         None => None,
     };
     let ended = run_program(rt, rt.alloc(), list.as_slice(), &mut streams);
     drop(taken);
     if ended == status {
-        return Ok(false);
+        return false;
     }
-    assert_eq!(rt; ended, 3, "{words:?}");
-    assert_eq!(rt;
-        streams.errors.taken.as_slice(),
-        b"out of memory\n".as_slice(),
-        "{words:?}"
-    );
-    assert_eq!(rt;
+    let wanted = (3, b"out of memory\n".as_slice(), b"".as_slice());
+    let (written, printed) = (
         streams.writer.taken.as_slice(),
-        b"".as_slice(),
-        "{words:?}"
+        streams.errors.taken.as_slice(),
     );
-    Ok(true)
+    assert_eq!(rt; (ended, printed, written), wanted, "{words:?}");
+    true
 }
 
 // For each of these command lines, each request of the program is refused in turn.
 // Once none is refused, the program ends with this status.
-fn refuse_in_turn<R: Threads + Wait + AllocGlobal + Abort + Sync>(
-    rt: &R,
-    table: &[(&[&str], u8)],
-) -> Result<(), Fail> {
-    for (words, status) in table.iter().copied() {
+fn refuse_in_turn<R: Threads + Wait + AllocGlobal + Abort + Sync>(rt: &R, table: &[(&[&str], u8)]) {
+    for &(words, status) in table {
         // The C library keeps the stacks of a load's threads for the threads of the next load.
-        assert!(rt; !is_refused(rt, words, status, None)?, "{words:?}");
-        let all = hoard(rt.alloc())?;
+        assert!(rt; !is_refused(rt, words, status, None), "{words:?}");
+        let all = hoard(rt.alloc()).expect(rt, "memory");
         let mut refused = 0;
         for run in 0..RUNS {
-            if !is_refused(rt, words, status, Some(STEP * run))? {
+            if !is_refused(rt, words, status, Some(STEP * run)) {
                 break;
             }
             refused = run + 1;
@@ -89,11 +80,10 @@ fn refuse_in_turn<R: Threads + Wait + AllocGlobal + Abort + Sync>(
             "{words:?}: {refused} refusals"
         );
     }
-    Ok(())
 }
 
 #[test]
-fn a_command_is_carried_out_or_memory_is_wanted(rt: HostRuntime) -> Result<(), Fail> {
+fn a_command_is_carried_out_or_memory_is_wanted(rt: HostRuntime) {
     let table = [
         ([].as_slice(), 0),
         (["script", "--rows", "2", "--first-version=7"].as_slice(), 0),
@@ -110,27 +100,27 @@ fn a_command_is_carried_out_or_memory_is_wanted(rt: HostRuntime) -> Result<(), F
             0,
         ),
     ];
-    refuse_in_turn(&rt, &table)
+    refuse_in_turn(&rt, &table);
 }
 
 #[test]
-fn a_bad_command_line_is_told_or_memory_is_wanted(rt: HostRuntime) -> Result<(), Fail> {
+fn a_bad_command_line_is_told_or_memory_is_wanted(rt: HostRuntime) {
     let table = [
         (["script", "--rows"].as_slice(), 2),
         (["scrpt"].as_slice(), 2),
         (["word"].as_slice(), 2),
         (["load", "--seed"].as_slice(), 2),
     ];
-    refuse_in_turn(&rt, &table)
+    refuse_in_turn(&rt, &table);
 }
 
 #[test]
-fn help_is_given_or_memory_is_wanted(rt: HostRuntime) -> Result<(), Fail> {
+fn help_is_given_or_memory_is_wanted(rt: HostRuntime) {
     let table = [
         (["--help"].as_slice(), 0),
         (["help", "script"].as_slice(), 0),
         (["word", "--help"].as_slice(), 0),
         (["--version"].as_slice(), 0),
     ];
-    refuse_in_turn(&rt, &table)
+    refuse_in_turn(&rt, &table);
 }

@@ -1,23 +1,24 @@
 //! Scripts out of memory: each request of creating the index is refused in turn, and none is made after it.
-ghost use Rattle.std.specs.Prelude.{◌≡◌, ◌++◌, [], refl};
+ghost use Rattle.std.specs.Prelude.{◌≡◌, ◌++◌, [], false, refl};
 ghost use Rattle.segscript.specs.Words.{hands_more};
 
-use crate::hoard::{RUNS, STEP, hoard, is_none_left, leave};
+use crate::hoard::{RUNS, STEP, check_refused, hoard, is_none_left, leave};
 use crate::memory_tables::{
     HELD_OVER_EVICTION, LOCKED_AND_HELD, LONGEST_CHAIN, TWO_SEGMENTS, Table,
 };
+use crate::same::{check_that, same};
 use segindex::MakeFault;
-use segscript::{Failed, MemSink, MemSource, RunFault, Source, run_script};
-use std::alloc::{AllocError, Global};
+use segscript::{Failed, MemSink, MemSource, RunFault, Sink, Source, run_script};
+use segword::Shape;
+use std::alloc::{AllocError, AllocGlobal, Global};
 use std::process::Abort;
-use std::test::Fail;
 
 // The lines of a table, and the replies that it wants.
 fn texts_of(alloc: Global, table: Table<'_>) -> Result<(Vec<u8>, Vec<u8>), AllocError> {
     let (_, rows) = table;
     let mut script = Vec::new(alloc);
     let mut replies = Vec::new(alloc);
-    for (line, reply) in rows.iter().copied() {
+    for &(line, reply) in rows {
         script.extend_from_slice(line.as_bytes())?;
         script.push(b'\n')?;
         replies.extend_from_slice(reply.as_bytes())?;
@@ -26,47 +27,58 @@ fn texts_of(alloc: Global, table: Table<'_>) -> Result<(Vec<u8>, Vec<u8>), Alloc
     Ok((script, replies))
 }
 
+// Runs a script. This function has no contract but what a run asks for,
+// so that the proof of a test needn't read that of a run.
+fn run_over<S: Source, W: Sink>(
+    alloc: Global,
+    reader: &mut S,
+    writer: &mut W,
+    shape: Shape,
+) -> Result<(), RunFault>
+    requires reader_works { S.has_failed reader.old ≡ false }
+    requires writer_works { W.has_failed writer.old ≡ false }
+{
+    run_script(alloc, reader, writer, shape)
+}
+
 // Runs a table with so many bytes left, and returns whether its index was refused memory.
 // If it was, nothing was read and nothing written.
-fn is_refused(
-    rt: &impl Abort,
-    alloc: Global,
-    table: Table<'_>,
-    bytes: usize,
-) -> Result<bool, Fail> {
+fn is_refused<R: AllocGlobal + Abort>(rt: &R, table: Table<'_>, bytes: usize) -> bool {
     let (shape, _) = table;
-    let (script, replies) = texts_of(alloc, table)?;
+    let (script, replies) = texts_of(rt.alloc(), table).expect(rt, "memory");
     let mut reader = MemSource::new(script.as_slice());
-    let mut writer = MemSink::new(alloc, 1_000)?;
-    let taken = leave(alloc, bytes)?;
-    let ended = run_script(alloc, &mut reader, &mut writer, shape);
+    let mut writer = MemSink::new(rt.alloc(), 1_000).expect(rt, "memory");
+    let taken = leave(rt.alloc(), bytes).expect(rt, "memory");
+    let ended = run_over(rt.alloc(), &mut reader, &mut writer, shape);
     drop(taken);
     if ended.is_ok() {
-        assert_eq!(rt; writer.taken.as_slice(), replies.as_slice());
-        return Ok(false);
+        same(rt, &writer.taken.as_slice(), &replies.as_slice());
+        return false;
     }
-    assert_eq!(rt; ended, Err(RunFault::Make(MakeFault::OutOfMemory)));
-    assert_eq!(rt; reader.left, script.as_slice());
-    assert_eq!(rt; writer.taken.as_slice(), b"".as_slice());
-    assert_eq!(rt; writer.flushes, 0);
-    Ok(true)
+    same(rt, &ended, &Err(RunFault::Make(MakeFault::OutOfMemory)));
+    same(rt, &reader.left, &script.as_slice());
+    same(
+        rt,
+        &(writer.taken.as_slice(), writer.flushes),
+        &(b"".as_slice(), 0),
+    );
+    true
 }
 
 #[test]
-fn a_script_has_its_index_or_memory_is_wanted(rt: HostRuntime) -> Result<(), Fail> {
+fn a_script_has_its_index_or_memory_is_wanted(rt: HostRuntime) {
     for table in [LONGEST_CHAIN, LOCKED_AND_HELD] {
-        let all = hoard(rt.alloc())?;
+        let all = hoard(rt.alloc()).expect(&rt, "memory");
         let mut refused = 0;
         for run in 0..RUNS {
-            if !is_refused(&rt, rt.alloc(), table, STEP * run)? {
+            if !is_refused(&rt, table, STEP * run) {
                 break;
             }
             refused = run + 1;
         }
         drop(all);
-        assert!(rt; 0 < refused && refused < RUNS, "{refused} refusals");
+        check_refused(&rt, refused);
     }
-    Ok(())
 }
 
 /// A reader that takes all memory before it hands out its first byte.
@@ -117,7 +129,7 @@ impl<'a> Source for TakingSource<'a> {
 }
 
 #[test]
-fn a_script_asks_for_nothing_once_its_index_is_made(rt: HostRuntime) -> Result<(), Fail> {
+fn a_script_asks_for_nothing_once_its_index_is_made(rt: HostRuntime) {
     for table in [
         LONGEST_CHAIN,
         HELD_OVER_EVICTION,
@@ -125,19 +137,18 @@ fn a_script_asks_for_nothing_once_its_index_is_made(rt: HostRuntime) -> Result<(
         LOCKED_AND_HELD,
     ] {
         let (shape, _) = table;
-        let (script, replies) = texts_of(rt.alloc(), table)?;
+        let (script, replies) = texts_of(rt.alloc(), table).expect(&rt, "memory");
         let mut reader = TakingSource {
             inner: MemSource::new(script.as_slice()),
             alloc: rt.alloc(),
             taken: None,
             is_none_left: false,
         };
-        let mut writer = MemSink::new(rt.alloc(), 1_000)?;
-        let ended = run_script(rt.alloc(), &mut reader, &mut writer, shape);
+        let mut writer = MemSink::new(rt.alloc(), 1_000).expect(&rt, "memory");
+        let ended = run_over(rt.alloc(), &mut reader, &mut writer, shape);
         reader.taken = None;
-        assert!(rt; reader.is_none_left);
-        assert_eq!(rt; ended, Ok(()));
-        assert_eq!(rt; writer.taken.as_slice(), replies.as_slice());
+        check_that(&rt, reader.is_none_left);
+        same(&rt, &ended, &Ok(()));
+        same(&rt, &writer.taken.as_slice(), &replies.as_slice());
     }
-    Ok(())
 }

@@ -3,14 +3,14 @@ use crate::commands::{command_of, is_reply};
 use crate::hoard::{hoard, is_none_left, leave};
 use crate::memory_tables::{LONGEST_CHAIN, MOVED_ITEMS, TWO_SEGMENTS, Table};
 use crate::rows::Row;
+use crate::same::{check_that, same};
 use segsolo::Solo;
-use std::alloc::Global;
+use std::alloc::AllocGlobal;
 use std::process::Abort;
-use std::test::Fail;
 
 // The command of the first row that is answered otherwise, or that is no command.
 fn first_wrong<'t>(solo: &mut Solo, rows: &[Row<'t>]) -> Option<&'t str> {
-    for (text, wanted) in rows.iter().copied() {
+    for &(text, wanted) in rows {
         let is_right = match command_of(text) {
             Some(command) => is_reply(wanted, solo.answer(&command)),
             None => false,
@@ -22,25 +22,23 @@ fn first_wrong<'t>(solo: &mut Solo, rows: &[Row<'t>]) -> Option<&'t str> {
     None
 }
 
-fn answers_without_memory(rt: &impl Abort, alloc: Global, table: Table<'_>) -> Result<(), Fail> {
+fn answers_without_memory<R: AllocGlobal + Abort>(rt: &R, table: Table<'_>) {
     let (shape, rows) = table;
-    (shape.passes == 1).then_some(()).ok_or("several passes")?;
-    let mut solo = Solo::new(alloc, shape)?;
-    let all = hoard(alloc)?;
-    let taken = leave(alloc, 0)?;
-    let is_none_left = is_none_left(alloc);
+    assert!(rt; shape.passes == 1);
+    let mut solo = Solo::new(rt.alloc(), shape).expect(rt, "an index");
+    let all = hoard(rt.alloc()).expect(rt, "memory");
+    let taken = leave(rt.alloc(), 0).expect(rt, "memory");
+    let is_none_left = is_none_left(rt.alloc());
     let wrong = first_wrong(&mut solo, rows);
     drop(taken);
     drop(all);
-    assert!(rt; is_none_left);
-    assert_eq!(rt; wrong, None);
-    Ok(())
+    check_that(rt, is_none_left);
+    same(rt, &wrong, &None);
 }
 
 #[test]
-fn commands_of_a_lone_pass_need_no_memory(rt: HostRuntime) -> Result<(), Fail> {
+fn commands_of_a_lone_pass_need_no_memory(rt: HostRuntime) {
     for table in [LONGEST_CHAIN, TWO_SEGMENTS, MOVED_ITEMS] {
-        answers_without_memory(&rt, rt.alloc(), table)?;
+        answers_without_memory(&rt, table);
     }
-    Ok(())
 }

@@ -6,11 +6,11 @@ ghost use Rattle.segread.specs.Words.{IsHoldOf, IsHoldOf-prop};
 use crate::calls::{self, MOMENT};
 use crate::holds::{held_value, hold, release};
 use crate::passes::{SHAPE, two_passes};
+use crate::same::same;
 use crate::tables::served;
 use segindex::{Hold, Index, Pass};
 use segmodel::{GetAnswer, RefillAnswer, WriteAnswer};
 use segword::{Key, Value};
-use std::test::Fail;
 
 /// An index with one of its passes.
 /// Its calls ask for nothing, since the pass is quiet between them.
@@ -61,16 +61,25 @@ impl Holder<'_> {
 }
 
 #[test]
-fn a_cache_sets_and_gets(rt: HostRuntime) -> Result<(), Fail> {
-    let (index, pass, _) = two_passes(rt.alloc(), SHAPE)?;
+fn a_cache_sets_and_gets(rt: HostRuntime) {
+    let (index, pass, _) = two_passes(&rt, SHAPE);
     let mut cache = Cache { index, pass };
     let key = Key::new(b"a").expect(&rt, "a key");
     let value = Value::new(b"1").expect(&rt, "a value");
-    assert_eq!(rt; cache.get(&key, MOMENT), GetAnswer::Miss);
-    assert_eq!(rt; cache.refill(0, u32::MAX), RefillAnswer::Refilled);
-    assert_eq!(rt; cache.set(&key, &value, MOMENT), WriteAnswer::Stored);
-    assert_eq!(rt; cache.get(&key, MOMENT), GetAnswer::Found(value));
-    Ok(())
+    let before = cache.get(&key, MOMENT);
+    let refilled = cache.refill(0, u32::MAX);
+    let stored = cache.set(&key, &value, MOMENT);
+    let after = cache.get(&key, MOMENT);
+    same(
+        &rt,
+        &(before, refilled),
+        &(GetAnswer::Miss, RefillAnswer::Refilled),
+    );
+    same(
+        &rt,
+        &(stored, after),
+        &(WriteAnswer::Stored, GetAnswer::Found(value)),
+    );
 }
 
 // Holds the key, and reads the held value twice.
@@ -85,15 +94,14 @@ fn read_twice(index: &Index, mut pass: Pass, key: &Key) -> Option<(Value, Value)
 }
 
 #[test]
-fn a_holder_reads_its_value(rt: HostRuntime) -> Result<(), Fail> {
+fn a_holder_reads_its_value(rt: HostRuntime) {
     let script = "
         p0 refill 0 4294967295 -> REFILLED
         p0 set a 1 @0 -> STORED
     ";
-    let (index, pass, _) = served(&rt, rt.alloc(), SHAPE, script)?;
+    let (index, pass, _) = served(&rt, SHAPE, script);
     let key = Key::new(b"a").expect(&rt, "a key");
     let value = Value::new(b"1").expect(&rt, "a value");
     let twice = (value.copy(), value);
-    assert_eq!(rt; read_twice(&index, pass, &key), Some(twice));
-    Ok(())
+    same(&rt, &read_twice(&index, pass, &key), &Some(twice));
 }

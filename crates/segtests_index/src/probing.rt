@@ -2,10 +2,9 @@
 use crate::passes::SHAPE;
 use crate::tables::answers;
 use segword::Shape;
-use std::test::Fail;
 
 #[test]
-fn what_was_stored_is_found(rt: HostRuntime) -> Result<(), Fail> {
+fn what_was_stored_is_found(rt: HostRuntime) {
     let script = "
         p0 refill 0 4294967295 -> REFILLED
         p0 probe a 1 @0 -> STORED VALUE 1
@@ -14,12 +13,12 @@ fn what_was_stored_is_found(rt: HostRuntime) -> Result<(), Fail> {
         p0 gets a @0 -> VALUE 2 3
         p0 used 0 -> 3
     ";
-    answers(&rt, rt.alloc(), SHAPE, script)
+    answers(&rt, SHAPE, script);
 }
 
 // The key stands at each refusal but the first, so that a get would find it.
 #[test]
-fn after_a_refused_set_nothing_is_read(rt: HostRuntime) -> Result<(), Fail> {
+fn after_a_refused_set_nothing_is_read(rt: HostRuntime) {
     let script = "
         p0 probe a 1 @0 -> NOROOM BUSY
         p0 refill 0 4294967295 -> REFILLED
@@ -40,11 +39,11 @@ fn after_a_refused_set_nothing_is_read(rt: HostRuntime) -> Result<(), Fail> {
         p0 probe a 2 @0 -> NOROOM BUSY
         p0 gets a @0 -> VALUE 1 4
     ";
-    answers(&rt, rt.alloc(), SHAPE, script)
+    answers(&rt, SHAPE, script);
 }
 
 #[test]
-fn a_full_bucket_takes_a_probe_of_its_own_keys_alone(rt: HostRuntime) -> Result<(), Fail> {
+fn a_full_bucket_takes_a_probe_of_its_own_keys_alone(rt: HostRuntime) {
     let script = "
         p0 refill 0 4294967295 -> REFILLED
         p0 set a 1 @0 -> STORED
@@ -58,5 +57,5 @@ fn a_full_bucket_takes_a_probe_of_its_own_keys_alone(rt: HostRuntime) -> Result<
         p0 probe g 2 @0 -> STORED VALUE 2
         p0 get h @0 -> MISS
     ";
-    answers(&rt, rt.alloc(), Shape { rows: 9, ..SHAPE }, script)
+    answers(&rt, Shape { rows: 9, ..SHAPE }, script);
 }

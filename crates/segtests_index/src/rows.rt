@@ -30,7 +30,7 @@ pub fn first_wrong<'t>(
     requires { IsQuiet (board_of index.now) first.old × IsQuiet (board_of index.now) second.old }
     ensures { IsQuiet (board_of index.now) first.new × IsQuiet (board_of index.now) second.new }
 {
-    for (text, wanted) in rows.iter().copied() {
+    for &(text, wanted) in rows {
         if !is_right(index, first, second, text, wanted) {
             return Some(text);
         }
@@ -173,7 +173,7 @@ fn is_told(index: &Index, pass: &mut Pass, call: Call<'_>, wanted: &str) -> bool
     };
     match call.name {
         "probe" => {
-            let (told, read) = probe(index, pass, &key, &value, 0, now);
+            let (told, read) = probe(index, pass, &key, &value, now);
             match wanted.split_once(' ') {
                 Some((first, second)) => {
                     is_reply(first, Answer::Write(told)) && is_reply(second, Answer::Get(read))

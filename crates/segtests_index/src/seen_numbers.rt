@@ -3,7 +3,6 @@
 use crate::passes::SHAPE;
 use crate::tables::answers;
 use segword::Shape;
-use std::test::Fail;
 
 // Nine rows in each segment. 0 and 1 are of pass 0, 2 and 3 of pass 1.
 const TWO_EACH: Shape = Shape {
@@ -13,7 +12,7 @@ const TWO_EACH: Shape = Shape {
 };
 
 #[test]
-fn rows_of_replaced_and_deleted_keys_are_dead(rt: HostRuntime) -> Result<(), Fail> {
+fn rows_of_replaced_and_deleted_keys_are_dead(rt: HostRuntime) {
     let script = "
         p0 stats -> 0 0 0
         p0 refill 0 9 -> REFILLED
@@ -32,11 +31,11 @@ fn rows_of_replaced_and_deleted_keys_are_dead(rt: HostRuntime) -> Result<(), Fai
         p0 refill 0 9 -> NOT_EVICTED
         p0 stats -> 0 3 0
     ";
-    answers(&rt, rt.alloc(), TWO_EACH, script)
+    answers(&rt, TWO_EACH, script);
 }
 
 #[test]
-fn rows_come_back_with_the_refill(rt: HostRuntime) -> Result<(), Fail> {
+fn rows_come_back_with_the_refill(rt: HostRuntime) {
     let script = "
         p0 refill 0 9 -> REFILLED
         p0 set a 1 @0 -> STORED
@@ -54,11 +53,11 @@ fn rows_come_back_with_the_refill(rt: HostRuntime) -> Result<(), Fail> {
         p0 refill 0 9 -> REFILLED
         p0 stats -> 0 1 1
     ";
-    answers(&rt, rt.alloc(), TWO_EACH, script)
+    answers(&rt, TWO_EACH, script);
 }
 
 #[test]
-fn overflow_buckets_stay_drawn(rt: HostRuntime) -> Result<(), Fail> {
+fn overflow_buckets_stay_drawn(rt: HostRuntime) {
     let shape = Shape {
         overflow: 2,
         ..TWO_EACH
@@ -79,5 +78,5 @@ fn overflow_buckets_stay_drawn(rt: HostRuntime) -> Result<(), Fail> {
         p0 evict 0 -> EVICTED 8
         p0 stats -> 1 8 0
     ";
-    answers(&rt, rt.alloc(), shape, script)
+    answers(&rt, shape, script);
 }

@@ -8,11 +8,11 @@ use crate::calls::{evict, refill, set};
 use crate::digits::{number_of, value_of};
 use crate::holds::{held_value, hold, release};
 use crate::passes::{SHAPE, three_passes};
+use crate::same::same;
 use crate::work::{Work, three_at_once};
 use segindex::{Index, Pass};
 use segmodel::{EvictAnswer, RefillAnswer, WriteAnswer};
 use segword::{Key, Shape, Value};
-use std::test::Fail;
 use std::thread::yield_now;
 
 const ROUNDS: u32 = 1_000;
@@ -106,13 +106,13 @@ fn hold_once(index: &Index, pass: &mut Pass, key: &Key, now: u32) -> Option<u32>
 }
 
 #[test]
-fn held_values_outlive_evictions(rt: HostRuntime) -> Result<(), Fail> {
+fn held_values_outlive_evictions(rt: HostRuntime) {
     let shape = Shape {
         passes: 3,
         rows: 2,
         ..SHAPE
     };
-    let (index, first, second, third) = three_passes(rt.alloc(), shape)?;
+    let (index, first, second, third) = three_passes(&rt, shape);
     let key = Key::new(b"a").expect(&rt, "a key");
     let writer = Writer {
         key: &key,
@@ -126,7 +126,5 @@ fn held_values_outlive_evictions(rt: HostRuntime) -> Result<(), Fail> {
         (second, Holder::new(&key)),
         (third, Holder::new(&key)),
     );
-    assert_eq!(rt; writer.done, ROUNDS);
-    assert_eq!(rt; (holder.well, other.well), (ROUNDS, ROUNDS));
-    Ok(())
+    same(&rt, &[writer.done, holder.well, other.well], &[ROUNDS; 3]);
 }

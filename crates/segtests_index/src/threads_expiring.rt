@@ -7,12 +7,12 @@ use crate::calls::{evict, get, gets, refill, set};
 use crate::digits::{number_of, value_of};
 use crate::holds::{held_value, hold, release};
 use crate::passes::{SHAPE, four_passes};
+use crate::same::same;
 use crate::threads_tables::answers;
 use crate::work::{Work, four_at_once};
 use segindex::{Index, Pass};
 use segmodel::{EvictAnswer, GetAnswer, GetsAnswer, RefillAnswer, WriteAnswer};
 use segword::{Key, Shape, Value};
-use std::test::Fail;
 use std::thread::yield_now;
 
 const ROUNDS: u32 = 1_000;
@@ -143,25 +143,28 @@ fn read(index: &Index, pass: &mut Pass, way: Way, turn: u32, now: u32) -> Option
 }
 
 #[test]
-fn nothing_is_read_past_its_deadline(rt: HostRuntime) -> Result<(), Fail> {
+fn nothing_is_read_past_its_deadline(rt: HostRuntime) {
     let shape = Shape {
         passes: 4,
         segments_each: SEGMENTS,
         ..SHAPE
     };
-    let (index, p0, p1, p2, p3) = four_passes(rt.alloc(), shape)?;
+    let (index, p0, p1, p2, p3) = four_passes(&rt, shape);
     let ((mut p0, writer), (mut p1, first), (_, second), (_, third)) = four_at_once(
         &rt,
         &index,
-        (p0, Writer { round: 0, done: 0 }),
-        (p1, Reader::new(Way::Get)),
-        (p2, Reader::new(Way::Gets)),
-        (p3, Reader::new(Way::Hold)),
+        (
+            (p0, Writer { round: 0, done: 0 }),
+            (p1, Reader::new(Way::Get)),
+        ),
+        ((p2, Reader::new(Way::Gets)), (p3, Reader::new(Way::Hold))),
     );
-    assert_eq!(rt; writer.done, ROUNDS);
-    assert!(rt; first.is_well);
-    assert!(rt; second.is_well);
-    assert!(rt; third.is_well);
+    same(&rt, &writer.done, &ROUNDS);
+    same(
+        &rt,
+        &[first.is_well, second.is_well, third.is_well],
+        &[true; 3],
+    );
     // What the last three rounds left: one key in each of the first two, and two in the last.
     let script = "
         p0 get c @3991 -> VALUE 3992
@@ -174,5 +177,4 @@ fn nothing_is_read_past_its_deadline(rt: HostRuntime) -> Result<(), Fail> {
         p0 evict 1 -> EVICTED 2
     ";
     answers(&rt, &index, &mut p0, &mut p1, script);
-    Ok(())
 }

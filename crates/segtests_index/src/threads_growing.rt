@@ -5,11 +5,11 @@ ghost use Rattle.segstore.specs.Words.{IsQuiet};
 
 use crate::calls::{MOMENT, add, get, meet, set};
 use crate::passes::{SHAPE, two_that_fill};
+use crate::same::same;
 use crate::work::{Work, at_once, take_turns};
 use segindex::{Index, Pass};
 use segmodel::{GetAnswer, WriteAnswer};
 use segword::{Key, Shape, Value};
-use std::test::Fail;
 
 // One more than the last byte of a key: a chain of four buckets has words for half of the keys,
 // and those with bytes of one parity are in one bucket of two.
@@ -116,14 +116,14 @@ fn count_found(index: &Index, pass: Pass) -> u32
 }
 
 #[test]
-fn two_threads_fill_one_bucket(rt: HostRuntime) -> Result<(), Fail> {
+fn two_threads_fill_one_bucket(rt: HostRuntime) {
     let shape = Shape {
         overflow: 5,
         rows: 32,
         ..SHAPE
     };
     for _ in 0..ROUNDS {
-        let (index, first, second) = two_that_fill(rt.alloc(), shape)?;
+        let (index, first, second) = two_that_fill(&rt, shape);
         let ((mut first, adds), (mut second, other_adds)) = at_once(
             &rt,
             &index,
@@ -131,17 +131,16 @@ fn two_threads_fill_one_bucket(rt: HostRuntime) -> Result<(), Fail> {
             (second, Adder::new(1)),
         );
         // Of 50 keys 25 have a word.
-        assert_eq!(rt; adds.stored.saturating_add(other_adds.stored), 25);
-        assert_eq!(rt; adds.full.saturating_add(other_adds.full), 25);
+        let stored = adds.stored.saturating_add(other_adds.stored);
+        let full = adds.full.saturating_add(other_adds.full);
         meet(&index, &mut first, &mut second);
-        assert_eq!(rt; count_found(&index, first), 25);
-        assert_eq!(rt; count_found(&index, second), 25);
+        let found = (count_found(&index, first), count_found(&index, second));
+        same(&rt, &(stored, full, found), &(25, 25, (25, 25)));
     }
-    Ok(())
 }
 
 #[test]
-fn two_chains_share_the_overflow_buckets(rt: HostRuntime) -> Result<(), Fail> {
+fn two_chains_share_the_overflow_buckets(rt: HostRuntime) {
     let shape = Shape {
         buckets: 2,
         overflow: 4,
@@ -149,7 +148,7 @@ fn two_chains_share_the_overflow_buckets(rt: HostRuntime) -> Result<(), Fail> {
         ..SHAPE
     };
     for _ in 0..ROUNDS {
-        let (index, first, second) = two_that_fill(rt.alloc(), shape)?;
+        let (index, first, second) = two_that_fill(&rt, shape);
         let ((mut first, sets), (mut second, other_sets)) = at_once(
             &rt,
             &index,
@@ -158,13 +157,11 @@ fn two_chains_share_the_overflow_buckets(rt: HostRuntime) -> Result<(), Fail> {
         );
         // Each chain has seven words, and six more for each overflow bucket that joined it.
         // The two chains share four overflow buckets, in whatever way.
-        assert_eq!(rt; sets.stored.saturating_add(other_sets.stored), 38);
-        assert_eq!(rt; sets.stored % 6, 1);
+        let stored = sets.stored.saturating_add(other_sets.stored);
         meet(&index, &mut first, &mut second);
-        assert_eq!(rt; count_found(&index, first), 38);
-        assert_eq!(rt; count_found(&index, second), 38);
+        let found = (count_found(&index, first), count_found(&index, second));
+        same(&rt, &(stored, sets.stored % 6, found), &(38, 1, (38, 38)));
     }
-    Ok(())
 }
 
 // Reads a key again and again, and keeps whether it was found each time from the first time on.
@@ -186,7 +183,7 @@ impl Work for Reader {
 }
 
 #[test]
-fn a_key_that_moves_on_stays_found(rt: HostRuntime) -> Result<(), Fail> {
+fn a_key_that_moves_on_stays_found(rt: HostRuntime) {
     let shape = Shape {
         buckets: 2,
         overflow: 3,
@@ -196,7 +193,7 @@ fn a_key_that_moves_on_stays_found(rt: HostRuntime) -> Result<(), Fail> {
     // Bytes of the 7th, 13th and 19th key: each is in the chain's last word as the chain grows.
     for byte in [12u8, 24, 36] {
         for _ in 0..ROUNDS {
-            let (index, first, second) = two_that_fill(rt.alloc(), shape)?;
+            let (index, first, second) = two_that_fill(&rt, shape);
             let reader = Reader {
                 byte,
                 was_found: false,
@@ -208,11 +205,13 @@ fn a_key_that_moves_on_stays_found(rt: HostRuntime) -> Result<(), Fail> {
                 (first, Setter { byte: 0, stored: 0 }),
                 (second, reader),
             );
-            assert_eq!(rt; sets.stored, 25);
-            assert!(rt; reads.stays);
             meet(&index, &mut first, &mut second);
-            assert!(rt; is_found(&index, &mut second, byte, 0));
+            let is_found = is_found(&index, &mut second, byte, 0);
+            same(
+                &rt,
+                &(sets.stored, reads.stays, is_found),
+                &(25, true, true),
+            );
         }
     }
-    Ok(())
 }

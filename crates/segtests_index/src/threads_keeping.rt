@@ -6,12 +6,12 @@ ghost use Rattle.segstore.specs.Words.{IsQuiet};
 use crate::calls::{MOMENT, evict, get, gets, keep, refill, set};
 use crate::digits::value_of;
 use crate::passes::{SHAPE, four_passes};
+use crate::same::same;
 use crate::threads_tables::answers;
 use crate::work::{Work, four_at_once};
 use segindex::{Index, Pass};
 use segmodel::{EvictAnswer, GetAnswer, GetsAnswer, KeepAnswer, RefillAnswer, WriteAnswer};
 use segword::{Key, Shape};
-use std::test::Fail;
 use std::thread::yield_now;
 
 // How many rounds each mover makes at least.
@@ -183,14 +183,14 @@ fn version_of(index: &Index, pass: &mut Pass) -> Option<u32>
 }
 
 #[test]
-fn no_key_is_missed_while_items_move(rt: HostRuntime) -> Result<(), Fail> {
+fn no_key_is_missed_while_items_move(rt: HostRuntime) {
     let shape = Shape {
         passes: 4,
         segments_each: SEGMENTS,
         rows: 8,
         ..SHAPE
     };
-    let (index, mut p0, mut p1, p2, p3) = four_passes(rt.alloc(), shape)?;
+    let (index, mut p0, mut p1, p2, p3) = four_passes(&rt, shape);
     let script = "
         p0 refill 0 4294967295 -> REFILLED
         p1 refill 2 4294967295 -> REFILLED
@@ -203,20 +203,15 @@ fn no_key_is_missed_while_items_move(rt: HostRuntime) -> Result<(), Fail> {
     let ((mut p0, first), (_, second), (_, reader), (_, other)) = four_at_once(
         &rt,
         &index,
-        (p0, Mover::NEW),
-        (p1, Mover::NEW),
-        (p2, Reader::NEW),
-        (p3, Reader::NEW),
+        ((p0, Mover::NEW), (p1, Mover::NEW)),
+        ((p2, Reader::NEW), (p3, Reader::NEW)),
     );
-    assert!(rt; reader.is_well());
-    assert!(rt; other.is_well());
-    assert!(rt; first.is_well());
-    assert!(rt; second.is_well());
+    same(&rt, &(reader.is_well(), other.is_well()), &(true, true));
+    same(&rt, &(first.is_well(), second.is_well()), &(true, true));
     // Four sets came before, and each Stored counts once; no move does.
     let version = first
         .stored
         .saturating_add(second.stored)
         .saturating_add(KEYS);
-    assert_eq!(rt; version_of(&index, &mut p0), Some(version));
-    Ok(())
+    same(&rt, &version_of(&index, &mut p0), &Some(version));
 }

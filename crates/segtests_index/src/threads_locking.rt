@@ -2,11 +2,11 @@
 //! and no bit is left.
 use crate::calls::{lock, unlock};
 use crate::passes::{SHAPE, two_that_fill};
+use crate::same::same;
 use crate::threads_tables::answers;
 use crate::work::{Work, at_once};
 use segindex::{Index, LockAnswer, Pass};
 use segword::Key;
-use std::test::Fail;
 use std::thread::yield_now;
 
 // How often each thread has to lock.
@@ -31,8 +31,8 @@ impl Work for Locker<'_> {
 }
 
 #[test]
-fn two_threads_lock_one_bucket(rt: HostRuntime) -> Result<(), Fail> {
-    let (index, mut first, mut second) = two_that_fill(rt.alloc(), SHAPE)?;
+fn two_threads_lock_one_bucket(rt: HostRuntime) {
+    let (index, mut first, mut second) = two_that_fill(&rt, SHAPE);
     let key = Key::new(b"a").expect(&rt, "a key");
     answers(
         &rt,
@@ -47,12 +47,11 @@ fn two_threads_lock_one_bucket(rt: HostRuntime) -> Result<(), Fail> {
         (first, Locker { key: &key, done: 0 }),
         (second, Locker { key: &key, done: 0 }),
     );
-    assert_eq!(rt; (locks.done, other_locks.done), (LOCKS, LOCKS));
+    same(&rt, &(locks.done, other_locks.done), &(LOCKS, LOCKS));
     // The set alone counts as a write, and no lock is left.
     let script = "
         p0 gets a @0 -> VALUE 1 1
         p0 lock a -> LOCKED
     ";
     answers(&rt, &index, &mut first, &mut second, script);
-    Ok(())
 }

@@ -5,13 +5,13 @@ ghost use Rattle.segstore.specs.Words.{IsQuiet};
 
 use crate::calls::{MOMENT, lists, meet, set};
 use crate::passes::{SHAPE, two_that_fill};
+use crate::same::same;
 use crate::threads_tables::answers;
 use crate::work::{Work, at_once};
 use segindex::{Index, Pass};
 use segmodel::WriteAnswer;
 use segword::{Key, Shape, Value};
 use std::process::Abort;
-use std::test::Fail;
 use std::thread::{Threads, yield_now};
 
 // Sets the key so often, each time again while the bucket is busy,
@@ -54,46 +54,45 @@ impl Work for Setter {
 fn set_at_once<R: Threads + Sync + Abort>(
     rt: &R,
     index: &Index,
-    first: Pass,
-    second: Pass,
+    passes: (Pass, Pass),
     keys: (&str, &str),
     times: u32,
 ) -> (Pass, Pass)
-    requires { IsQuiet (board_of index.now) first × IsQuiet (board_of index.now) second }
+    requires { IsQuiet (board_of index.now) passes.0 × IsQuiet (board_of index.now) passes.1 }
     ensures { IsQuiet (board_of index.now) result.0 × IsQuiet (board_of index.now) result.1 }
 {
     let setter = Setter::new(keys.0, "1", times).expect(rt, "a setter");
     let other = Setter::new(keys.1, "2", times).expect(rt, "a setter");
+    let (first, second) = passes;
     let ((first, sets), (second, other_sets)) = at_once(
         rt,
         index,
         (first, setter),
         (second, other),
     );
-    assert_eq!(rt; (sets.stored, other_sets.stored), (times, times));
+    same(rt, &(sets.stored, other_sets.stored), &(times, times));
     (first, second)
 }
 
 #[test]
-fn the_version_counts_the_sets_of_two_threads(rt: HostRuntime) -> Result<(), Fail> {
+fn the_version_counts_the_sets_of_two_threads(rt: HostRuntime) {
     let shape = Shape {
         rows: 1_000,
         ..SHAPE
     };
-    let (index, first, second) = two_that_fill(rt.alloc(), shape)?;
-    let (mut first, mut second) = set_at_once(&rt, &index, first, second, ("a", "b"), 1_000);
+    let (index, first, second) = two_that_fill(&rt, shape);
+    let (mut first, mut second) = set_at_once(&rt, &index, (first, second), ("a", "b"), 1_000);
     let script = "
         p0 gets a @0 -> VALUE 1 2000
         p0 lock a -> LOCKED
     ";
     answers(&rt, &index, &mut first, &mut second, script);
-    Ok(())
 }
 
 #[test]
-fn two_threads_store_and_meet(rt: HostRuntime) -> Result<(), Fail> {
-    let (index, first, second) = two_that_fill(rt.alloc(), SHAPE)?;
-    let (mut first, mut second) = set_at_once(&rt, &index, first, second, ("a", "b"), 1);
+fn two_threads_store_and_meet(rt: HostRuntime) {
+    let (index, first, second) = two_that_fill(&rt, SHAPE);
+    let (mut first, mut second) = set_at_once(&rt, &index, (first, second), ("a", "b"), 1);
     meet(&index, &mut first, &mut second);
     let script = "
         p0 get a @0 -> VALUE 1
@@ -102,17 +101,16 @@ fn two_threads_store_and_meet(rt: HostRuntime) -> Result<(), Fail> {
         p1 get b @0 -> VALUE 2
     ";
     answers(&rt, &index, &mut first, &mut second, script);
-    Ok(())
 }
 
 #[test]
-fn close_forgets_others(rt: HostRuntime) -> Result<(), Fail> {
+fn close_forgets_others(rt: HostRuntime) {
     let shape = Shape {
         buckets: 4,
         ..SHAPE
     };
-    let (index, first, second) = two_that_fill(rt.alloc(), shape)?;
-    let (mut first, mut second) = set_at_once(&rt, &index, first, second, ("b", "c"), 1);
+    let (index, first, second) = two_that_fill(&rt, shape);
+    let (mut first, mut second) = set_at_once(&rt, &index, (first, second), ("b", "c"), 1);
     meet(&index, &mut first, &mut second);
     // The first pass doesn't see this set.
     answers(
@@ -123,6 +121,5 @@ fn close_forgets_others(rt: HostRuntime) -> Result<(), Fail> {
         "p1 set a 3 @0 -> STORED",
     );
     let pairs = [("a", "3"), ("b", "1"), ("c", "2")];
-    assert_eq!(rt; lists(rt.alloc(), index, first, &pairs), Ok(true));
-    Ok(())
+    same(&rt, &lists(rt.alloc(), index, first, &pairs), &Ok(true));
 }

@@ -5,13 +5,13 @@ ghost use Rattle.segstore.specs.Words.{IsQuiet};
 
 use crate::calls::{MOMENT, get, gets, set};
 use crate::passes::{SHAPE, four_passes};
+use crate::same::same;
 use crate::threads_tables::answers;
 use crate::work::{Work, three_at_once};
 use segindex::{Index, Pass};
 use segmodel::{GetAnswer, GetsAnswer, WriteAnswer};
 use segword::{Key, Shape, Value};
 use std::process::Abort;
-use std::test::Fail;
 use std::thread::Threads;
 
 // How often each thread makes each call.
@@ -94,21 +94,19 @@ fn call_at_once<R: Threads + Sync + Abort>(
         (third, Caller::new(&key, &stands, &other)),
     );
     for counts in [calls.counts(), other_calls.counts(), third_calls.counts()] {
-        assert_eq!(rt; counts, [ROUNDS; 3]);
+        same(rt, &counts, &[ROUNDS; 3]);
     }
     (first, second, third)
 }
 
 #[test]
-fn a_standing_lock_lets_each_get_through_and_no_set_and_no_gets(
-    rt: HostRuntime,
-) -> Result<(), Fail> {
+fn a_standing_lock_lets_each_get_through_and_no_set_and_no_gets(rt: HostRuntime) {
     let shape = Shape {
         passes: 4,
         rows: 8,
         ..SHAPE
     };
-    let (index, mut p0, mut p1, mut p2, mut p3) = four_passes(rt.alloc(), shape)?;
+    let (index, mut p0, mut p1, mut p2, mut p3) = four_passes(&rt, shape);
     let script = "
         p0 refill 0 4294967295 -> REFILLED
         p1 refill 1 4294967295 -> REFILLED
@@ -136,5 +134,4 @@ fn a_standing_lock_lets_each_get_through_and_no_set_and_no_gets(
         p1 gets a @0 -> VALUE 7 5
     ";
     answers(&rt, &index, &mut p0, &mut p1, script);
-    Ok(())
 }

@@ -3,6 +3,7 @@ ghost use Rattle.segindex.specs.Words.{board_of};
 ghost use Rattle.segstore.specs.Words.{IsQuiet};
 
 use crate::rows::first_wrong_line;
+use crate::same::same;
 use segindex::{Index, Pass};
 use std::process::Abort;
 
@@ -12,5 +13,5 @@ pub fn answers(rt: &impl Abort, index: &Index, first: &mut Pass, second: &mut Pa
     ensures { IsQuiet (board_of index.now) first.new × IsQuiet (board_of index.now) second.new }
 {
     let wrong = first_wrong_line(index, first, second, script);
-    assert_eq!(rt; wrong, None);
+    same(rt, &wrong, &None);
 }

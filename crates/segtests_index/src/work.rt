@@ -85,20 +85,20 @@ pub fn three_at_once<R: Threads + Sync, A: Work, B: Work, C: Work>(
     (first, second, third)
 }
 
-/// Four passes do their works on threads of their own.
+/// Four passes, in two pairs, do their works on threads of their own.
 pub fn four_at_once<R: Threads + Sync, A: Work, B: Work, C: Work, D: Work>(
     rt: &R,
     index: &Index,
-    first: (Pass, A),
-    second: (Pass, B),
-    third: (Pass, C),
-    fourth: (Pass, D),
+    pair: ((Pass, A), (Pass, B)),
+    other: ((Pass, C), (Pass, D)),
 ) -> ((Pass, A), (Pass, B), (Pass, C), (Pass, D))
-    requires { IsQuiet (board_of index.now) first.0 × IsQuiet (board_of index.now) second.0
-        × IsQuiet (board_of index.now) third.0 × IsQuiet (board_of index.now) fourth.0 }
+    requires { IsQuiet (board_of index.now) pair.0.0 × IsQuiet (board_of index.now) pair.1.0
+        × IsQuiet (board_of index.now) other.0.0 × IsQuiet (board_of index.now) other.1.0 }
     ensures { IsQuiet (board_of index.now) result.0.0 × IsQuiet (board_of index.now) result.1.0
         × IsQuiet (board_of index.now) result.2.0 × IsQuiet (board_of index.now) result.3.0 }
 {
+    let (first, second) = pair;
+    let (third, fourth) = other;
     let (first, task) = first;
     let (first, (second, third, fourth)) = join(
         rt,

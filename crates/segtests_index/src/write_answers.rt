@@ -3,7 +3,6 @@
 use crate::passes::SHAPE;
 use crate::tables::answers;
 use segword::Shape;
-use std::test::Fail;
 
 // The first write of a bucket makes its version 0.
 const WRAPPING: Shape = Shape {
@@ -15,7 +14,7 @@ const WRAPPING: Shape = Shape {
 const NINE_ROWS: Shape = Shape { rows: 9, ..SHAPE };
 
 #[test]
-fn writes_of_an_absent_key(rt: HostRuntime) -> Result<(), Fail> {
+fn writes_of_an_absent_key(rt: HostRuntime) {
     let script = "
         p0 refill 0 4294967295 -> REFILLED
         p0 add b 1 @0 -> STORED
@@ -30,11 +29,11 @@ fn writes_of_an_absent_key(rt: HostRuntime) -> Result<(), Fail> {
         p0 gets a @0 -> VALUE 1 2
         p0 used 0 -> 2
     ";
-    answers(&rt, rt.alloc(), SHAPE, script)
+    answers(&rt, SHAPE, script);
 }
 
 #[test]
-fn refused_writes_of_a_present_key(rt: HostRuntime) -> Result<(), Fail> {
+fn refused_writes_of_a_present_key(rt: HostRuntime) {
     let script = "
         p0 refill 0 4294967295 -> REFILLED
         p0 set a 1 @0 -> STORED
@@ -44,11 +43,11 @@ fn refused_writes_of_a_present_key(rt: HostRuntime) -> Result<(), Fail> {
         p0 gets a @0 -> VALUE 1 1
         p0 used 0 -> 1
     ";
-    answers(&rt, rt.alloc(), SHAPE, script)
+    answers(&rt, SHAPE, script);
 }
 
 #[test]
-fn writes_of_a_present_key(rt: HostRuntime) -> Result<(), Fail> {
+fn writes_of_a_present_key(rt: HostRuntime) {
     let script = "
         p0 refill 0 4294967295 -> REFILLED
         p0 set a 1 @0 -> STORED
@@ -59,11 +58,11 @@ fn writes_of_a_present_key(rt: HostRuntime) -> Result<(), Fail> {
         p0 gets a @0 -> VALUE 1 3
         p0 used 0 -> 3
     ";
-    answers(&rt, rt.alloc(), SHAPE, script)
+    answers(&rt, SHAPE, script);
 }
 
 #[test]
-fn a_delete_counts_and_uses_no_row(rt: HostRuntime) -> Result<(), Fail> {
+fn a_delete_counts_and_uses_no_row(rt: HostRuntime) {
     let script = "
         p0 delete a @0 -> NOT_FOUND
         p0 refill 0 4294967295 -> REFILLED
@@ -78,11 +77,11 @@ fn a_delete_counts_and_uses_no_row(rt: HostRuntime) -> Result<(), Fail> {
         p0 set a 1 @0 -> STORED
         p0 gets a @0 -> VALUE 1 3
     ";
-    answers(&rt, rt.alloc(), SHAPE, script)
+    answers(&rt, SHAPE, script);
 }
 
 #[test]
-fn a_locked_bucket_takes_no_write(rt: HostRuntime) -> Result<(), Fail> {
+fn a_locked_bucket_takes_no_write(rt: HostRuntime) {
     let script = "
         p0 refill 0 4294967295 -> REFILLED
         p0 set a 1 @0 -> STORED
@@ -102,11 +101,11 @@ fn a_locked_bucket_takes_no_write(rt: HostRuntime) -> Result<(), Fail> {
         p0 cas a 1 1 @0 -> STORED
         p1 delete a @0 -> DELETED
     ";
-    answers(&rt, rt.alloc(), SHAPE, script)
+    answers(&rt, SHAPE, script);
 }
 
 #[test]
-fn no_room_goes_before_the_reply(rt: HostRuntime) -> Result<(), Fail> {
+fn no_room_goes_before_the_reply(rt: HostRuntime) {
     let shape = Shape { rows: 1, ..SHAPE };
     let script = "
         p0 refill 0 4294967295 -> REFILLED
@@ -118,11 +117,11 @@ fn no_room_goes_before_the_reply(rt: HostRuntime) -> Result<(), Fail> {
         p0 cas a 1 0 @0 -> NOROOM
         p0 delete a @0 -> DELETED
     ";
-    answers(&rt, rt.alloc(), shape, script)
+    answers(&rt, shape, script);
 }
 
 #[test]
-fn the_expected_version_wraps(rt: HostRuntime) -> Result<(), Fail> {
+fn the_expected_version_wraps(rt: HostRuntime) {
     let script = "
         p0 refill 0 4294967295 -> REFILLED
         p0 set a 1 @0 -> STORED
@@ -130,12 +129,12 @@ fn the_expected_version_wraps(rt: HostRuntime) -> Result<(), Fail> {
         p0 cas a 1 0 @0 -> STORED
         p0 gets a @0 -> VALUE 1 1
     ";
-    answers(&rt, rt.alloc(), WRAPPING, script)
+    answers(&rt, WRAPPING, script);
 }
 
 // The top bits of the one key's hash are 0, so both have the tag 1.
 #[test]
-fn two_keys_with_one_tag(rt: HostRuntime) -> Result<(), Fail> {
+fn two_keys_with_one_tag(rt: HostRuntime) {
     let script = "
         p0 refill 0 4294967295 -> REFILLED
         p0 add t94880 1 @0 -> STORED
@@ -147,22 +146,22 @@ fn two_keys_with_one_tag(rt: HostRuntime) -> Result<(), Fail> {
         p0 delete t94880 @0 -> NOT_FOUND
         p0 delete t39290 @0 -> DELETED
     ";
-    answers(&rt, rt.alloc(), SHAPE, script)
+    answers(&rt, SHAPE, script);
 }
 
 #[test]
-fn a_segment_is_refilled_once_by_its_own_pass(rt: HostRuntime) -> Result<(), Fail> {
+fn a_segment_is_refilled_once_by_its_own_pass(rt: HostRuntime) {
     let script = "
         p0 set a 1 @0 -> NOROOM
         p0 refill 1 4294967295 -> NOT_YOURS
         p0 refill 0 4294967295 -> REFILLED
         p0 refill 0 4294967295 -> NOT_EVICTED
     ";
-    answers(&rt, rt.alloc(), NINE_ROWS, script)
+    answers(&rt, NINE_ROWS, script);
 }
 
 #[test]
-fn a_full_bucket_takes_no_new_key(rt: HostRuntime) -> Result<(), Fail> {
+fn a_full_bucket_takes_no_new_key(rt: HostRuntime) {
     let script = "
         p0 refill 0 4294967295 -> REFILLED
         p0 set a 1 @0 -> STORED
@@ -184,11 +183,11 @@ fn a_full_bucket_takes_no_new_key(rt: HostRuntime) -> Result<(), Fail> {
         p0 gets a @0 -> VALUE 2 9
         p0 lock a -> LOCKED
     ";
-    answers(&rt, rt.alloc(), NINE_ROWS, script)
+    answers(&rt, NINE_ROWS, script);
 }
 
 #[test]
-fn a_version_comes_with_its_value(rt: HostRuntime) -> Result<(), Fail> {
+fn a_version_comes_with_its_value(rt: HostRuntime) {
     let script = "
         p0 refill 0 4294967295 -> REFILLED
         p0 gets a @0 -> MISS
@@ -200,5 +199,5 @@ fn a_version_comes_with_its_value(rt: HostRuntime) -> Result<(), Fail> {
         p0 unlock -> UNLOCKED
         p0 gets a @0 -> VALUE 1 0
     ";
-    answers(&rt, rt.alloc(), WRAPPING, script)
+    answers(&rt, WRAPPING, script);
 }
