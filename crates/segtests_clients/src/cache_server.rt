@@ -1,10 +1,10 @@
 //! A cache server: four connections serve lines of a small text protocol, each on its own thread.
+use crate::same::{check_that, same};
 use segclient::{
     Client, DeleteAnswer, HoldAnswer, Index, Key, PutAnswer, Shape, Value, clients, keep_back,
 };
 use std::alloc::{AllocError, Global};
 use std::sync::atomic::{AtomicU32, Ordering};
-use std::test::Fail;
 use std::thread::for_each_mut;
 
 const SHAPE: Shape = Shape {
@@ -91,11 +91,11 @@ fn run(client: &mut Client<'_>, alloc: Global, name: usize) -> Result<bool, Allo
 }
 
 #[test]
-fn four_connections(rt: HostRuntime) -> Result<(), Fail> {
+fn four_connections(rt: HostRuntime) {
     let alloc = rt.alloc();
-    let (index, mut passes) = Index::new(alloc, SHAPE)?;
-    let closer = keep_back(&index, &mut passes).ok_or("no pass")?;
-    let mut connections = clients(alloc, &index, passes)?;
+    let (index, mut passes) = Index::new(alloc, SHAPE).expect(&rt, "an index");
+    let closer = keep_back(&index, &mut passes).expect(&rt, "a pass");
+    let mut connections = clients(alloc, &index, passes).expect(&rt, "clients");
     let right = AtomicU32::new(0);
     let serve = |name, client: &mut Client<'_>| {
         if matches!(run(client, alloc, name), Ok(true)) {
@@ -103,16 +103,15 @@ fn four_connections(rt: HostRuntime) -> Result<(), Fail> {
         }
     };
     for_each_mut(&rt, connections.as_mut_slice(), 4, &serve);
-    assert_eq!(rt; right.load(Ordering::SeqCst), 4);
+    same(&rt, &right.load(Ordering::SeqCst), &4);
     for client in connections.iter() {
         let stats = client.stats();
-        assert_eq!(rt; (stats.stored, stats.deleted), (200, 100));
+        same(&rt, &(stats.stored, stats.deleted), &(200, 100));
         // 200 keys take 13 segments of 16 rows. Others are refilled for what was read there.
-        assert!(rt; stats.segments_refilled >= 13);
+        check_that(&rt, stats.segments_refilled >= 13);
     }
     drop(connections);
-    let content = index.close(alloc, closer)?;
+    let content = index.close(alloc, closer).expect(&rt, "memory for keys");
     // Of each connection 64 keys stand at most, and key 198 does.
-    assert!(rt; (4..=256).contains(&content.len()));
-    Ok(())
+    check_that(&rt, (4..=256).contains(&content.len()));
 }

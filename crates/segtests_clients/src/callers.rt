@@ -3,9 +3,9 @@ use crate::client_caller::client_caller;
 use crate::first_cache::first_cache;
 use crate::index_caller::index_caller;
 use crate::readme_lines::readme_lines;
+use crate::same::same;
 use segclient::{DeleteAnswer, GetAnswer, Key, PutAnswer, Value};
-use std::alloc::{AllocError, Global};
-use std::test::Fail;
+use std::alloc::Global;
 
 // The pairs a = 1, b = 2, c = 3 and d = 4.
 fn pairs(alloc: Global) -> Option<Vec<(Key, Value)>> {
@@ -17,36 +17,33 @@ fn pairs(alloc: Global) -> Option<Vec<(Key, Value)>> {
 }
 
 #[test]
-fn clients_on_threads_store_every_pair(rt: HostRuntime) -> Result<(), Fail> {
+fn clients_on_threads_store_every_pair(rt: HostRuntime) {
     let pairs = pairs(rt.alloc()).expect(&rt, "pairs");
-    let listed = client_caller(&rt, rt.alloc(), &pairs, 0)?;
-    assert_eq!(rt; listed, pairs);
-    Ok(())
+    let listed = client_caller(&rt, rt.alloc(), &pairs, 0).expect(&rt, "memory");
+    same(&rt, &listed, &pairs);
 }
 
 #[test]
-fn an_index_gives_up_what_is_seldom_read(rt: HostRuntime) -> Result<(), Fail> {
+fn an_index_gives_up_what_is_seldom_read(rt: HostRuntime) {
     let pairs = pairs(rt.alloc()).expect(&rt, "pairs");
-    let listed = index_caller(rt.alloc(), 1, &pairs, 0)?;
-    assert_eq!(rt; pairs.get(1..), Some(listed.as_slice()));
-    Ok(())
+    let listed = index_caller(rt.alloc(), 1, &pairs, 0).expect(&rt, "memory");
+    same(&rt, &pairs.get(1..), &Some(listed.as_slice()));
 }
 
 #[test]
-fn the_lines_of_the_readme_answer_as_they_say(rt: HostRuntime) -> Result<(), Fail> {
+fn the_lines_of_the_readme_answer_as_they_say(rt: HostRuntime) {
     let key = Key::new(b"a").expect(&rt, "a key");
     let value = Value::new(b"1").expect(&rt, "a value");
-    let answers = readme_lines(rt.alloc(), &key, &value, 0)?;
+    let answers = readme_lines(rt.alloc(), &key, &value, 0).expect(&rt, "memory");
     let wanted = (
         PutAnswer::Stored,
         GetAnswer::Found(value),
         DeleteAnswer::Deleted,
     );
-    assert_eq!(rt; answers, Some(wanted));
-    Ok(())
+    same(&rt, &answers, &Some(wanted));
 }
 
 #[test]
-fn a_first_cache_serves_four_threads(rt: HostRuntime) -> Result<(), Fail> {
-    Ok(first_cache(&rt)?)
+fn a_first_cache_serves_four_threads(rt: HostRuntime) {
+    first_cache(&rt).expect(&rt, "memory");
 }

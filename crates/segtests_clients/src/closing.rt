@@ -2,8 +2,9 @@
 ghost use Rattle.segclient.specs.Client.{IsSame};
 ghost use Rattle.segclient.specs.Clients.{AreAllClients};
 
+use crate::same::{check_that, same};
 use segclient::{Client, Index, Key, PutAnswer, Shape, Value, clients, into_passes};
-use std::test::Fail;
+use std::process::Abort;
 use std::thread::{Threads, for_each_mut};
 
 // A gate fills two of its segments. The other two stay free, so that no ticket is evicted.
@@ -67,24 +68,33 @@ fn store_each<R: Threads + Sync>(rt: &R, index: &Index, clients: &mut [Client<'_
     );
 }
 
-#[test]
-fn all_tickets_are_listed(rt: HostRuntime) -> Result<(), Fail> {
-    let (index, passes) = Index::new(rt.alloc(), SHAPE)?;
-    let mut gates = clients(rt.alloc(), &index, passes)?;
-    store_each(&rt, &index, gates.as_mut_slice());
-    for client in gates.iter() {
-        assert_eq!(rt; client.stats().stored, u64::from(TICKETS));
-    }
-    let passes = into_passes(rt.alloc(), &index, gates)?;
-    let content = index.close_all(rt.alloc(), passes)?;
+// Checks that just the tickets of all gates are listed, in their order.
+fn check_listed(rt: &impl Abort, content: &[(Key, Value)]) {
     let mut listed = content.iter();
     for gate in 0..8 {
         for ticket in 0..TICKETS {
-            let (key, value) = listed.next().expect(&rt, "a ticket");
-            assert!(rt; key_of(gate, ticket).is_some_and(|expected| expected == *key));
-            assert!(rt; value.as_bytes() == [gate, ticket].as_slice());
+            let (key, value) = listed.next().expect(rt, "a ticket");
+            let is_ticket = key_of(gate, ticket).is_some_and(|expected| expected == *key);
+            check_that(
+                rt,
+                is_ticket && value.as_bytes() == [gate, ticket].as_slice(),
+            );
         }
     }
-    assert!(rt; listed.next().is_none());
-    Ok(())
+    check_that(rt, listed.next().is_none());
+}
+
+#[test]
+fn all_tickets_are_listed(rt: HostRuntime) {
+    let (index, passes) = Index::new(rt.alloc(), SHAPE).expect(&rt, "an index");
+    let mut gates = clients(rt.alloc(), &index, passes).expect(&rt, "clients");
+    store_each(&rt, &index, gates.as_mut_slice());
+    for client in gates.iter() {
+        same(&rt, &client.stats().stored, &u64::from(TICKETS));
+    }
+    let passes = into_passes(rt.alloc(), &index, gates).expect(&rt, "memory for passes");
+    let content = index
+        .close_all(rt.alloc(), passes)
+        .expect(&rt, "memory for tickets");
+    check_listed(&rt, &content);
 }

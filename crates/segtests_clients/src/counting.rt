@@ -1,8 +1,8 @@
 //! A counter of visits that two threads raise at the same time.
+use crate::same::{check_that, same};
 use segclient::{
     Client, GetAnswer, GetsAnswer, Index, Key, PutAnswer, Shape, Value, WriteAnswer, clients,
 };
-use std::test::Fail;
 use std::thread::join;
 
 // Each thread stores 100 numbers, for which its segments have rows enough: none is given up.
@@ -91,29 +91,32 @@ fn versioned_visits_of(client: &mut Client<'_>, page: &Key) -> Option<(u32, u32)
 }
 
 #[test]
-fn no_visit_is_lost(rt: HostRuntime) -> Result<(), Fail> {
-    let (index, passes) = Index::new(rt.alloc(), SHAPE)?;
-    let mut both = clients(rt.alloc(), &index, passes)?;
-    let (Some(mut second), Some(mut first)) = (both.pop(), both.pop()) else {
-        return Err(Fail::new("no two clients"));
-    };
-    let page = Key::new(b"/index.html").ok_or("no key")?;
-    let none = value_of(0).ok_or("no value")?;
-    assert!(rt; first.put(&page, &none) == PutAnswer::Stored);
+fn no_visit_is_lost(rt: HostRuntime) {
+    let (index, passes) = Index::new(rt.alloc(), SHAPE).expect(&rt, "an index");
+    let mut both = clients(rt.alloc(), &index, passes).expect(&rt, "clients");
+    let mut second = both.pop().expect(&rt, "a second client");
+    let mut first = both.pop().expect(&rt, "a first client");
+    let page = Key::new(b"/index.html").expect(&rt, "a key");
+    let none = value_of(0).expect(&rt, "a value");
+    check_that(&rt, first.put(&page, &none) == PutAnswer::Stored);
     let is_counted = join(
         &rt,
         || count_visits(&mut first, &page),
         || count_visits(&mut second, &page),
     );
-    assert_eq!(rt; is_counted, (true, true));
+    same(&rt, &is_counted, &(true, true));
     let all = 2 * VISITS;
-    assert_eq!(rt; visits_of(&mut first, &page), Some(all));
+    let visits = visits_of(&mut first, &page);
+    let versioned = versioned_visits_of(&mut second, &page);
     // The version counts the put and each visit.
-    assert_eq!(rt;
-        versioned_visits_of(&mut second, &page),
-        Some((all, all + 1))
+    same(
+        &rt,
+        &(visits, versioned),
+        &(Some(all), Some((all, all + 1))),
     );
-    assert_eq!(rt; first.stats().stored, 101);
-    assert_eq!(rt; second.stats().stored, 100);
-    Ok(())
+    same(
+        &rt,
+        &(first.stats().stored, second.stats().stored),
+        &(101, 100),
+    );
 }

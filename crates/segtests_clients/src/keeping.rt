@@ -1,9 +1,9 @@
 //! Puts of a client that keeps what was read often, and of one that doesn't.
-use segclient::{
-    Client, GetAnswer, Index, Key, PutAnswer, Shape, Stats, Value, clients, keep_back,
-};
-use std::alloc::Global;
-use std::test::Fail;
+use crate::only_client::only_client;
+use crate::same::{check_that, same};
+use segclient::{Client, GetAnswer, Index, Key, PutAnswer, Shape, Stats, Value, keep_back};
+use std::alloc::AllocGlobal;
+use std::process::Abort;
 
 // One pass with three segments of four rows.
 const THREE_SEGMENTS: Shape = Shape {
@@ -22,71 +22,82 @@ const TWO_SEGMENTS: Shape = Shape {
     ..THREE_SEGMENTS
 };
 
-// Puts so many keys, and tells whether each was stored.
-fn put_numbers(client: &mut Client<'_>, value: &Value, count: u32) -> Option<bool> {
+// Puts a key, which is stored.
+fn put(rt: &impl Abort, client: &mut Client<'_>, key: &Key) {
+    let value = Value::new(b"1").expect(rt, "a value");
+    check_that(rt, client.put(key, &value) == PutAnswer::Stored);
+}
+
+// Puts so many keys, each of which is stored.
+fn put_numbers(rt: &impl Abort, client: &mut Client<'_>, count: u32) {
     for number in 0..count {
-        let key = Key::new(&number.to_le_bytes())?;
-        if client.put(&key, value) != PutAnswer::Stored {
-            return Some(false);
-        }
+        put(rt, client, &key_of(rt, number));
     }
-    Some(true)
+}
+
+// The key of a number.
+fn key_of(rt: &impl Abort, number: u32) -> Key {
+    Key::new(&number.to_le_bytes()).expect(rt, "a key")
+}
+
+// The key that is read often.
+fn read_often(rt: &impl Abort) -> Key {
+    Key::new(b"often").expect(rt, "a key")
 }
 
 // What a key that was read once reads after 30 other puts, and what the client counted.
-fn read_after_puts(alloc: Global, cutoff: Option<u8>) -> Result<(GetAnswer, Stats), Fail> {
-    let (index, mut passes) = Index::new(alloc, THREE_SEGMENTS)?;
-    let pass = keep_back(&index, &mut passes).ok_or("no pass")?;
+fn read_after_puts<R: AllocGlobal + Abort>(rt: &R, cutoff: Option<u8>) -> (GetAnswer, Stats) {
+    let (index, mut passes) = Index::new(rt.alloc(), THREE_SEGMENTS).expect(rt, "an index");
+    let pass = keep_back(&index, &mut passes).expect(rt, "a pass");
     let mut client = Client::new(&index, pass);
     client.keep_from(cutoff);
-    let key = Key::new(b"often").ok_or("no key")?;
-    let value = Value::new(b"1").ok_or("no value")?;
-    let _stored: PutAnswer = client.put(&key, &value);
+    let key = read_often(rt);
+    put(rt, &mut client, &key);
     let _found: GetAnswer = client.get(&key);
-    let is_stored = put_numbers(&mut client, &value, 30).ok_or("no key")?;
-    is_stored.then_some(()).ok_or("a put isn't stored")?;
-    Ok((client.get(&key), client.stats()))
+    put_numbers(rt, &mut client, 30);
+    (client.get(&key), client.stats())
 }
 
 #[test]
-fn what_was_read_often_is_kept(rt: HostRuntime) -> Result<(), Fail> {
-    let (told, stats) = read_after_puts(rt.alloc(), Some(2))?;
-    assert!(rt; matches!(told, GetAnswer::Found(_)));
-    assert_eq!(rt; (stats.stored, stats.segments_refilled), (31, 9));
-    assert_eq!(rt; (stats.items_kept, stats.keys_evicted), (4, 24));
-    Ok(())
+fn what_was_read_often_is_kept(rt: HostRuntime) {
+    let (told, stats) = read_after_puts(&rt, Some(2));
+    check_that(&rt, matches!(told, GetAnswer::Found(_)));
+    same(&rt, &(stats.stored, stats.segments_refilled), &(31, 9));
+    same(&rt, &(stats.items_kept, stats.keys_evicted), &(4, 24));
 }
 
 #[test]
-fn nothing_is_kept_by_turns_unasked(rt: HostRuntime) -> Result<(), Fail> {
-    let (told, stats) = read_after_puts(rt.alloc(), None)?;
-    assert!(rt; matches!(told, GetAnswer::Miss));
-    assert_eq!(rt; stats.items_kept, 0);
-    let (too_seldom, stats) = read_after_puts(rt.alloc(), Some(3))?;
-    assert!(rt; matches!(too_seldom, GetAnswer::Miss));
-    assert_eq!(rt; stats.items_kept, 0);
-    Ok(())
+fn nothing_is_kept_by_turns_unasked(rt: HostRuntime) {
+    for cutoff in [None, Some(3)] {
+        let (told, stats) = read_after_puts(&rt, cutoff);
+        assert_eq!(rt;
+            (told, stats.items_kept),
+            (GetAnswer::Miss, 0),
+            "{cutoff:?}"
+        );
+    }
 }
 
 // What a client that keeps every item counted at five puts, if each was stored.
-fn stats_after_puts(alloc: Global) -> Result<Stats, Fail> {
-    let (index, mut passes) = Index::new(alloc, TWO_SEGMENTS)?;
-    let pass = keep_back(&index, &mut passes).ok_or("no pass")?;
+fn stats_after_puts<R: AllocGlobal + Abort>(rt: &R) -> Stats {
+    let (index, mut passes) = Index::new(rt.alloc(), TWO_SEGMENTS).expect(rt, "an index");
+    let pass = keep_back(&index, &mut passes).expect(rt, "a pass");
     let mut client = Client::new(&index, pass);
     client.keep_from(Some(1));
-    let value = Value::new(b"1").ok_or("no value")?;
-    let is_stored = put_numbers(&mut client, &value, 5).ok_or("no key")?;
-    is_stored.then_some(()).ok_or("a put isn't stored")?;
-    Ok(client.stats())
+    put_numbers(rt, &mut client, 5);
+    client.stats()
 }
 
 // Two items that are kept leave no row of the segment that was refilled for the third.
 #[test]
-fn a_put_that_keeps_a_whole_segment_is_stored(rt: HostRuntime) -> Result<(), Fail> {
-    let stats = stats_after_puts(rt.alloc())?;
-    assert_eq!(rt; stats.segments_refilled, 5);
-    assert_eq!(rt; (stats.items_kept, stats.keys_evicted), (4, 2));
-    Ok(())
+fn a_put_that_keeps_a_whole_segment_is_stored(rt: HostRuntime) {
+    let stats = stats_after_puts(&rt);
+    let counted = (
+        stats.segments_refilled,
+        stats.items_kept,
+        stats.keys_evicted,
+    );
+    same(&rt, &counted, &(5, 4, 2));
 }
 
 // One pass with sixteen segments of four rows.
@@ -97,47 +108,41 @@ const SIXTEEN_SEGMENTS: Shape = Shape {
 };
 
 // How many of 100 gets miss a key that was put once, with three puts of other keys before each get.
-fn missed_of(client: &mut Client<'_>) -> Result<u32, Fail> {
-    let key = Key::new(b"often").ok_or("no key")?;
-    let value = Value::new(b"1").ok_or("no value")?;
-    let mut is_stored = client.put(&key, &value) == PutAnswer::Stored;
+fn missed_of(rt: &impl Abort, client: &mut Client<'_>) -> u32 {
+    let key = read_often(rt);
+    put(rt, client, &key);
     let mut missed = 0u32;
     for number in 0..300u32 {
-        let other = Key::new(&number.to_le_bytes()).ok_or("no key")?;
-        is_stored = is_stored && client.put(&other, &value) == PutAnswer::Stored;
+        put(rt, client, &key_of(rt, number));
         if number % 3 == 2 && client.get(&key) == GetAnswer::Miss {
             missed = missed.saturating_add(1);
         }
     }
-    is_stored.then_some(()).ok_or("a put isn't stored")?;
-    Ok(missed)
+    missed
 }
 
 // What the only client of such an index misses, and what it counts.
-fn missed_by(alloc: Global, keeps: bool) -> Result<(u32, Stats), Fail> {
-    let (index, passes) = Index::new(alloc, SIXTEEN_SEGMENTS)?;
-    let mut all = clients(alloc, &index, passes)?;
-    let mut client = all.pop().ok_or("no client")?;
+fn missed_by<R: AllocGlobal + Abort>(rt: &R, keeps: bool) -> (u32, Stats) {
+    let (index, passes) = Index::new(rt.alloc(), SIXTEEN_SEGMENTS).expect(rt, "an index");
+    let mut client = only_client(rt, &index, passes);
     if !keeps {
         client.keep_nothing();
     }
-    let missed = missed_of(&mut client)?;
-    Ok((missed, client.stats()))
+    let missed = missed_of(rt, &mut client);
+    (missed, client.stats())
 }
 
 // A key that is read again and again stays while 300 others go through 64 rows.
 #[test]
-fn what_is_read_is_kept_from_the_start(rt: HostRuntime) -> Result<(), Fail> {
-    let (missed, stats) = missed_by(rt.alloc(), true)?;
-    assert_eq!(rt; (missed, stats.hits, stats.stored), (0, 100, 301));
-    assert!(rt; stats.items_kept > 0 && stats.keys_evicted >= 301 - 64);
-    Ok(())
+fn what_is_read_is_kept_from_the_start(rt: HostRuntime) {
+    let (missed, stats) = missed_by(&rt, true);
+    same(&rt, &(missed, stats.hits, stats.stored), &(0, 100, 301));
+    check_that(&rt, stats.items_kept > 0 && stats.keys_evicted >= 301 - 64);
 }
 
 // By turns the key goes with its segment, once 64 rows were used: at the 64th of the others.
 #[test]
-fn a_client_that_keeps_nothing_misses_it(rt: HostRuntime) -> Result<(), Fail> {
-    let (missed, stats) = missed_by(rt.alloc(), false)?;
-    assert_eq!(rt; (missed, stats.hits, stats.items_kept), (79, 21, 0));
-    Ok(())
+fn a_client_that_keeps_nothing_misses_it(rt: HostRuntime) {
+    let (missed, stats) = missed_by(&rt, false);
+    same(&rt, &(missed, stats.hits, stats.items_kept), &(79, 21, 0));
 }

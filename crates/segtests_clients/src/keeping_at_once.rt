@@ -1,7 +1,7 @@
 //! Clients whose puts keep what stands, beside clients that read:
 //! no key is missed unless a put evicted one.
+use crate::same::same;
 use segclient::{Client, GetAnswer, GetsAnswer, Index, Key, PutAnswer, Shape, Value, clients};
-use std::test::Fail;
 use std::thread::{Threads, join, yield_now};
 
 // The keys a and c stand in one bucket, and b and d in the other.
@@ -117,12 +117,11 @@ impl<'i> Pair<'i> {
 }
 
 #[test]
-fn no_key_is_missed_while_puts_keep(rt: HostRuntime) -> Result<(), Fail> {
-    let (index, passes) = Index::new(rt.alloc(), SHAPE)?;
-    let mut all = clients(rt.alloc(), &index, passes)?;
-    let mut first = Pair::new(&mut all, 0).ok_or("no first pair")?;
-    let mut second = Pair::new(&mut all, 1).ok_or("no second pair")?;
+fn no_key_is_missed_while_puts_keep(rt: HostRuntime) {
+    let (index, passes) = Index::new(rt.alloc(), SHAPE).expect(&rt, "an index");
+    let mut all = clients(rt.alloc(), &index, passes).expect(&rt, "clients");
+    let mut first = Pair::new(&mut all, 0).expect(&rt, "a first pair");
+    let mut second = Pair::new(&mut all, 1).expect(&rt, "a second pair");
     let are_well = join(&rt, || first.is_well(&rt), || second.is_well(&rt));
-    assert_eq!(rt; are_well, (true, true));
-    Ok(())
+    same(&rt, &are_well, &(true, true));
 }

@@ -23,10 +23,14 @@ mod keeping_at_once;
 #[cfg(test)]
 mod many_keys;
 #[cfg(test)]
+mod only_client;
+#[cfg(test)]
 mod passing_over;
 #[cfg(test)]
 mod reading_at_once;
 #[cfg(test)]
 mod readme_lines;
+#[cfg(test)]
+mod same;
 #[cfg(test)]
 mod session_store;

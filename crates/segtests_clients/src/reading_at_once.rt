@@ -1,7 +1,7 @@
 //! A client that reads beside one that puts: each value that is read was stored as a whole,
 //! and none is older than one read before.
+use crate::same::same;
 use segclient::{Client, GetAnswer, Index, Key, PutAnswer, Shape, Value, clients};
-use std::test::Fail;
 use std::thread::join;
 
 // The client that puts goes round its 4,096 rows sixteen times.
@@ -69,21 +69,18 @@ fn read_all(client: &mut Client<'_>, key: &Key) -> bool {
 }
 
 #[test]
-fn a_reader_beside_a_writer(rt: HostRuntime) -> Result<(), Fail> {
-    let (index, passes) = Index::new(rt.alloc(), SHAPE)?;
-    let mut both = clients(rt.alloc(), &index, passes)?;
-    let (Some(mut reader), Some(mut writer)) = (both.pop(), both.pop()) else {
-        return Err(Fail::new("no two clients"));
-    };
+fn a_reader_beside_a_writer(rt: HostRuntime) {
+    let (index, passes) = Index::new(rt.alloc(), SHAPE).expect(&rt, "an index");
+    let mut both = clients(rt.alloc(), &index, passes).expect(&rt, "clients");
+    let mut reader = both.pop().expect(&rt, "a reader");
+    let mut writer = both.pop().expect(&rt, "a writer");
     let key = Key::new(b"a").expect(&rt, "a key");
     let (stored, is_well) = join(
         &rt,
         || put_all(&mut writer, &key),
         || read_all(&mut reader, &key),
     );
-    assert_eq!(rt; stored, LAST);
-    assert!(rt; is_well);
+    same(&rt, &(stored, is_well), &(LAST, true));
     let last = value_of(LAST).expect(&rt, "a value");
-    assert_eq!(rt; reader.get(&key), GetAnswer::Found(last));
-    Ok(())
+    same(&rt, &reader.get(&key), &GetAnswer::Found(last));
 }

@@ -1,6 +1,7 @@
 //! A session store: who signed in is known by a token until the session ends.
-use segclient::{Client, GetAnswer, Index, Key, PutAnswer, Shape, Value, clients};
-use std::test::Fail;
+use crate::only_client::only_client;
+use crate::same::{check_that, same};
+use segclient::{Client, GetAnswer, Index, Key, PutAnswer, Shape, Value};
 
 const SHAPE: Shape = Shape {
     buckets: 64,
@@ -70,7 +71,7 @@ fn is_of(sessions: &mut Sessions<'_>, token: &str, name: &str) -> bool {
 
 // The moment of the first row that isn't so.
 fn first_wrong(sessions: &mut Sessions<'_>, rows: &[Row]) -> Option<u32> {
-    for (now, token, name) in rows.iter().copied() {
+    for &(now, token, name) in rows {
         sessions.tick(now);
         if !is_of(sessions, token, name) {
             return Some(now);
@@ -80,35 +81,33 @@ fn first_wrong(sessions: &mut Sessions<'_>, rows: &[Row]) -> Option<u32> {
 }
 
 #[test]
-fn a_session_ends_at_its_deadline(rt: HostRuntime) -> Result<(), Fail> {
-    let (index, passes) = Index::new(rt.alloc(), SHAPE)?;
-    let Some(client) = clients(rt.alloc(), &index, passes)?.pop() else {
-        return Err(Fail::new("no client"));
-    };
-    let mut sessions = Sessions::new(client);
+fn a_session_ends_at_its_deadline(rt: HostRuntime) {
+    let (index, passes) = Index::new(rt.alloc(), SHAPE).expect(&rt, "an index");
+    let mut sessions = Sessions::new(only_client(&rt, &index, passes));
 
     // The deadline is the last multiple of 900 seconds that comes in 1,800: 2,700.
     // One second before it the session stands, and at the deadline it has ended.
     sessions.tick(1_000);
-    assert!(rt; sessions.sign_in("token-1", "alice"));
+    check_that(&rt, sessions.sign_in("token-1", "alice"));
     let rows = [
         (1_000, "token-1", "alice"),
         (1_000, "token-2", ""),
         (2_699, "token-1", "alice"),
         (2_700, "token-1", ""),
     ];
-    assert_eq!(rt; first_wrong(&mut sessions, &rows), None);
+    same(&rt, &first_wrong(&mut sessions, &rows), &None);
 
     // Who signs in again has the whole time again: 2,700 is such a multiple, and so is 4,500.
-    assert!(rt; sessions.sign_in("token-1", "alice") && sessions.sign_in("token-2", "bob"));
+    let is_alice = sessions.sign_in("token-1", "alice");
+    let is_bob = sessions.sign_in("token-2", "bob");
+    same(&rt, &(is_alice, is_bob), &(true, true));
     let rows = [(4_499, "token-1", "alice"), (4_499, "token-2", "bob")];
-    assert_eq!(rt; first_wrong(&mut sessions, &rows), None);
+    same(&rt, &first_wrong(&mut sessions, &rows), &None);
     sessions.sign_out("token-2");
     let rows = [(4_499, "token-2", ""), (4_500, "token-1", "")];
-    assert_eq!(rt; first_wrong(&mut sessions, &rows), None);
+    same(&rt, &first_wrong(&mut sessions, &rows), &None);
 
     let stats = sessions.client.stats();
-    assert_eq!(rt; (stats.stored, stats.hits, stats.misses), (3, 4, 4));
-    assert_eq!(rt; (stats.deleted, stats.segments_refilled), (1, 2));
-    Ok(())
+    same(&rt, &(stats.stored, stats.hits, stats.misses), &(3, 4, 4));
+    same(&rt, &(stats.deleted, stats.segments_refilled), &(1, 2));
 }
