@@ -1,7 +1,8 @@
-//! Histories of two threads over two buckets, and changes of single calls.
-use crate::call::{Access, Call, Item, Operation};
+//! Histories of two threads over two buckets, and changes of single calls. They are constants, which cost no proof.
+use crate::call::{Call, Operation};
 use crate::replay::{Fault, Replay, Sizes, check};
 use std::alloc::{AllocError, Global};
+use std::process::Abort;
 
 /// The version with which the buckets of the histories begin.
 pub const FIRST_VERSION: u32 = 7;
@@ -23,42 +24,89 @@ pub type Line = (u64, u64, Operation);
 /// Another call in a history, in place of the one with this first stamp.
 pub type Change = (u64, Operation);
 
-/// A value as it is stored in a segment.
-pub fn item(value: u32, segment: u32) -> Item {
-    Item {
-        value,
-        segment,
-        deadline: DEADLINE,
+/// What the checker has to return for a history with some calls changed.
+pub type Row = (&'static str, Result<(), Fault>, &'static [Change]);
+
+// A value as it is stored in a segment.
+macro_rules! item {
+    ($value:expr, $segment:expr) => {
+        $crate::call::Item {
+            value: $value,
+            segment: $segment,
+            deadline: $crate::histories::DEADLINE,
+        }
+    };
+}
+
+// A call on a key of a bucket, at a moment.
+macro_rules! on_key_of {
+    ($bucket:expr, $key:expr, $now:expr, $access:expr) => {
+        $crate::call::Operation::OnKey {
+            bucket: $bucket,
+            key: $key,
+            now: $now,
+            access: $access,
+        }
+    };
+}
+
+// A call on a key of bucket 0, at moment 0.
+macro_rules! on_key {
+    ($key:expr, $access:expr) => {
+        $crate::call::Operation::OnKey {
+            bucket: 0,
+            key: $key,
+            now: 0,
+            access: $access,
+        }
+    };
+}
+
+// A refill of a segment.
+macro_rules! refill {
+    ($segment:expr) => {
+        $crate::call::Operation::Refill {
+            segment: $segment,
+            deadline: $crate::histories::DEADLINE,
+        }
+    };
+}
+
+// An evict of a segment that took out so many keys.
+macro_rules! evict {
+    ($segment:expr, $taken:expr, $is_whole:expr) => {
+        $crate::call::Operation::Evict {
+            segment: $segment,
+            taken: $taken,
+            is_whole: $is_whole,
+        }
+    };
+}
+
+pub(crate) use evict;
+pub(crate) use item;
+pub(crate) use on_key;
+pub(crate) use on_key_of;
+pub(crate) use refill;
+
+/// Checks what the checker returns for the lines of two threads, with the changes of each row.
+pub fn judge(rt: &impl Abort, alloc: Global, sizes: Sizes, lines: [&[Line]; 2], rows: &[Row]) {
+    for (name, wanted, changes) in rows {
+        let verdict = verdict(alloc, sizes, lines, changes);
+        assert_eq!(rt; verdict, *wanted, "{name}");
     }
 }
 
-/// A call on a key of bucket 0, at moment 0.
-pub fn on_key(key: usize, access: Access) -> Operation {
-    on_key_at(key, 0, access)
-}
-
-/// A call on a key of bucket 0, at a moment.
-pub fn on_key_at(key: usize, now: u32, access: Access) -> Operation {
-    Operation::OnKey {
-        bucket: 0,
-        key,
-        now,
-        access,
+fn verdict(
+    alloc: Global,
+    sizes: Sizes,
+    lines: [&[Line]; 2],
+    changes: &[Change],
+) -> Result<(), Fault> {
+    match replayed(alloc, sizes, lines, changes) {
+        Ok(_) => Ok(()),
+        Err(fault) => Err(fault),
     }
-}
-
-/// A refill of a segment.
-pub fn refill(segment: u32) -> Operation {
-    Operation::Refill {
-        segment,
-        deadline: DEADLINE,
-    }
-}
-
-/// What the checker returns for the lines of two threads, with some calls changed.
-pub fn verdict(alloc: Global, lines: [&[Line]; 2], changes: &[Change]) -> Result<(), Fault> {
-    replayed(alloc, SIZES, lines, changes)?;
-    Ok(())
 }
 
 /// How far the checker comes with the lines of two threads, with some calls changed.
