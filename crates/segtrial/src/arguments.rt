@@ -7,6 +7,7 @@ const ABOUT: &str = "Looks for an order that explains what threads are told by t
 
 const LONG_ABOUT: &str = "Looks for an order that explains what threads are told by the object index
 
+First the checker judges histories that were written by hand.
 In each round a new index is made, and each of its passes makes calls at random, on a thread of its own
 or in turn with the others.
 The keys are few, share four buckets, and have the same tag. How many rows, segments and overflow
@@ -21,7 +22,8 @@ Standard error says how many answers there were.
 
 Exit status:
   0  every answer was explained
-  1  an answer wasn't, too many altered ones were, or too few calls were made beside others
+  1  an answer wasn't, too many altered ones were, too few calls were made beside others,
+     or the checker misjudged a history that was written by hand
   2  a bad command line
   3  out of memory, or a search that is too long";
 

@@ -1,8 +1,12 @@
-//! Histories of two threads over two buckets, and changes of single calls. They are constants, which cost no proof.
+//! Histories of two threads over two buckets, written by hand. The program judges them first, as its tests:
+//! tests apart would have the whole crate proved once more. They are constants, which cost no proof.
 use crate::call::{Call, Operation};
 use crate::replay::{Fault, Replay, Sizes, check};
+use crate::round::RoundFault;
+use crate::{
+    history_alterations, history_ending, history_holding, history_moving, history_refusing,
+};
 use std::alloc::{AllocError, Global};
-use std::process::Abort;
 
 /// The version with which the buckets of the histories begin.
 pub const FIRST_VERSION: u32 = 7;
@@ -89,12 +93,30 @@ pub(crate) use on_key;
 pub(crate) use on_key_of;
 pub(crate) use refill;
 
-/// Checks what the checker returns for the lines of two threads, with the changes of each row.
-pub fn judge(rt: &impl Abort, alloc: Global, sizes: Sizes, lines: [&[Line]; 2], rows: &[Row]) {
+/// Judges all histories.
+pub fn judge_histories(alloc: Global) -> Result<(), RoundFault> {
+    history_alterations::judge_all(alloc)?;
+    history_holding::judge_all(alloc)?;
+    history_moving::judge_all(alloc)?;
+    history_refusing::judge_all(alloc)?;
+    history_ending::judge_all(alloc)
+}
+
+/// Judges the lines of two threads, with the changes of each row.
+pub fn judge(
+    alloc: Global,
+    sizes: Sizes,
+    lines: [&[Line]; 2],
+    rows: &[Row],
+) -> Result<(), RoundFault> {
     for (name, wanted, changes) in rows {
-        let verdict = verdict(alloc, sizes, lines, changes);
-        assert_eq!(rt; verdict, *wanted, "{name}");
+        match verdict(alloc, sizes, lines, changes) {
+            Err(Fault::OutOfMemory) => return Err(RoundFault::OutOfMemory),
+            verdict if verdict == *wanted => {}
+            _ => return Err(RoundFault::Misjudged(*name)),
+        }
     }
+    Ok(())
 }
 
 fn verdict(

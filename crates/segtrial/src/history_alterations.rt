@@ -2,6 +2,8 @@
 use crate::call::{Access, CasReply};
 use crate::histories::{Line, Row, SIZES, evict, item, judge, on_key, refill};
 use crate::replay::Fault;
+use crate::round::RoundFault;
+use std::alloc::Global;
 
 // A cas of key 0 that expects version 10.
 macro_rules! cas_stored {
@@ -115,12 +117,8 @@ const ALTERED: [Row; 9] = [
     ),
 ];
 
-#[test]
-fn a_legal_history_is_accepted(rt: HostRuntime) {
-    judge(&rt, rt.alloc(), SIZES, [&WRITER, &READER], &LEGAL);
-}
-
-#[test]
-fn nine_alterations_are_refused(rt: HostRuntime) {
-    judge(&rt, rt.alloc(), SIZES, [&WRITER, &READER], &ALTERED);
+/// Judges these histories.
+pub fn judge_all(alloc: Global) -> Result<(), RoundFault> {
+    judge(alloc, SIZES, [&WRITER, &READER], &LEGAL)?;
+    judge(alloc, SIZES, [&WRITER, &READER], &ALTERED)
 }

@@ -4,8 +4,9 @@ use crate::histories::{
     Change, FIRST_VERSION, Line, Row, SIZES, item, judge, on_key, refill, replayed,
 };
 use crate::replay::{Fault, Sizes};
+use crate::round::RoundFault;
 use crate::state::KEYS;
-use std::alloc::{AllocError, Global};
+use std::alloc::Global;
 
 // No chain can grow.
 const NO_OVERFLOW: Sizes = Sizes {
@@ -126,39 +127,33 @@ const ENDS: [End; 7] = [
     ),
 ];
 
-// Whether the calls have an order, and these values can stand in bucket 0 at the end.
-fn ends_with(
-    alloc: Global,
-    changes: &[Change],
-    values: &[u32],
-) -> Result<Result<bool, Fault>, AllocError> {
-    let replay = match replayed(alloc, SIZES, [&FILLER, &OTHER], changes) {
-        Ok(replay) => replay,
-        Err(fault) => return Ok(Err(fault)),
-    };
-    let mut first = [None; KEYS];
-    for (place, value) in first.iter_mut().zip(values) {
+// The values of bucket 0, by the numbers of their keys.
+fn content_of(values: &[u32]) -> [Option<u32>; KEYS] {
+    let mut content = [None; KEYS];
+    for (place, value) in content.iter_mut().zip(values) {
         *place = (*value > 0).then_some(*value);
     }
-    let mut content = Vec::new(alloc);
-    content.push(first)?;
-    content.push([None; KEYS])?;
-    Ok(Ok(replay.can_end_with(&content)))
+    content
 }
 
-#[test]
-fn a_chain_grows_if_it_can(rt: HostRuntime) {
-    judge(&rt, rt.alloc(), SIZES, [&FILLER, &OTHER], &ONE_LEFT);
-    judge(&rt, rt.alloc(), NO_OVERFLOW, [&FILLER, &OTHER], &NONE_LEFT);
+// Whether the calls have an order, and these values can stand in bucket 0 at the end.
+fn can_end_with(alloc: Global, changes: &[Change], values: &[u32]) -> Result<bool, RoundFault> {
+    let replay = replayed(alloc, SIZES, [&FILLER, &OTHER], changes)?;
+    Ok(replay.can_end_with(&[content_of(values), [None; KEYS]]))
 }
 
-#[test]
-fn what_stands_at_the_end(rt: HostRuntime) {
-    for (name, changes, values, wanted) in ENDS {
-        assert_eq!(rt;
-            ends_with(rt.alloc(), changes, values),
-            Ok(Ok(wanted)),
-            "{name}"
-        );
+fn judge_ends(alloc: Global) -> Result<(), RoundFault> {
+    for (name, changes, values, wanted) in ENDS.iter() {
+        if can_end_with(alloc, changes, values)? != *wanted {
+            return Err(RoundFault::Misjudged(*name));
+        }
     }
+    Ok(())
+}
+
+/// Judges these histories.
+pub fn judge_all(alloc: Global) -> Result<(), RoundFault> {
+    judge(alloc, SIZES, [&FILLER, &OTHER], &ONE_LEFT)?;
+    judge(alloc, NO_OVERFLOW, [&FILLER, &OTHER], &NONE_LEFT)?;
+    judge_ends(alloc)
 }

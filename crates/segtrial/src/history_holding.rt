@@ -3,7 +3,9 @@
 use crate::call::{Access, Operation};
 use crate::histories::{DEADLINE, Line, Row, SIZES, evict, item, judge, on_key, on_key_of, refill};
 use crate::replay::Fault;
+use crate::round::RoundFault;
 use crate::state::KEYS;
+use std::alloc::Global;
 
 // A call on the key of bucket 1.
 macro_rules! in_bucket_1 {
@@ -256,20 +258,12 @@ const TOGETHER: [Row; 1] = [("one stamp for two", Err(Fault::BadCall), &[])];
 
 const SHARED: [Row; 1] = [("the stamp of another thread", Err(Fault::BadCall), &[])];
 
-#[test]
-fn what_may_stand_there(rt: HostRuntime) {
-    judge(&rt, rt.alloc(), SIZES, [&OWNER, &HOLDER], &LEGAL);
-}
-
-#[test]
-fn what_may_not_stand_there(rt: HostRuntime) {
-    judge(&rt, rt.alloc(), SIZES, [&OWNER, &HOLDER], &ALTERED);
-}
-
-#[test]
-fn calls_that_cannot_be(rt: HostRuntime) {
-    judge(&rt, rt.alloc(), SIZES, [&ONE, &OTHER], &NO_CALLS);
-    judge(&rt, rt.alloc(), SIZES, [&BACK, &OTHER], &BACKWARD);
-    judge(&rt, rt.alloc(), SIZES, [&ONE_STAMP, &OTHER], &TOGETHER);
-    judge(&rt, rt.alloc(), SIZES, [&STAMP_OF_OTHER, &OTHER], &SHARED);
+/// Judges these histories.
+pub fn judge_all(alloc: Global) -> Result<(), RoundFault> {
+    judge(alloc, SIZES, [&OWNER, &HOLDER], &LEGAL)?;
+    judge(alloc, SIZES, [&OWNER, &HOLDER], &ALTERED)?;
+    judge(alloc, SIZES, [&ONE, &OTHER], &NO_CALLS)?;
+    judge(alloc, SIZES, [&BACK, &OTHER], &BACKWARD)?;
+    judge(alloc, SIZES, [&ONE_STAMP, &OTHER], &TOGETHER)?;
+    judge(alloc, SIZES, [&STAMP_OF_OTHER, &OTHER], &SHARED)
 }

@@ -3,6 +3,8 @@
 use crate::call::{Access, Ended, Operation};
 use crate::histories::{Line, Row, SIZES, evict, item, judge, on_key, on_key_of, refill};
 use crate::replay::Fault;
+use crate::round::RoundFault;
+use std::alloc::Global;
 
 // A call on the key of bucket 1.
 macro_rules! in_bucket_1 {
@@ -177,12 +179,8 @@ const ALTERED: [Row; 12] = [
     ),
 ];
 
-#[test]
-fn what_may_stand_there(rt: HostRuntime) {
-    judge(&rt, rt.alloc(), SIZES, [&OWNER, &READER], &LEGAL);
-}
-
-#[test]
-fn what_may_not_stand_there(rt: HostRuntime) {
-    judge(&rt, rt.alloc(), SIZES, [&OWNER, &READER], &ALTERED);
+/// Judges these histories.
+pub fn judge_all(alloc: Global) -> Result<(), RoundFault> {
+    judge(alloc, SIZES, [&OWNER, &READER], &LEGAL)?;
+    judge(alloc, SIZES, [&OWNER, &READER], &ALTERED)
 }

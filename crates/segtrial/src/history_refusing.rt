@@ -2,6 +2,8 @@
 use crate::call::{Access, Operation, Refusal};
 use crate::histories::{FIRST_VERSION, Line, Row, SIZES, evict, item, judge, on_key, refill};
 use crate::replay::{Fault, Sizes};
+use crate::round::RoundFault;
+use std::alloc::Global;
 
 // Two rows in each segment, and no overflow buckets.
 const SMALL: Sizes = Sizes {
@@ -214,20 +216,10 @@ const RELEASER: [Line; 3] = [(2, 3, refill!(2)), (6, 7, HOLD), (10, 21, RELEASE)
 
 const LATE_RELEASE: [Row; 1] = [("a release that ends late", Ok(()), &[])];
 
-#[test]
-fn refusals_with_a_reason(rt: HostRuntime) {
-    judge(&rt, rt.alloc(), SMALL, [&OWNER, &OTHER], &WITH_REASON);
-}
-
-#[test]
-fn refusals_without_a_reason(rt: HostRuntime) {
-    judge(&rt, rt.alloc(), SMALL, [&OWNER, &OTHER], &WITHOUT_REASON);
-}
-
-#[test]
-fn an_unlock_or_a_release_that_ends_late(rt: HostRuntime) {
-    let late_unlock = [REFUSED_STORE.as_slice(), UNLOCKER.as_slice()];
-    judge(&rt, rt.alloc(), SIZES, late_unlock, &LATE_UNLOCK);
-    let late_release = [REFUSED_REFILL.as_slice(), RELEASER.as_slice()];
-    judge(&rt, rt.alloc(), SIZES, late_release, &LATE_RELEASE);
+/// Judges these histories.
+pub fn judge_all(alloc: Global) -> Result<(), RoundFault> {
+    judge(alloc, SMALL, [&OWNER, &OTHER], &WITH_REASON)?;
+    judge(alloc, SMALL, [&OWNER, &OTHER], &WITHOUT_REASON)?;
+    judge(alloc, SIZES, [&REFUSED_STORE, &UNLOCKER], &LATE_UNLOCK)?;
+    judge(alloc, SIZES, [&REFUSED_REFILL, &RELEASER], &LATE_RELEASE)
 }

@@ -10,17 +10,11 @@ mod call;
 mod client;
 mod draws;
 mod ending;
-#[cfg(test)]
 mod histories;
-#[cfg(test)]
 mod history_alterations;
-#[cfg(test)]
 mod history_ending;
-#[cfg(test)]
 mod history_holding;
-#[cfg(test)]
 mod history_moving;
-#[cfg(test)]
 mod history_refusing;
 mod keys;
 mod log;

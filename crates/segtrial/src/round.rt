@@ -8,6 +8,7 @@ use crate::call::{Call, Operation, Refusal};
 use crate::client::{Client, Desk};
 use crate::draws::Draws;
 use crate::ending::content_of;
+use crate::histories::judge_histories;
 use crate::keys::{BUCKETS, colliding_keys};
 use crate::log::Log;
 use crate::replay::{Fault, Replay, Sizes, check};
@@ -54,6 +55,8 @@ pub enum RoundFault {
     WrongContent,
     #[error("the checker accepts more than one in a hundred answers that were altered")]
     Accepted,
+    #[error("the checker misjudges a history that was written by hand: {0}")]
+    Misjudged(&'static str),
     #[error("out of memory")]
     OutOfMemory,
 }
@@ -77,12 +80,16 @@ pub struct Failure {
     pub fault: RoundFault,
 }
 
-/// Runs all rounds, up to the first that fails.
+/// Judges the histories that were written by hand, and then runs all rounds, up to the first that fails.
 pub fn run_rounds<R: Threads + Sync>(
     rt: &R,
     alloc: Global,
     options: &Options,
 ) -> Result<Counts, Failure> {
+    if let Err(fault) = judge_histories(alloc) {
+        let seed = options.seed;
+        return Err(Failure { seed, fault });
+    }
     let mut counts = Counts::default();
     for round in 0..options.rounds.saturating_add(options.in_turn) {
         let seed = options.seed.wrapping_add(u64::from(round));
