@@ -2,7 +2,7 @@
 use crate::sums::bit;
 
 /// A value as it was stored: its number, the segment, and the deadline of the segment.
-#[derive(Clone, Copy, Debug, PartialEq, Eq)]
+#[derive(Clone, Copy, PartialEq, Eq)]
 pub struct Item {
     pub value: u32,
     pub segment: u32,
@@ -10,7 +10,7 @@ pub struct Item {
 }
 
 /// What a call on a key asked, and its answer.
-#[derive(Clone, Copy, Debug, PartialEq, Eq)]
+#[derive(Clone, Copy)]
 pub enum Access {
     /// The value, or none at a Miss.
     Get(Option<u32>),
@@ -31,7 +31,7 @@ pub enum Access {
 }
 
 /// The answer to a cas.
-#[derive(Clone, Copy, Debug, PartialEq, Eq)]
+#[derive(Clone, Copy)]
 pub enum CasReply {
     Stored(Item),
     Exists,
@@ -39,7 +39,7 @@ pub enum CasReply {
 }
 
 /// Why a call on a key was refused.
-#[derive(Clone, Copy, Debug, PartialEq, Eq)]
+#[derive(Clone, Copy, PartialEq, Eq)]
 pub enum Refusal {
     /// A get or a hold was disturbed too often.
     ReadBusy,
@@ -54,7 +54,7 @@ pub enum Refusal {
 }
 
 /// How a keep ended.
-#[derive(Clone, Copy, Debug, PartialEq, Eq)]
+#[derive(Clone, Copy, PartialEq, Eq)]
 pub enum Ended {
     Whole,
     NoRoom,
@@ -62,7 +62,7 @@ pub enum Ended {
 }
 
 /// What a call asked, and its answer. Buckets are numbered from 0, and so are the keys of each.
-#[derive(Clone, Copy, Debug, PartialEq, Eq)]
+#[derive(Clone, Copy)]
 pub enum Operation {
     /// A call on a key, at the moment `now`.
     OnKey {
@@ -278,7 +278,7 @@ impl Operation {
 
 /// A call of a thread.
 /// The stamps are of one counter for all threads. One is drawn before the call, and one after its return.
-#[derive(Clone, Copy, Debug, PartialEq, Eq)]
+#[derive(Clone, Copy)]
 pub struct Call {
     pub called: u64,
     pub returned: u64,
