@@ -46,27 +46,34 @@ struct Reader<'i> {
     ghost quiet: { IsQuiet (board_of index.now) pass } by { IsQuiet-prop (board_of index.now) pass },
 }
 
+// Each call of the index has a function of its own, so that no proof has the contracts of two.
 impl<'i> Reader<'i> {
     // Gets so many keys at random, and sets each that is missed.
     fn read(&mut self, value: &Value, times: u32) {
         for _ in 0..times {
-            let number = self.draws.key(&mut self.generator);
-            let draw = self.generator.next();
-            let Some(key) = Key::new(&number.to_le_bytes()) else {
-                return;
-            };
-            match self.index.get(&mut self.pass, &key, draw, MOMENT) {
-                GetAnswer::Found(_value) => self.hits = self.hits.saturating_add(1),
-                GetAnswer::Miss | GetAnswer::Busy => self.store(&key, value),
-            }
+            self.read_one(value);
+        }
+    }
+
+    // Gets a key at random, and sets it if it is missed.
+    fn read_one(&mut self, value: &Value) {
+        let number = self.draws.key(&mut self.generator);
+        let draw = self.generator.next();
+        let Some(key) = Key::new(&number.to_le_bytes()) else {
+            return;
+        };
+        if self.finds(&key, draw) {
+            self.hits = self.hits.saturating_add(1);
+        } else {
+            self.store(&key, value);
         }
     }
 
     // Sets a key. It is tried once more after a segment was given up.
     fn store(&mut self, key: &Key, value: &Value) {
-        if self.index.set(&mut self.pass, key, value, MOMENT) == WriteAnswer::NoRoom {
+        if !self.set(key, value) {
             self.change_segments();
-            let _answer: WriteAnswer = self.index.set(&mut self.pass, key, value, MOMENT);
+            self.set(key, value);
         }
     }
 
@@ -74,12 +81,36 @@ impl<'i> Reader<'i> {
     fn change_segments(&mut self) {
         let next = after(self.pass.current());
         let oldest = after(Some(next));
-        let _answer: RefillAnswer = self.index.refill(&mut self.pass, next, u32::MAX);
+        self.refill(next);
         if let Some(cutoff) = self.cutoff {
-            let moved = moved_by(self.index.keep(&mut self.pass, oldest, cutoff));
+            let moved = self.keep(oldest, cutoff);
             self.moved = self.moved.saturating_add(moved);
         }
-        let _gone: EvictAnswer = self.index.evict(&mut self.pass, oldest);
+        self.evict(oldest);
+    }
+
+    // Whether a get of the key finds it.
+    fn finds(&mut self, key: &Key, draw: u32) -> bool {
+        let answer = self.index.get(&mut self.pass, key, draw, MOMENT);
+        matches!(answer, GetAnswer::Found(_))
+    }
+
+    // Whether a set of the key finds a row.
+    fn set(&mut self, key: &Key, value: &Value) -> bool {
+        self.index.set(&mut self.pass, key, value, MOMENT) != WriteAnswer::NoRoom
+    }
+
+    fn refill(&mut self, segment: u32) {
+        let _answer: RefillAnswer = self.index.refill(&mut self.pass, segment, u32::MAX);
+    }
+
+    // Moves what was read often, and returns how many items that were.
+    fn keep(&mut self, segment: u32, cutoff: u8) -> u32 {
+        moved_by(self.index.keep(&mut self.pass, segment, cutoff))
+    }
+
+    fn evict(&mut self, segment: u32) {
+        let _answer: EvictAnswer = self.index.evict(&mut self.pass, segment);
     }
 }
 
