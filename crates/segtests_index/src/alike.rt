@@ -5,7 +5,7 @@ use crate::same::{check_that, same};
 use rand_core::utils::NextWord;
 use rand_pcg::Lcg64Xsh32;
 use segmodel::{
-    Answer, Command, DeleteAnswer, EvictAnswer, GetAnswer, GetsAnswer, KeepAnswer, Plain,
+    Answer, Command, DeleteAnswer, EvictAnswer, GetAnswer, GetsAnswer, KeepAnswer, PlainCache,
     RefillAnswer, Request, Shelf, WriteAnswer, run,
 };
 use segsolo::Solo;
@@ -61,7 +61,7 @@ const FULL_OF_EXPIRED: Load = Load {
 };
 
 // A plain cache and an index, both of this shape.
-fn both<R: AllocGlobal + Abort>(rt: &R, load: Load) -> (Plain, Solo) {
+fn both<R: AllocGlobal + Abort>(rt: &R, load: Load) -> (PlainCache, Solo) {
     let shape = Shape {
         buckets: load.buckets,
         overflow: load.overflow,
@@ -71,7 +71,7 @@ fn both<R: AllocGlobal + Abort>(rt: &R, load: Load) -> (Plain, Solo) {
         first_version: FIRST_VERSION,
     };
     shape.check().expect(rt, "a shape");
-    let plain = Plain::new(rt.alloc(), &shape).expect(rt, "memory");
+    let plain = PlainCache::new(rt.alloc(), &shape).expect(rt, "memory");
     let solo = Solo::new(rt.alloc(), shape).expect(rt, "memory");
     (plain, solo)
 }
@@ -199,7 +199,12 @@ impl Came {
 }
 
 // Serves a command by both caches, and returns what both answer.
-fn serve_both(rt: &impl Abort, plain: &mut Plain, solo: &mut Solo, command: &Command) -> Answer {
+fn serve_both(
+    rt: &impl Abort,
+    plain: &mut PlainCache,
+    solo: &mut Solo,
+    command: &Command,
+) -> Answer {
     let expected = plain.serve(command).expect(rt, "memory");
     let given = solo.serve(command).expect(rt, "memory");
     assert_eq!(rt; given, expected, "{command:?}");
