@@ -125,6 +125,32 @@ fn policies_and_sizes_are_compared(rt: HostRuntime) {
     check_same(&rt, &words, text.matches("gets=4 hits=1").count(), 18);
 }
 
+// The caches have 32, 16, 8 and three times 4 rows, and give up their segments in turn.
+#[test]
+fn each_size_has_rows_of_its_own(rt: HostRuntime) -> Result<(), Fail> {
+    check_program(
+        &rt,
+        &[
+            "replay",
+            "--buckets=16",
+            "--segments=4",
+            "--rows=8",
+            "--policy=nothing",
+            "--sizes",
+        ],
+        b"a\na\na\nb\nc\nd\ne\nf\ng\nh\ni\nj\nk\nl\na\nm\nn\no\np\nq\nr\ns\nt\nu\nv\nw\nx\ny\nz\na\n",
+        0,
+        b"nothing bytes=3112 gets=30 hits=4 rate=13.33 sets=0 deletes=0 evicted=0 kept=0 refused=0 busy=0
+nothing bytes=1576 gets=30 hits=3 rate=10.00 sets=0 deletes=0 evicted=12 kept=0 refused=0 busy=0
+nothing bytes=808 gets=30 hits=2 rate=6.66 sets=0 deletes=0 evicted=20 kept=0 refused=0 busy=0
+nothing bytes=424 gets=30 hits=2 rate=6.66 sets=0 deletes=0 evicted=24 kept=0 refused=0 busy=0
+nothing bytes=360 gets=30 hits=2 rate=6.66 sets=0 deletes=0 evicted=24 kept=0 refused=0 busy=0
+nothing bytes=360 gets=30 hits=2 rate=6.66 sets=0 deletes=0 evicted=24 kept=0 refused=0 busy=0
+",
+        b"",
+    )
+}
+
 // Checks that the third line is told as bad, behind the totals of the first.
 fn check_bad<R: Threads + Wait + AllocGlobal + Abort + Sync>(rt: &R, words: &[&str], trace: &[u8]) {
     let totals =
