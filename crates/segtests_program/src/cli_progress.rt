@@ -1,4 +1,4 @@
-//! What a watch sees of a load, and its line of progress.
+//! What a watch sees of a load or a replay, and the line of progress.
 use crate::cli_runs::{Ended, check_ended, check_same, run_watched, writes};
 use segcli::{Watch, progress_line};
 use std::alloc::AllocGlobal;
@@ -73,7 +73,7 @@ fn run_seen<R: Threads + Wait + AllocGlobal + Abort + Sync>(
     words: &[&str],
     seen: &Seen,
 ) -> Ended {
-    run_watched(rt, words, seen)
+    run_watched(rt, words, b"", seen)
 }
 
 /// Checks how a load ends, and what a watch sees of it.
@@ -156,6 +156,17 @@ fn a_watch_sees_the_commands_of_all_passes(rt: HostRuntime) {
         1024 <= first && first < second && 2048 < second && second <= 6144,
         "{told:?}"
     );
+}
+
+// A blank line is no command.
+#[test]
+fn a_watch_sees_the_commands_of_a_replay(rt: HostRuntime) {
+    let words = ["replay", "--progress"];
+    let seen = Seen::new();
+    let ended = run_watched(&rt, &words, b"a\n\nset b\nget a\n", &seen);
+    check_same(&rt, &words, ended.status, 0);
+    check_same(&rt, &words, seen.calls.load(SeqCst), 1);
+    check_same(&rt, &words, seen.told(), [(3, 0), (0, 0), (0, 0), (0, 0)]);
 }
 
 /// Checks the totals of a load of one pass, with a watch.

@@ -115,6 +115,44 @@ fn a_full_cache_evicts(rt: HostRuntime) {
     );
 }
 
+// The trace has 10,000 bytes, more than two pieces that are read at a time.
+#[test]
+fn a_long_trace_is_read_to_its_end(rt: HostRuntime) {
+    let mut trace = Vec::new(rt.alloc());
+    for _ in 0..5_000 {
+        trace.extend_from_slice(b"a\n").expect(&rt, "memory");
+    }
+    check_totals(
+        &rt,
+        &[],
+        trace.as_slice(),
+        "default bytes=3272 gets=5000 hits=4999 rate=99.98 sets=0 deletes=0 evicted=0 kept=0 refused=0 busy=0\n",
+    );
+}
+
+// The key that is got again stays in the cache, unless puts keep nothing. Then it goes with its
+// segment, by turns, and is missed once more.
+#[test]
+fn each_policy_keeps_in_its_own_way(rt: HostRuntime) {
+    let words = [
+        "replay",
+        "--buckets=16",
+        "--segments=8",
+        "--rows=2",
+        "--policy=all",
+    ];
+    let ended = run(
+        &rt,
+        &words,
+        b"a\na\na\na\nk1\nk2\nk3\na\nk4\nk5\nk6\na\nk7\nk8\nk9\na\nl1\nl2\nl3\na\nl4\nl5\nl6\na\nl7\nl8\nl9\na\nm1\nm2\nm3\na\nm4\nm5\nm6\na\n",
+    );
+    let text = text_of(&rt, &ended);
+    check_same(&rt, &words, ended.status, 0);
+    check_same(&rt, &words, text.matches("gets=36 hits=11").count(), 2);
+    let in_turn = "gets=36 hits=10 rate=27.77 sets=0 deletes=0 evicted=10 kept=0 ";
+    check_same(&rt, &words, text.matches(in_turn).count(), 1);
+}
+
 #[test]
 fn policies_and_sizes_are_compared(rt: HostRuntime) {
     let words = ["replay", "--for-keys=64", "--policy=all", "--sizes"];
@@ -127,7 +165,7 @@ fn policies_and_sizes_are_compared(rt: HostRuntime) {
 
 // The caches have 32, 16, 8 and three times 4 rows, and give up their segments in turn.
 #[test]
-fn each_size_has_rows_of_its_own(rt: HostRuntime) -> Result<(), Fail> {
+fn each_size_has_rows_of_its_own(rt: HostRuntime) {
     check_program(
         &rt,
         &[
@@ -139,16 +177,16 @@ fn each_size_has_rows_of_its_own(rt: HostRuntime) -> Result<(), Fail> {
             "--sizes",
         ],
         b"a\na\na\nb\nc\nd\ne\nf\ng\nh\ni\nj\nk\nl\na\nm\nn\no\np\nq\nr\ns\nt\nu\nv\nw\nx\ny\nz\na\n",
-        0,
-        b"nothing bytes=3112 gets=30 hits=4 rate=13.33 sets=0 deletes=0 evicted=0 kept=0 refused=0 busy=0
+        writes(
+            b"nothing bytes=3112 gets=30 hits=4 rate=13.33 sets=0 deletes=0 evicted=0 kept=0 refused=0 busy=0
 nothing bytes=1576 gets=30 hits=3 rate=10.00 sets=0 deletes=0 evicted=12 kept=0 refused=0 busy=0
 nothing bytes=808 gets=30 hits=2 rate=6.66 sets=0 deletes=0 evicted=20 kept=0 refused=0 busy=0
 nothing bytes=424 gets=30 hits=2 rate=6.66 sets=0 deletes=0 evicted=24 kept=0 refused=0 busy=0
 nothing bytes=360 gets=30 hits=2 rate=6.66 sets=0 deletes=0 evicted=24 kept=0 refused=0 busy=0
 nothing bytes=360 gets=30 hits=2 rate=6.66 sets=0 deletes=0 evicted=24 kept=0 refused=0 busy=0
 ",
-        b"",
-    )
+        ),
+    );
 }
 
 // Checks that the third line is told as bad, behind the totals of the first.

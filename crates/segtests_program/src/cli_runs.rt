@@ -155,10 +155,11 @@ pub fn end_of(status: u8, streams: Streams<MemSource<'_>, MemSink, MemSink>) -> 
 pub fn run_watched<R: Threads + Wait + AllocGlobal + Abort + Sync, V: Watch>(
     rt: &R,
     words: &[&str],
+    given: &[u8],
     watch: &V,
 ) -> Ended {
     let words = words_of(rt.alloc(), words).expect(rt, "memory for words");
-    let mut streams = streams_of(rt, b"", SOUND);
+    let mut streams = streams_of(rt, given, SOUND);
     let status = run_program_watched(rt, rt.alloc(), words.as_slice(), &mut streams, watch);
     end_of(status, streams)
 }
