@@ -107,9 +107,11 @@ fn fill(workers: &mut Vec<Worker<'_>>, keys: u32, values: &Vec<Value>) {
     for number in 0..keys {
         let place = number as usize;
         let value = values.get(place % VALUES as usize);
-        if let (Some(worker), Some(key), Some(value)) =
-            (workers.get_mut(place % count), key_of(number), value)
-        {
+        if let (Some(worker), Some(key), Some(value)) = (
+            workers.get_mut(place % count),
+            key_of(number),
+            value,
+        ) {
             worker.client.put(&key, value);
         }
     }

@@ -82,7 +82,8 @@ impl Tally {
             WriteAnswer::Stored => &mut self.hits,
             WriteAnswer::Busy => &mut self.busy,
             WriteAnswer::NoRoom | WriteAnswer::BucketFull => &mut self.full,
-            WriteAnswer::NotStored | WriteAnswer::Exists | WriteAnswer::NotFound => &mut self.misses,
+            WriteAnswer::NotStored | WriteAnswer::Exists | WriteAnswer::NotFound =>
+                &mut self.misses,
         };
         *number = number.saturating_add(1);
     }

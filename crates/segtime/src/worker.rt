@@ -6,8 +6,8 @@ use segclient::Client;
 use segmodel::{GetAnswer, GetsAnswer, WriteAnswer};
 use segword::{Key, Value};
 use std::alloc::{AllocError, Global};
-use std::time::{Clock, CpuClock, Duration, Instant};
 use std::io;
+use std::time::{Clock, CpuClock, Duration, Instant};
 
 /// What each thread is to do in a round.
 #[derive(Clone, Copy)]
@@ -172,7 +172,9 @@ impl<'i> Worker<'i> {
                 let told = self.gets(key);
                 self.tally.count_gets(&told);
             }
-            Kind::Set => self.tally.count_write(set_answer(self.client.put(key, value))),
+            Kind::Set => self
+                .tally
+                .count_write(set_answer(self.client.put(key, value))),
             Kind::Delete => self.tally.count_delete(self.client.delete(key)),
             Kind::Modify => self.modify(key, value),
             kind => {
