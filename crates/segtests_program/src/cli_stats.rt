@@ -38,7 +38,7 @@ fn check_heard<R: Threads + Wait + AllocGlobal + Abort + Sync>(
         ends: AtomicU64::new(0),
         keys: AtomicU64::new(0),
     };
-    let ended = run_watched(rt, words, &watch);
+    let ended = run_watched(rt, words, b"", &watch);
     check_ended(rt, words, &ended, writes(totals));
     check_same(
         rt,
