@@ -91,7 +91,7 @@ def front_table(results):
     for label, mix, threads in FRONT:
         place = (mix, "zipf", 100_000, threads, "large", "small")
         open_beside = {one["beside"] for one in results.compared if Results.place(one["cell"]) == place and not one["is_claimed"]}
-        costs = [results.cost(place, name, lambda cost: f'{cost["median"]:.0f}') + (" *" if name in open_beside else "")
+        costs = [results.cost(place, name, lambda cost: f'{cost["median"]:.0f}') + ("?" if name in open_beside else "")
                  for name in SHOWN]
         found.append((label, *costs))
     return found
