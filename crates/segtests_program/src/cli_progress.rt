@@ -65,6 +65,11 @@ impl Watch for Seen {
             }
         }
     }
+
+    // A replay has no whole.
+    fn made(&self, commands: u64) {
+        self.saw(commands, 0);
+    }
 }
 
 /// Runs a load while the watch looks on, with devices that don't fail.
