@@ -9,7 +9,7 @@ use Rattle.segcore.proofs.Deadlines.{same_deadline}
 use Rattle.segcore.proofs.Moments.{begins_on, seen_begins}
 use Rattle.segbase.specs.Words.{AddsEvents, Board, number, Pass, Place, seen, trace}
 use Rattle.segbase.proofs.Moves.{is_inside, moved_on}
-use Rattle.segstore.specs.Words.{FoundItem, IsReaderIn, LeavesSegment, OnlyLooks, segment_part}
+use Rattle.segstore.specs.Words.{FoundItem, IsReaderIn, LeavesSegment, ReadsRow, segment_part}
 use Rattle.segstore.proofs.Seconds.{segment_of_item}
 use Rattle.segread.specs.Reads.{ReadsBetween}
 use Rattle.segread.specs.declared.scan.Hit.{Hit}
@@ -31,10 +31,10 @@ pub by_word : (z : Shape) (item : Item) (deadline : ℕ) (h : List Event) → Ha
 by_word z item deadline h had = subst (λ s. HasDeadline z s deadline h) (segment_of_item item) had
 
 -- after the row of a hit was read, by the item's word
-pub read_deadline : (b : Board) (p q v : Pass) (item : Item) (deadline : ℕ) → IsReaderIn b p q item.seg → OnlyLooks b q v
+pub read_deadline : (b : Board) (p q v : Pass) (item : Item) (deadline : ℕ) → IsReaderIn b p q item.seg → ReadsRow b q v item.seg item.row
     → HasDeadline b.shape item.seg deadline (trace q) → HasDeadline b.shape (segment_part (item_word item)) deadline (trace v)
-read_deadline b p q v item deadline i looked had =
-    by_word b.shape item deadline (trace v) (deadline_lasts b q v item.seg deadline looked.did.moved (is_inside b p q item.seg i.reads) had)
+read_deadline b p q v item deadline i row had =
+    by_word b.shape item deadline (trace v) (deadline_lasts b q v item.seg deadline row.looked.did.moved (is_inside b p q item.seg i.reads) had)
 
 module _ (z : Shape) (place : Place) (w : ℕ) (key value : List ℕ) (h g : List Event) (found : FoundItem z place w key value h g) (deadline : ℕ) (has : HasDeadline z (segment_part w) deadline g) where
   -- the deadline at the moment at which the item was seen

@@ -10,27 +10,26 @@ use Rattle.segbase.proofs.Alone.{moved_alone}
 use Rattle.segbase.proofs.Moves.{moved_on, is_inside}
 use Rattle.segbase.proofs.Staying.{none_both}
 use Rattle.segstore.specs.Words.{FoundItem, FoundKey, IsReadable, IsReader, IsReaderIn}
-use Rattle.segstore.specs.Words.{LeavesSegment, OnlyLooks, RaisesNothing, ReadsRow, row_part, segment_part}
-use Rattle.segstore.specs.declared.row.KeyedRow.{KeyedRow}
+use Rattle.segstore.specs.Words.{LeavesSegment, RaisesNothing, ReadsRow, row_part, segment_part}
 use Rattle.segstore.proofs.Readers.{looks, then_reader, leave_then}
 use Rattle.segstore.proofs.Seconds.{segment_of_item, found_readable, found_value}
 use Rattle.segread.specs.Hits.{RaisesFrom}
 use Rattle.segread.proofs.Raising.{raises_after, raises_sooner}
 
 -- with p the pass before the scan, q in the item's segment, and v after its row was read
-pub hit_readable : (b : Board) (p q : Pass) (place : Place) (item : Item) (row : KeyedRow) (key : List ℕ) → IsReaderIn b p q item.seg → FoundKey b.shape place item row key (trace p) (trace q) → IsReadable b q row.at.segment row.at.row
-hit_readable b p q place item row key i f = found_readable b q place item row key (trace p) (is_inside b p q item.seg i.reads) f
+pub hit_readable : (b : Board) (p q : Pass) (place : Place) (item : Item) (header : ℕ) (key : List ℕ) → IsReaderIn b p q item.seg → FoundKey b.shape place item header key (trace p) (trace q) → IsReadable b q item.seg item.row
+hit_readable b p q place item header key i f = found_readable b q place item header key (trace p) (is_inside b p q item.seg i.reads) f
 
-pub read_in : (b : Board) (p q v : Pass) (segment : ℕ) → IsReaderIn b p q segment → OnlyLooks b q v → IsReaderIn b p v segment
-read_in b p q v segment i looked = then_reader b p q v segment i (looks b q v looked)
+pub read_in : (b : Board) (p q v : Pass) (s r : ℕ) → IsReaderIn b p q s → ReadsRow b q v s r → IsReaderIn b p v s
+read_in b p q v s r i reads = then_reader b p q v s i (looks b q v reads.looked)
 
 -- the whole way of a hit: its value is read, it is counted, and the segment left
-pub read_and_left : (b : Board) (p q v t r : Pass) (segment : ℕ) → IsReaderIn b p q segment → OnlyLooks b q v → IsReader b v t → LeavesSegment b t r segment → IsReader b p r
-read_and_left b p q v t r segment i looked counted out = leave_then b p t r segment (then_reader b p v t segment (read_in b p q v segment i looked) counted) out
+pub read_and_left : (b : Board) (p q v t r : Pass) (segment row : ℕ) → IsReaderIn b p q segment → ReadsRow b q v segment row → IsReader b v t → LeavesSegment b t r segment → IsReader b p r
+read_and_left b p q v t r segment row i reads counted out = leave_then b p t r segment (then_reader b p v t segment (read_in b p q v segment row i reads) counted) out
 
-pub read_value : (b : Board) (p q v : Pass) (place : Place) (item : Item) (row : KeyedRow) (key value : List ℕ) → IsReaderIn b p q item.seg → FoundKey b.shape place item row key (trace p) (trace q) → ReadsRow b q v row.at.segment row.at.row
-    → ((k w : List ℕ) → IsKey k → IsValue w → Holds (row_after (trace v) row.at.segment row.at.row) k w → value ≡ w) → FoundItem b.shape place (item_word item) key value (trace p) (trace v)
-read_value b p q v place item row key value i f reads is = found_value b q v place item row key value (trace p) (is_inside b p q item.seg i.reads) f reads is
+pub read_value : (b : Board) (p q v : Pass) (place : Place) (item : Item) (header : ℕ) (key value : List ℕ) → IsReaderIn b p q item.seg → FoundKey b.shape place item header key (trace p) (trace q) → ReadsRow b q v item.seg item.row
+    → ((k w : List ℕ) → IsKey k → IsValue w → Holds (row_after (trace v) item.seg item.row) k w → value ≡ w) → FoundItem b.shape place (item_word item) key value (trace p) (trace v)
+read_value b p q v place item header key value i f reads is = found_value b q v place item header key value (trace p) (is_inside b p q item.seg i.reads) f reads is
 
 -- what was found is so still, while the pass only looks
 pub found_on : (b : Board) (p q : Pass) (place : Place) (item : Item) (key value : List ℕ) (h : List Event) → 0 < inside (trace p) (number p) item.seg → AddsEvents b [] p q → FoundItem b.shape place (item_word item) key value h (trace p) → FoundItem b.shape place (item_word item) key value h (trace q)

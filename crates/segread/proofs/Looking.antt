@@ -76,7 +76,7 @@ module _ (b : Board) (key : List ℕ) (p m : Pass) (l : LooksFirst b p m) where
 
   way_from : (from to : ℕ) (last : Place) (tries : ℕ) (w : Scan) (q : Pass) → IsWay b.shape key from to last tries w m q → IsWay b.shape key from to last tries w p q
   way_from from to last tries (scan.Found hit) q x = record {
-    found = hit_from b.shape hit.place hit.item hit.row key (trace m) (trace q) (trace p) up x.found;
+    found = hit_from b.shape hit.place hit.item hit.header key (trace m) (trace q) (trace p) up x.found;
     deadline = x.deadline;
     few = x.few;
     up = x.up;

@@ -16,7 +16,6 @@ use Rattle.segbase.specs.Words.{Board, cell_at, depth_of, home_bucket, IsPassOf,
 use Rattle.segbase.specs.Words.{Place, position, trace}
 use Rattle.segbase.proofs.Moves.{moved_on}
 use Rattle.segstore.specs.Words.{FoundKey, IsChained, IsNext, IsReader, IsReaderIn, next_word, word_of_place}
-use Rattle.segstore.specs.declared.row.KeyedRow.{KeyedRow}
 use Rattle.segstore.proofs.Words.{at_place, same_place, chained_later}
 use Rattle.segstore.proofs.Readers.{stays, reader_then, enter_then}
 use Rattle.segread.specs.declared.scan.Hit.{Hit}
@@ -124,14 +123,14 @@ pub word_given_up : (at some count : ℕ) (p q : Pass) → at < 32 → count ≤
 word_given_up at some count p q in' few i = at_most at at 32 some count 63 p q (let e = words_few at in' in omega (arith, e, few)) i
 
 -- with p the pass before the looks at a word, q before the last try, and r in the item's segment
-pub hit_here : (b : Board) (key : List ℕ) (place : Place) (seen item : Item) (row : KeyedRow) (deadline tries count : ℕ) (p q r : Pass) → IsPlaceOf b.shape (trace p) key place → IsReader b p q → IsReaderIn b p r item.seg → count < 64
-    → Tries (position b.shape (trace p) place) (position b.shape (trace p) place) tries count p q → Trying b.shape key place tries seen count (trace p) (trace q) → IsTry q r → FoundKey b.shape place item row key (trace q) (trace r)
+pub hit_here : (b : Board) (key : List ℕ) (place : Place) (seen item : Item) (header deadline tries count : ℕ) (p q r : Pass) → IsPlaceOf b.shape (trace p) key place → IsReader b p q → IsReaderIn b p r item.seg → count < 64
+    → Tries (position b.shape (trace p) place) (position b.shape (trace p) place) tries count p q → Trying b.shape key place tries seen count (trace p) (trace q) → IsTry q r → FoundKey b.shape place item header key (trace q) (trace r)
     → HasDeadline b.shape item.seg deadline (trace r)
-    → IsHit b.shape key (position b.shape (trace p) place) tries (record { place = place; item = item; row = row; deadline = deadline; tries = count }) p r
-hit_here b key place seen item row deadline tries count p q r of i j few tried y once found told =
+    → IsHit b.shape key (position b.shape (trace p) place) tries (record { place = place; item = item; header = header; deadline = deadline; tries = count }) p r
+hit_here b key place seen item header deadline tries count p q r of i j few tried y once found told =
     let z = b.shape in let m = moved_on b j.reads.own p r j.reads.moved in let up = moved_on b i.reads.own p q i.reads.moved in
     let e : position z (trace p) place ≡ position z (trace r) place = sym (same_place z (trace p) (trace r) place j.reads.moved.pass.lawful m of.0).1 in record {
-      found = hit_from z place item row key (trace q) (trace r) (trace p) up found;
+      found = hit_from z place item header key (trace q) (trace r) (trace p) up found;
       deadline = told;
       few = few;
       up = let on = tried.onward in omega arith;
@@ -190,7 +189,7 @@ module _ (b : Board) (key : List ℕ) (from mid some tries : ℕ) (p q r : Pass)
 
   pub hit_then : (hit : Hit) → IsHit b.shape key mid tries hit q r → IsHit b.shape key from some hit p r
   hit_then hit x = record {
-    found = hit_from b.shape hit.place hit.item hit.row key (trace q) (trace r) (trace p) up x.found;
+    found = hit_from b.shape hit.place hit.item hit.header key (trace q) (trace r) (trace p) up x.found;
     deadline = x.deadline;
     few = x.few;
     up = let before = s.up in let more = x.up in omega arith;

@@ -21,7 +21,6 @@ use Rattle.segstore.specs.Reading.{LeavesSegment, Enters}
 use Rattle.segstore.specs.Words.{FoundItem, FoundKey, IsChained, IsKeyed, IsReader, MayEnterAny}
 use Rattle.segstore.specs.Words.{OnlyLooks, SawItem, SawWord, segment_part, word_of_place}
 use Rattle.segstore.specs.declared.read.Keyed.{Keyed}
-use Rattle.segstore.specs.declared.row.KeyedRow.{KeyedRow}
 use Rattle.segstore.specs.declared.read.Keyed.TheVariants.{Same, Other, Changed}
 use Rattle.segstore.proofs.Words.{same_place, chained_later, names_in, stood_item, same_parts}
 use Rattle.segstore.proofs.Seconds.{segment_of_item}
@@ -36,8 +35,8 @@ saw_wider z place w k v h g h' g' a c s = record { at = s.at; between = (begins_
 abbrev pub found_from : (z : Shape) (place : Place) (w : ℕ) (k v : List ℕ) (h g h' : List Event) → Begins h' h → FoundItem z place w k v h g → FoundItem z place w k v h' g
 found_from z place w k v h g h' a f = record { saw = record { at = f.saw.at; between = (begins_on h' h f.saw.at a f.saw.between.0, f.saw.between.1); was = f.saw.was }; kept = f.kept; still = f.still; alone = f.alone }
 
-abbrev pub hit_from : (z : Shape) (place : Place) (item : Item) (row : KeyedRow) (k : List ℕ) (h g h' : List Event) → Begins h' h → FoundKey z place item row k h g → FoundKey z place item row k h' g
-hit_from z place item row k h g h' a f = record { value = f.value; found = found_from z place (item_word item) k f.value h g h' a f.found; is_row = f.is_row }
+abbrev pub hit_from : (z : Shape) (place : Place) (item : Item) (header : ℕ) (k : List ℕ) (h g h' : List Event) → Begins h' h → FoundKey z place item header k h g → FoundKey z place item header k h' g
+hit_from z place item header k h g h' a f = record { value = f.value; found = found_from z place (item_word item) k f.value h g h' a f.found; begins = f.begins }
 
 abbrev pub word_wider : (z : Shape) (place : Place) (w : ℕ) (h g h' g' : List Event) → Begins h' h → Begins g g' → SawWord z place w h g → SawWord z place w h' g'
 word_wider z place w h g h' g' a c s = record { at = s.at; between = (begins_on h' h s.at a s.between.0, begins_on s.at g g' s.between.1 c); lawful = s.lawful; stood = s.stood }
@@ -46,29 +45,29 @@ word_wider z place w h g h' g' a c s = record { at = s.at; between = (begins_on 
 
 -- with p the pass before it, q in the segment, r after the second look, and t after it left
 pub keyed_from : (z : Shape) (place : Place) (w : ℕ) (key : List ℕ) (k : Keyed) (h g h' : List Event) → Begins h' h → IsKeyed z place w key k h g → IsKeyed z place w key k h' g
-keyed_from z place w key (Same item row) h g h' a x = (x.0, hit_from z place item row key h g h' a x.1)
+keyed_from z place w key (Same item header) h g h' a x = (x.0, hit_from z place item header key h g h' a x.1)
 keyed_from z place w key (Other same) h g h' a x = (x.0, (x.1.0, x.1.1, x.1.2, saw_wider z place (item_word same) x.1.0 x.1.1 h g h' g a ([], refl) x.1.3))
 keyed_from z place w key (Changed other) h g h' a x = (word_wider z place other h g h' g a ([], refl) x.0, x.1)
 
-pub keyed_left : (z : Shape) (place : Place) (w : ℕ) (key : List ℕ) (k : Keyed) (h g g' : List Event) → ((item : Item) (row : KeyedRow) → k ≢ Same item row) → Begins g g' → IsKeyed z place w key k h g → IsKeyed z place w key k h g'
-keyed_left z place w key (Same item row) h g g' ne c x = absurd (ne item row refl)
+pub keyed_left : (z : Shape) (place : Place) (w : ℕ) (key : List ℕ) (k : Keyed) (h g g' : List Event) → ((item : Item) (header : ℕ) → k ≢ Same item header) → Begins g g' → IsKeyed z place w key k h g → IsKeyed z place w key k h g'
+keyed_left z place w key (Same item header) h g g' ne c x = absurd (ne item header refl)
 keyed_left z place w key (Other same) h g g' ne c x = (x.0, (x.1.0, x.1.1, x.1.2, saw_wider z place (item_word same) x.1.0 x.1.1 h g h g' ([], refl) c x.1.3))
 keyed_left z place w key (Changed other) h g g' ne c x = (word_wider z place other h g h g' ([], refl) c x.0, x.1)
 
 -- a try at whose end the pass is in no segment
-pub trial_out : (b : Board) (k : Keyed) (p q : Pass) → ((item : Item) (row : KeyedRow) → k ≢ Same item row) → IsReader b p q → IsTrial b k p q
-trial_out b (Same item row) p q ne i = absurd (ne item row refl)
+pub trial_out : (b : Board) (k : Keyed) (p q : Pass) → ((item : Item) (header : ℕ) → k ≢ Same item header) → IsReader b p q → IsTrial b k p q
+trial_out b (Same item header) p q ne i = absurd (ne item header refl)
 trial_out b (Other same) p q ne i = i
 trial_out b (Changed other) p q ne i = i
 
-pub no_deadline : (z : Shape) (k : Keyed) (deadline : ℕ) (h : List Event) → ((item : Item) (row : KeyedRow) → k ≢ Same item row) → ReturnsDeadline z k deadline h
-no_deadline z (Same item row) deadline h ne = absurd (ne item row refl)
+pub no_deadline : (z : Shape) (k : Keyed) (deadline : ℕ) (h : List Event) → ((item : Item) (header : ℕ) → k ≢ Same item header) → ReturnsDeadline z k deadline h
+no_deadline z (Same item header) deadline h ne = absurd (ne item header refl)
 no_deadline z (Other same) deadline h ne = tt
 no_deadline z (Changed other) deadline h ne = tt
 
 -- of passes: p before the try, e in the segment, r after the second look, and l after it left
 pub trial_gone : (b : Board) (place : Place) (item : Item) (key : List ℕ) (k : Keyed) (p e r l : Pass) → Enters b p e item.seg → OnlyLooks b e r → IsKeyed b.shape place (item_word item) key k (trace e) (trace r)
-    → ((item : Item) (row : KeyedRow) → k ≢ Same item row) → LeavesSegment b r l item.seg → IsTry p l × IsReader b p l × IsKeyed b.shape place (item_word item) key k (trace p) (trace l)
+    → ((item : Item) (header : ℕ) → k ≢ Same item header) → LeavesSegment b r l item.seg → IsTry p l × IsReader b p l × IsKeyed b.shape place (item_word item) key k (trace p) (trace l)
 trial_gone b place item key k p e r l comes look saw other gone =
     let in_r = then_reader b p e r item.seg (enters b p e item.seg comes) (looks b e r look) in (
       try_out p r l (try_out p e r (came_in b item.seg p e comes.did.moved) (looked b e r look.did.moved)) (leaves b item.seg r l gone.moved),

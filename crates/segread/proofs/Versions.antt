@@ -4,7 +4,7 @@ use Rattle.segword.specs.Words.{Info, IsKey, IsSameItem, IsValid, IsValue, item_
 use Rattle.segword.specs.Words.{tag_part}
 use Rattle.segmodel.specs.Words.{Begins, bucket_of, entries_of, tag_of}
 use Rattle.segcore.specs.Event as event
-use Rattle.segcore.specs.Words.{bucket_after, entered, Holds, inside, IsLawful, IsSegment, row_after}
+use Rattle.segcore.specs.Words.{bucket_after, entered, Holds, inside, IsLawful, row_after}
 use Rattle.segcore.proofs.Moments.{begins_on, seen_begins}
 use Rattle.segcore.proofs.Searches.{key_later}
 use Rattle.segbase.specs.Words.{Board, count, Glances, number, Pass, Place, position, seen, sight}
@@ -30,8 +30,8 @@ use Rattle.segread.proofs.Tries.{has_tag, counts_later, one_entry, passed_word}
 
 -- with p the pass before the scan, q in the item's segment, v after its value was read, g after the look at the information, and l after the third look
 module _ (b : Board) (key : List ℕ) (now from tries : ℕ) (hit : Hit) (value : List ℕ) (info : Info) (third : ℕ) (p q v g l : Pass) (valid : IsValid b.shape) (few : b.shape.first_version < 2 ^ 32) (free : HasNoBit b.shape key p)
-    (scan : IsReaderIn b p q hit.item.seg) (x : IsHit b.shape key from tries hit p q) (row : ReadsRow b q v hit.row.at.segment hit.row.at.row)
-    (is_value : (k w : List ℕ) → IsKey k → IsValue w → Holds (row_after (trace v) hit.row.at.segment hit.row.at.row) k w → value ≡ w)
+    (scan : IsReaderIn b p q hit.item.seg) (x : IsHit b.shape key from tries hit p q) (row : ReadsRow b q v hit.item.seg hit.item.row)
+    (is_value : (k w : List ℕ) → IsKey k → IsValue w → Holds (row_after (trace v) hit.item.seg hit.item.row) k w → value ≡ w)
     (glance : Glances b (bucket_of b.shape key) info v g) (plain : g.plain ≡ v.plain) (memo : (sight g).memo ≡ (sight v).memo)
     (version : info.version ≡ (b.shape.first_version + (bucket_after b.shape (trace g) (bucket_of b.shape key)).version) % 2 ^ 32) (look : OnlyLooks b g l) (stands : third ≡ word_of_place b.shape (trace l) hit.place) (before : now < hit.deadline) where
   abbrev z : Shape
@@ -41,13 +41,13 @@ module _ (b : Board) (key : List ℕ) (now from tries : ℕ) (hit : Hit) (value 
   c = bucket_of b.shape key
 
   in_v : IsReaderIn b p v hit.item.seg
-  in_v = read_in b p q v hit.item.seg scan row.looked
+  in_v = read_in b p q v hit.item.seg hit.item.row scan row
 
   found_v : FoundItem z hit.place (item_word hit.item) key value (trace p) (trace v)
-  found_v = read_value b p q v hit.place hit.item hit.row key value scan x.found row is_value
+  found_v = read_value b p q v hit.place hit.item hit.header key value scan x.found row is_value
 
   deadline_v : HasDeadline z (segment_part (item_word hit.item)) hit.deadline (trace v)
-  deadline_v = read_deadline b p q v hit.item hit.deadline scan row.looked x.deadline
+  deadline_v = read_deadline b p q v hit.item hit.deadline scan row x.deadline
 
   still_free : HasNoBit z key v
   still_free = still_no_bit b key in_v.reads.own p v in_v.reads.moved in_v.reads.only free
@@ -116,7 +116,7 @@ module _ (b : Board) (key : List ℕ) (now from tries : ℕ) (hit : Hit) (value 
   pub is_seen : IsSeen b key now from tries hit value info third p l
   is_seen = record {
     reads = in_l;
-    in_table = subst (IsSegment z) x.found.is_row.names.0 row.readable.0;
+    in_table = row.readable.0;
     few = x.few;
     up = x.up;
     glances = glances_one p q l x.tried.only_scans once;

@@ -32,7 +32,7 @@ words_below at = at - 1 - (at - 1) / 8
 
 -- after a try the pass is in the item's segment if the item is the key's
 abbrev pub IsTrial : Board → Keyed → Pass → Pass → Type 0
-IsTrial b (keyed.Same item row) p q = IsReaderIn b p q item.seg
+IsTrial b (keyed.Same item header) p q = IsReaderIn b p q item.seg
 IsTrial b (keyed.Other item) p q = IsReader b p q
 IsTrial b (keyed.Changed word) p q = IsReader b p q
 
@@ -49,7 +49,7 @@ HasDeadline shape segment deadline trace = (after shape (seen trace)).deadline s
 
 -- if the item is the key's, the deadline is that of its segment
 abbrev pub ReturnsDeadline : Shape → Keyed → ℕ → List Event → Type 0
-ReturnsDeadline shape (keyed.Same item row) deadline trace =
+ReturnsDeadline shape (keyed.Same item header) deadline trace =
     HasDeadline shape item.seg deadline trace
 ReturnsDeadline shape (keyed.Other item) deadline trace = Unit {0}
 ReturnsDeadline shape (keyed.Changed word) deadline trace = Unit {0}
@@ -113,7 +113,7 @@ pub record HasPassed (shape : Shape) (key : List ℕ) (from to : ℕ) (place : P
 -- A search for the key may go on from the item's place.
 pub record IsHit (shape : Shape) (key : List ℕ) (from tries : ℕ) (hit : Hit) (p q : Pass)
     : Type 0 where
-  pub found : FoundKey shape hit.place hit.item hit.row key (trace p) (trace q)
+  pub found : FoundKey shape hit.place hit.item hit.header key (trace p) (trace q)
   pub deadline : HasDeadline shape hit.item.seg hit.deadline (trace q)
   pub few : hit.tries < 64
   pub up : tries ≤ hit.tries
@@ -161,7 +161,7 @@ IsScanFrom shape key from tries scan.Busy p q = GivesUp shape key from tries p q
 -- a scan of the whole chain
 abbrev pub IsScanAnswer : Shape → List ℕ → Scan → List Event → List Event → Type 0
 IsScanAnswer shape key (scan.Found hit) old new =
-    FoundKey shape hit.place hit.item hit.row key old new
+    FoundKey shape hit.place hit.item hit.header key old new
     × HasDeadline shape hit.item.seg hit.deadline new
 IsScanAnswer shape key (scan.Passed word counted) old new = WasGone (KeyGone shape key) old new
 IsScanAnswer shape key scan.Busy old new = CountsTries shape key 0 64 old new

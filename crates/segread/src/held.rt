@@ -14,7 +14,7 @@ ghost use Rattle.segread.specs.Rows.{IsOfRow};
 
 use crate::scan::{Scan, scan_for};
 use segbase::{Board, Pass};
-use segstore::{KeyedRow, leave_segment, value_of_row};
+use segstore::{leave_segment, value_of_row};
 use segword::{Key, Value};
 
 /// An item that a pass holds. The hold has to be released, with the pass that holds the item.
@@ -59,7 +59,7 @@ pub fn hold_item<'i>(board: &'i Board, pass: &mut Pass, key: &Key, now: u32) -> 
                 return HoldAnswer::Miss;
             }
             let item = hit.item;
-            let value = value_of_row(board, pass, hit.row);
+            let value = value_of_row(board, pass, item.seg, item.row, hit.header);
             set_hold(board, pass, Some((key, &value, item.seg)));
             HoldAnswer::Holding(Hold {
                 board,
@@ -78,9 +78,8 @@ pub fn held_value(board: &Board, pass: &mut Pass, hold: &Hold<'_>) -> Value
     requires hold { IsHoldOf board.now.shape hold.now pass.old }
     ensures reads { ReadsHeld board.now hold.now result pass.old pass.new }
 {
-    let at = board.row_at(hold.segment, hold.row);
-    let header = board.row_load_at(pass, at, 0);
-    value_of_row(board, pass, KeyedRow { at, header })
+    let header = board.row_load(pass, hold.segment, hold.row, 0);
+    value_of_row(board, pass, hold.segment, hold.row, header)
 }
 
 /// Ends a hold. Until then the segment wasn't filled again.

@@ -26,7 +26,7 @@ pub fn get(board: &Board, pass: &mut Pass, key: &Key, draw: u32, now: u32) -> Ge
                 leave_segment(board, pass, hit.item.seg);
                 return GetAnswer::Miss;
             }
-            let value = value_of_row(board, pass, hit.row);
+            let value = value_of_row(board, pass, hit.item.seg, hit.item.row, hit.header);
             count_hit(board, pass, hit.place, hit.item, draw);
             leave_segment(board, pass, hit.item.seg);
             GetAnswer::Found(value)

@@ -11,18 +11,16 @@ ghost use Rattle.segread.specs.Scanning.{place_of, GoesAlong, IsPlaceOf, IsScann
 ghost use Rattle.segread.specs.Scanning.{ScansOn, TriesItem};
 
 use segbase::{Board, Pass, Place};
-use segstore::{
-    Keyed, KeyedRow, Sought, TRIES, enter_segment, leave_segment, next_place, read_keyed,
-};
+use segstore::{Keyed, Sought, TRIES, enter_segment, leave_segment, next_place, read_keyed};
 use segword::{Item, Key, KeyWords, LAST_WORD};
 
-// An item of the key, in whose segment the pass is: where the item stands, its row,
+// An item of the key, in whose segment the pass is: where the item stands, word 0 of its row,
 // the deadline of the segment, and how many tries were counted before.
 #[derive(Clone, Copy, Drop)]
 pub(crate) struct Hit {
     pub(crate) place: Place,
     pub(crate) item: Item,
-    pub(crate) row: KeyedRow,
+    pub(crate) header: u64,
     pub(crate) deadline: u32,
     pub(crate) tries: u32,
 }
@@ -89,11 +87,11 @@ fn visit_word(board: &Board, pass: &mut Pass, place: Place, sought: &Sought, tri
     for count in tries..TRIES {
         let (keyed, deadline) = try_item(board, pass, place, item, &sought.key);
         match keyed {
-            Keyed::Same { item, row } => {
+            Keyed::Same { item, header } => {
                 return Scan::Found(Hit {
                     place,
                     item,
-                    row,
+                    header,
                     deadline,
                     tries: count,
                 });

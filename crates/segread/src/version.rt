@@ -209,7 +209,7 @@ fn see_version(
                 leave_segment(board, pass, hit.item.seg);
                 return VersionLook::Absent;
             }
-            let value = value_of_row(board, pass, hit.row);
+            let value = value_of_row(board, pass, hit.item.seg, hit.item.row, hit.header);
             let info = board.glance(pass, call.sought.bucket);
             let word = board.look(pass, hit.place);
             VersionLook::Found {

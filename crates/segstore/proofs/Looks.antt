@@ -1,7 +1,7 @@
 -- A pass that only looks: looks add up, and what it may read stays as it is.
 use Rattle.std.proofs.Common.{◌≡◌, ℕ, ◌<◌, List, [], ◌∷◌, ◌++◌, get_or, refl, sym, ap, ◌∙◌, subst, append_assoc, arith}
 use Rattle.std.specs.Prelude.{slice_index}
-use Rattle.segcore.specs.Words.{Event, Holds, IsLawful, May, MayRead, NoneBy, Row, row_after, row_load}
+use Rattle.segcore.specs.Words.{IsLawful, May, MayRead, NoneBy, Row, row_after, row_load}
 use Rattle.segword.specs.Words.{row_of}
 use Rattle.segcore.proofs.Readable.{read_row, may_read}
 use Rattle.segcore.proofs.Moments.{none_both}
@@ -67,9 +67,6 @@ same_reads b p q at s r is reads = subst (λ t. ReadsRow b p q t r) is.0 (subst 
 
 pub same_words : (b : Board) (q : Pass) (at : RowPlace) (s r from : ℕ) (words : List ℕ) → (at.segment ≡ s) × (at.row ≡ r) → words ≡ four_words (row_after (trace q) at.segment at.row).words from → words ≡ four_words (row_after (trace q) s r).words from
 same_words b q at s r from words is these = subst (λ t. words ≡ four_words (row_after (trace q) t r).words from) is.0 (subst (λ n. words ≡ four_words (row_after (trace q) at.segment n).words from) is.1 these)
-
-pub same_holds : (h : List Event) (at : RowPlace) (s r : ℕ) (key value : List ℕ) → (at.segment ≡ s) × (at.row ≡ r) → Holds (row_after h s r) key value → Holds (row_after h at.segment at.row) key value
-same_holds h at s r key value is holds j lt = ap (λ (x : Row). x.words j) (λ i. row_after h (is.0 i) (is.1 i)) ∙ holds j lt
 
 pub whole_row : (words : ℕ → ℕ) (key value : List ℕ) → ((place : ℕ) → place < 8 → words place ≡ slice_index (row_of key value) place) → row_of key value ≡ four_words words 0 ++ four_words words 4
 whole_row words key value holds = rw (

@@ -10,8 +10,7 @@ use Rattle.segbase.proofs.Moves.{moved_inside, moved_on}
 use Rattle.segbase.proofs.Staying.{none_both}
 use Rattle.segstore.specs.Reading.{OnlyLooks, IsReadable, ReadsRow}
 use Rattle.segstore.specs.Linked.{segment_part, row_part, word_of_place, IsChained, WasLinked, SawItem, FoundItem, FoundKey, SeesAgain}
-use Rattle.segstore.specs.declared.row.KeyedRow.{KeyedRow}
-use Rattle.segstore.proofs.Looks.{looked_then, same_holds, same_readable, same_reads}
+use Rattle.segstore.proofs.Looks.{looked_then}
 use Rattle.segstore.proofs.Words.{segment_of_packed, row_of_packed, same_segment, chained_later, stood_item}
 
 -- the segment and the row of an item are those of its word
@@ -78,10 +77,9 @@ then_row b p q t s r l reads = looked_then b p q t l reads.looked
 
 -- ---- the value of an item that was found, read later
 
-pub found_readable : (b : Board) (p : Pass) (place : Place) (item : Item) (row : KeyedRow) (key : List ℕ) (h : List Event) → 0 < inside (trace p) (number p) item.seg → FoundKey b.shape place item row key h (trace p) → IsReadable b p row.at.segment row.at.row
-found_readable b p place item row key h there f =
-    let was = f.found.saw.was in let es = segment_of_item item in let er = row_of_item item in
-    same_readable b p row.at item.seg item.row f.is_row.names (
+pub found_readable : (b : Board) (p : Pass) (place : Place) (item : Item) (header : ℕ) (key : List ℕ) (h : List Event) → 0 < inside (trace p) (number p) item.seg → FoundKey b.shape place item header key h (trace p) → IsReadable b p item.seg item.row
+found_readable b p place item header key h there f =
+    let was = f.found.saw.was in let es = segment_of_item item in let er = row_of_item item in (
       subst (IsSegment b.shape) (sym es) was.in_segment.0,
       subst (λ r. r < b.shape.rows) (sym er) was.in_segment.1,
       inr (inl (there, (key, ap (λ (x : Row). x.linked) (same_names item (trace p) ∙ f.found.still) ∙ was.linked))),
@@ -92,12 +90,11 @@ holds_still : (b : Board) (p q : Pass) (place : Place) (item : Item) (key value 
 holds_still b p q place item key value h f reads j lt =
     ap (λ (x : Row). x.words j) (reads.same ∙ (same_names item (trace p) ∙ f.still)) ∙ f.saw.was.holds j lt
 
-pub found_value : (b : Board) (p q : Pass) (place : Place) (item : Item) (row : KeyedRow) (key value : List ℕ) (h : List Event) → 0 < inside (trace p) (number p) item.seg → FoundKey b.shape place item row key h (trace p) → ReadsRow b p q row.at.segment row.at.row
-    → ((k v : List ℕ) → IsKey k → IsValue v → Holds (row_after (trace q) row.at.segment row.at.row) k v → value ≡ v) → FoundItem b.shape place (item_word item) key value h (trace q)
-found_value b p q place item row key value h there f reads_there is =
-    let reads = same_reads b p q row.at item.seg item.row f.is_row.names reads_there in
+pub found_value : (b : Board) (p q : Pass) (place : Place) (item : Item) (header : ℕ) (key value : List ℕ) (h : List Event) → 0 < inside (trace p) (number p) item.seg → FoundKey b.shape place item header key h (trace p) → ReadsRow b p q item.seg item.row
+    → ((k v : List ℕ) → IsKey k → IsValue v → Holds (row_after (trace q) item.seg item.row) k v → value ≡ v) → FoundItem b.shape place (item_word item) key value h (trace q)
+found_value b p q place item header key value h there f reads is =
     let m = reads.looked.did.moved in let saw = f.found.saw in
-    let same = is key f.value saw.was.valid.0 saw.was.valid.1 (same_holds (trace q) row.at item.seg item.row key f.value f.is_row.names (holds_still b p q place item key f.value h f.found reads)) in
+    let same = is key f.value saw.was.valid.0 saw.was.valid.1 (holds_still b p q place item key f.value h f.found reads) in
     found_as b.shape h (trace q) place (item_word item) key f.value key value refl same (record {
       saw = record { at = saw.at; between = (saw.between.0, begins_on saw.at (trace p) (trace q) saw.between.1 (moved_on b [] p q m)); was = saw.was };
       kept = (m.more ++ f.found.kept.0, m.goes_on ∙ (ap (λ x. m.more ++ x) f.found.kept.1 ∙ sym (append_assoc m.more f.found.kept.0 saw.at)), none_both (segment_part (item_word item)) m.more f.found.kept.0 (subst (λ s. NoneRefills s m.more) (segment_of_item item) (m.kept item.seg there)) f.found.kept.2);

@@ -8,12 +8,11 @@ use Rattle.segcore.specs.Words.{NoneRefills, row_after, seen}
 use Rattle.segcore.specs.Word as core
 use Rattle.segbase.specs.Words.{Board, cell_at, home_bucket, IsPlace, number, Pass, Place, position}
 use Rattle.segbase.specs.Words.{trace}
-use Rattle.segstore.specs.Reading.{IsKeyedRow, IsReadable}
+use Rattle.segstore.specs.Reading.{IsReadable}
 use Rattle.segstore.specs.declared.read.Linked.{Linked}
 use Rattle.segstore.specs.declared.read.Linked.TheVariants as linked
 use Rattle.segstore.specs.declared.read.Keyed.{Keyed}
 use Rattle.segstore.specs.declared.read.Keyed.TheVariants as keyed
-use Rattle.segstore.specs.declared.row.KeyedRow.{KeyedRow}
 
 -- the segment and the row that an item word names
 abbrev pub segment_part : ℕ → ℕ
@@ -66,12 +65,12 @@ pub record FoundItem (shape : Shape) (place : Place) (word : ℕ) (key value : L
   -- with one pass nothing has happened since
   pub alone : shape.passes ≡ 1 → new ≡ saw.at
 
--- the key's item was found, and its row
-pub record FoundKey (shape : Shape) (place : Place) (item : Item) (row : KeyedRow) (key : List ℕ)
+-- The key's item was found, and `header` is word 0 of its row.
+pub record FoundKey (shape : Shape) (place : Place) (item : Item) (header : ℕ) (key : List ℕ)
     (old new : List Event) : Type 0 where
   pub value : List ℕ
   pub found : FoundItem shape place (item_word item) key value old new
-  pub is_row : IsKeyedRow shape item.seg item.row row new
+  pub begins : header ≡ (row_after new item.seg item.row).words 0
 
 -- a look between two moments found this word
 pub record SawWord (shape : Shape) (place : Place) (word : ℕ) (old new : List Event) : Type 0 where
@@ -99,8 +98,8 @@ IsLinked shape place word (linked.Changed other) old new =
 
 -- what a second look for a key found
 abbrev pub IsKeyed : Shape → Place → ℕ → List ℕ → Keyed → List Event → List Event → Type 0
-IsKeyed shape place word key (keyed.Same item row) old new =
-    IsSameItem word (item_word item) × FoundKey shape place item row key old new
+IsKeyed shape place word key (keyed.Same item header) old new =
+    IsSameItem word (item_word item) × FoundKey shape place item header key old new
 IsKeyed shape place word key (keyed.Other item) old new =
     IsSameItem word (item_word item)
     × ((other value : List ℕ) × (other ≢ key)

@@ -1,12 +1,9 @@
 -- What a pass reads of a row, and what the pass does by that.
 use Rattle.std.specs.Prelude.{◌≡◌, ℕ, ◌+◌, ◌<◌, List, [], ◌∷◌}
-use Rattle.segword.specs.Words.{Shape}
-use Rattle.segcore.specs.Words.{Event, IsSegment, MayRead, row_after}
+use Rattle.segcore.specs.Words.{IsSegment, MayRead, row_after}
 use Rattle.segcore.specs.declared.event.Event.TheVariants.{Entered, Left}
-use Rattle.segbase.specs.Spots.{IsRowAt}
 use Rattle.segbase.specs.Words.{AddsAtOnce, AddsEvents, Board, number, Pass, Reads, ReadsIn, sight}
 use Rattle.segbase.specs.Words.{trace}
-use Rattle.segstore.specs.declared.row.KeyedRow.{KeyedRow}
 
 -- the pass only looked: it added nothing to what others did, and what it keeps is as it was
 pub record OnlyLooks (b : Board) (p q : Pass) : Type 0 where
@@ -26,13 +23,6 @@ pub record ReadsRow (b : Board) (p q : Pass) (segment row : ℕ) : Type 0 where
   pub looked : OnlyLooks b p q
   pub readable : IsReadable b q segment row
   pub same : row_after (trace q) segment row ≡ row_after (trace p) segment row
-
--- the row of this segment and number, by its place and its word 0 at the end of this trace
-pub record IsKeyedRow (shape : Shape) (segment row : ℕ) (keyed : KeyedRow) (trace : List Event)
-    : Type 0 where
-  pub names : (keyed.at.segment ≡ segment) × (keyed.at.row ≡ row)
-  pub start : IsRowAt shape keyed.at
-  pub header : keyed.header ≡ (row_after trace keyed.at.segment keyed.at.row).words 0
 
 -- four words in a row, from a place on
 abbrev pub four_words : (ℕ → ℕ) → ℕ → List ℕ

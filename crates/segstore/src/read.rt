@@ -7,7 +7,7 @@ ghost use Rattle.segstore.specs.Reading.{OnlyLooks};
 ghost use Rattle.segstore.specs.Linked.{segment_part, IsChained, SawWord, SeesAgain, IsLinked};
 ghost use Rattle.segstore.specs.Linked.{IsKeyed};
 
-use crate::row::{KeyedRow, pair_of_row, row_of_key};
+use crate::row::{pair_of_row, row_of_key};
 use segbase::{Board, Pass, Place};
 use segword::{Item, Key, KeyWords, Value, same_item};
 
@@ -21,10 +21,11 @@ pub enum Linked {
 }
 
 /// What a second look for a key found.
-#[derive(Clone, Copy, Drop)]
+#[derive(Clone, Debug, Drop, PartialEq, Eq)]
 pub enum Keyed {
-    /// The same item, its frequency aside, and the key's: the item as it stands now, and its row.
-    Same { item: Item, row: KeyedRow },
+    /// The same item, its frequency aside, and the key's: the item as it stands now,
+    /// and word 0 of its row.
+    Same { item: Item, header: u64 },
     /// The same item, and another key's: the item as it stands now.
     Other(Item),
     /// Another word.
@@ -62,7 +63,7 @@ pub fn read_keyed(board: &Board, pass: &mut Pass, place: Place, word: u64, key: 
 {
     match look_again(board, pass, place, word) {
         Ok(item) => match row_of_key(board, pass, item.seg, item.row, key) {
-            Some(row) => Keyed::Same { item, row },
+            Some(header) => Keyed::Same { item, header },
             None => Keyed::Other(item),
         },
         Err(now) => Keyed::Changed(now),

@@ -2,11 +2,10 @@
 ghost use Rattle.std.specs.Prelude.{◌≡◌, ℕ, ◌≤◌, ◌↔◌, List, IfSome, IsSome, Some};
 ghost use Rattle.segword.specs.Words.{IsKey, IsValue};
 ghost use Rattle.segcore.specs.Words.{Holds, row_after};
-ghost use Rattle.segbase.specs.Spots.{IsRowAt};
 ghost use Rattle.segbase.specs.Words.{IsPassOf, trace};
-ghost use Rattle.segstore.specs.Reading.{IsKeyedRow, IsReadable, ReadsRow, four_words};
+ghost use Rattle.segstore.specs.Reading.{IsReadable, ReadsRow, four_words};
 
-use segbase::{Board, Pass, RowPlace};
+use segbase::{Board, Pass};
 use segword::{Key, KeyWords, Value, read_key, read_row, read_value};
 
 /// A row of a segment.
@@ -14,13 +13,6 @@ use segword::{Key, KeyWords, Value, read_key, read_row, read_value};
 pub struct RowRef {
     pub segment: u32,
     pub row: u32,
-}
-
-/// A row whose key was compared: its place, and its word 0.
-#[derive(Clone, Copy, Drop)]
-pub struct KeyedRow {
-    pub at: RowPlace,
-    pub header: u64,
 }
 
 // The first of the four words of a row that have the value. Those before have the lengths and the key.
@@ -41,19 +33,6 @@ pub(crate) fn load_words(
     ensures words { result ≡ four_words (row_after (trace pass.new) segment row).words from }
 {
     let at = board.row_at(segment, row);
-    load_words_at(board, pass, at, from)
-}
-
-// As `load_words`, for a row whose place is known.
-fn load_words_at(board: &Board, pass: &mut Pass, at: RowPlace, from: u8) -> [u64; 4]
-    requires pass { IsPassOf board.now pass.old }
-    requires start { IsRowAt board.now.shape at }
-    requires readable { IsReadable board.now pass.old at.segment at.row }
-    requires from { from ≤ VALUE_WORD }
-    ensures reads { ReadsRow board.now pass.old pass.new at.segment at.row }
-    ensures words { result
-        ≡ four_words (row_after (trace pass.new) at.segment at.row).words from }
-{
     let first = board.row_load_at(pass, at, from);
     let second = board.row_load_at(pass, at, from + 1);
     let third = board.row_load_at(pass, at, from + 2);
@@ -61,7 +40,7 @@ fn load_words_at(board: &Board, pass: &mut Pass, at: RowPlace, from: u8) -> [u64
     [first, second, third, fourth]
 }
 
-/// A row by its place and its word 0, if the row is one of the key:
+/// Word 0 of a row, if the row is one of the key:
 /// its first four words are compared with the key's.
 #[inline(always)]
 pub fn row_of_key(
@@ -70,42 +49,35 @@ pub fn row_of_key(
     segment: u32,
     row: u32,
     key: &KeyWords,
-) -> Option<KeyedRow>
+) -> Option<u64>
     requires pass { IsPassOf board.now pass.old }
     requires readable { IsReadable board.now pass.old segment row }
     ensures reads { ReadsRow board.now pass.old pass.new segment row }
-    ensures row { IfSome result (λ keyed.
-        IsKeyedRow board.now.shape segment row keyed (trace pass.new)) }
+    ensures header { IfSome result (λ word.
+        word ≡ (row_after (trace pass.new) segment row).words 0) }
     ensures key { (held value : List ℕ) → IsKey held → IsValue value
         → Holds (row_after (trace pass.new) segment row) held value
         → IsSome result ↔ (held ≡ key.now) }
 {
-    let at = board.row_at(segment, row);
-    let words = load_words_at(board, pass, at, 0);
+    let words = load_words(board, pass, segment, row, 0);
     if !key.begins(&words) {
         return None;
     }
-    Some(KeyedRow {
-        at,
-        header: words[0],
-    })
+    Some(words[0])
 }
 
-/// The value of a row whose key was compared.
+/// The value of a row with this word 0.
 #[inline(always)]
-pub fn value_of_row(board: &Board, pass: &mut Pass, row: KeyedRow) -> Value
+pub fn value_of_row(board: &Board, pass: &mut Pass, segment: u32, row: u32, header: u64) -> Value
     requires pass { IsPassOf board.now pass.old }
-    requires start { IsRowAt board.now.shape row.at }
-    requires readable { IsReadable board.now pass.old row.at.segment row.at.row }
-    requires header { row.header
-        ≡ (row_after (trace pass.old) row.at.segment row.at.row).words 0 }
-    ensures reads { ReadsRow board.now pass.old pass.new row.at.segment row.at.row }
+    requires readable { IsReadable board.now pass.old segment row }
+    requires header { header ≡ (row_after (trace pass.old) segment row).words 0 }
+    ensures reads { ReadsRow board.now pass.old pass.new segment row }
     ensures value { (key value : List ℕ) → IsKey key → IsValue value
-        → Holds (row_after (trace pass.new) row.at.segment row.at.row) key value
-        → result ≡ value }
+        → Holds (row_after (trace pass.new) segment row) key value → result ≡ value }
 {
-    let words = load_words_at(board, pass, row.at, VALUE_WORD);
-    read_value(row.header, &words)
+    let words = load_words(board, pass, segment, row, VALUE_WORD);
+    read_value(header, &words)
 }
 
 /// The key of a row.

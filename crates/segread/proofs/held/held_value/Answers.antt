@@ -1,7 +1,7 @@
 use Rattle.std.proofs.Common.{◌≡◌, [], IfSome, sym, ap, subst, ◌∙◌, arith}
 use Rattle.segcore.specs.Words.{Row}
-use Rattle.segbase.specs.Words.{Memo, trace}
-use Rattle.segstore.proofs.Looks.{loaded, may_load, reads_then, same_holds, same_readable, same_reads}
+use Rattle.segbase.specs.Words.{Memo}
+use Rattle.segstore.proofs.Looks.{loaded, may_load, reads_then}
 use Rattle.segstore.proofs.Readers.{looks}
 use Rattle.segstore.proofs.Costs.{costs_nothing}
 use Rattle.segstore.proofs.Draws.{reader_draws_none}
@@ -11,26 +11,21 @@ use Rattle.segread.proofs.Reading.{read_on}
 use Rattle.segstore.proofs.Still.{no_reader}
 use Rattle.segread.proofs.held.held_value.Goals as goal
 
-pub row_at-at-requires : goal.row_at-at-requires
-row_at-at-requires c = let may = c.requires.hold.in_table in record { row = (may.0, may.1, omega arith) }
-
-pub row_load_at-header-requires-clause-may : goal.row_load_at-header-requires-clause-may
-row_load_at-header-requires-clause-may c = let b = c.args.board.now in let p = c.args.pass.now in let hold = c.args.hold.now in let at = c.row_at-at in
-    may_load b p at.result.segment at.result.row 0 (same_readable b p at.result hold.segment hold.row at.ensures.row (may_read b p hold c.requires.pass c.requires.hold)) (omega arith)
+pub row_load-header-requires-clause-may : goal.row_load-header-requires-clause-may
+row_load-header-requires-clause-may c = let b = c.args.board.now in let p = c.args.pass.now in let hold = c.args.hold.now in
+    may_load b p hold.segment hold.row 0 (may_read b p hold c.requires.pass c.requires.hold) (omega arith)
 
 pub value_of_row-requires-clause-readable : goal.value_of_row-requires-clause-readable
-value_of_row-requires-clause-readable c = let b = c.args.board.now in let p = c.args.pass.now in let hold = c.args.hold.now in let at = c.row_at-at in let l = c.row_load_at-header in
-    (loaded b p l.new.pass at.result.segment at.result.row 0 l.result (same_readable b p at.result hold.segment hold.row at.ensures.row (may_read b p hold c.requires.pass c.requires.hold)) l.ensures.step).readable
+value_of_row-requires-clause-readable c = let b = c.args.board.now in let p = c.args.pass.now in let hold = c.args.hold.now in let l = c.row_load-header in
+    (loaded b p l.new.pass hold.segment hold.row 0 l.result (may_read b p hold c.requires.pass c.requires.hold) l.ensures.step).readable
 
 pub returns : goal.returns
 returns c =
-    let b = c.args.board.now in let p = c.args.pass.now in let hold = c.args.hold.now in let at = c.row_at-at.result in let names = c.row_at-at.ensures.row in let l = c.row_load_at-header in let v = c.value_of_row in let q = v.new.pass in let is = c.requires.hold in
-    let first = loaded b p l.new.pass at.segment at.row 0 l.result (same_readable b p at hold.segment hold.row names (may_read b p hold c.requires.pass is)) l.ensures.step in
-    let reads = same_reads b p q at hold.segment hold.row names (reads_then b p l.new.pass q at.segment at.row first v.ensures.reads) in
+    let b = c.args.board.now in let p = c.args.pass.now in let hold = c.args.hold.now in let l = c.row_load-header in let v = c.value_of_row in let q = v.new.pass in let is = c.requires.hold in
+    let reads = reads_then b p l.new.pass q hold.segment hold.row (loaded b p l.new.pass hold.segment hold.row 0 l.result (may_read b p hold c.requires.pass is) l.ensures.step) v.ensures.reads in
     let i = looks b p q reads.looked in
     let on = read_on b p q c.requires.pass i.reads i.plain i.memo in
-    let holds = same_holds (trace q) at hold.segment hold.row is.held.key is.held.value names (λ j lt. ap (λ (u : Row). u.words j) reads.same ∙ (has_row b p hold c.requires.pass is).pair j lt) in
-    let is_value = v.ensures.value is.held.key is.held.value is.valid.0 is.valid.1 holds in record {
+    let is_value = v.ensures.value is.held.key is.held.value is.valid.0 is.valid.1 (λ j lt. ap (λ (u : Row). u.words j) reads.same ∙ (has_row b p hold c.requires.pass is).pair j lt) in record {
       reads = record {
         on = on.0;
         keeps = on.1;

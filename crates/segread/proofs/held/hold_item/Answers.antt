@@ -22,18 +22,15 @@ use Rattle.segread.proofs.held.hold_item.Goals as goal
 
 pub value_of_row-value-requires-clause-readable : goal.value_of_row-value-requires-clause-readable
 value_of_row-value-requires-clause-readable c = let f = c.in-Found in let hit = f.hit in let m = f.ensures.scan.0 in let x = f.ensures.scan.2 in
-    hit_readable c.args.board.now m c.scan_for.new.pass hit.place hit.item hit.row c.args.key.now x.reads x.answer.0
-
-pub value_of_row-value-requires-clause-start : goal.value_of_row-value-requires-clause-start
-value_of_row-value-requires-clause-start c = c.in-Found.ensures.scan.2.answer.0.is_row.start
+    hit_readable c.args.board.now m c.scan_for.new.pass hit.place hit.item hit.header c.args.key.now x.reads x.answer.0
 
 pub value_of_row-value-requires-clause-header : goal.value_of_row-value-requires-clause-header
-value_of_row-value-requires-clause-header c = c.in-Found.ensures.scan.2.answer.0.is_row.header
+value_of_row-value-requires-clause-header c = c.in-Found.ensures.scan.2.answer.0.begins
 
 pub set_hold-requires : goal.set_hold-requires
 set_hold-requires c = let b = c.args.board.now in let f = c.in-Found in let hit = f.hit in let m = f.ensures.scan.0 in let x = f.ensures.scan.2 in let v = c.value_of_row-value in
-    let read = read_in b m c.scan_for.new.pass v.new.pass hit.item.seg x.reads v.ensures.reads.looked in
-    let found = read_value b m c.scan_for.new.pass v.new.pass hit.place hit.item hit.row c.args.key.now v.result x.reads x.answer.0 v.ensures.reads v.ensures.value in
+    let read = read_in b m c.scan_for.new.pass v.new.pass hit.item.seg hit.item.row x.reads v.ensures.reads in
+    let found = read_value b m c.scan_for.new.pass v.new.pass hit.place hit.item hit.header c.args.key.now v.result x.reads x.answer.0 v.ensures.reads v.ensures.value in
     (read.reads.moved.pass, (has_found b m v.new.pass hit.place hit.item c.args.key.now v.result read found, refl))
 
 pub returns-then-is_holding : goal.returns-then-is_holding
@@ -61,8 +58,8 @@ pub returns-else-hit-now : goal.returns-else-hit-now
 returns-else-hit-now c =
     let b = c.args.board.now in let p = c.args.pass.now in let q = c.scan_for.new.pass in let v = c.value_of_row-value in let t = v.new.pass in let r = c.set_hold.new.pass in
     let f = c.in-Found in let hit = f.hit in let key = c.args.key.now in let set = c.set_hold.ensures in let s = f.ensures.scan in let m = s.0 in let x = s.2 in
-    let late = read_in b m q t hit.item.seg x.reads v.ensures.reads.looked in
-    let later = read_value b m q t hit.place hit.item hit.row key v.result x.reads x.answer.0 v.ensures.reads v.ensures.value in
+    let late = read_in b m q t hit.item.seg hit.item.row x.reads v.ensures.reads in
+    let later = read_value b m q t hit.place hit.item hit.header key v.result x.reads x.answer.0 v.ensures.reads v.ensures.value in
     let read = enter_then b p m t hit.item.seg (looks b p m s.1.look) late in
     let found = found_from b.shape hit.place (item_word hit.item) key v.result (trace m) (trace t) (trace p) (up b key p m s.1) later in
     let starts = starts_on p m r (trace m) (look_starts b p m s.1) (steps_to m t r set.view late.reads.moved.steps) in

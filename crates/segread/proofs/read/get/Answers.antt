@@ -13,22 +13,19 @@ use Rattle.segread.proofs.read.get.Goals as goal
 
 pub value_of_row-value-requires-clause-readable : goal.value_of_row-value-requires-clause-readable
 value_of_row-value-requires-clause-readable c = let f = c.in-Found in let hit = f.hit in let m = f.ensures.scan.0 in let x = f.ensures.scan.2 in
-    hit_readable c.args.board.now m c.scan_for.new.pass hit.place hit.item hit.row c.args.key.now x.reads x.answer.0
-
-pub value_of_row-value-requires-clause-start : goal.value_of_row-value-requires-clause-start
-value_of_row-value-requires-clause-start c = c.in-Found.ensures.scan.2.answer.0.is_row.start
+    hit_readable c.args.board.now m c.scan_for.new.pass hit.place hit.item hit.header c.args.key.now x.reads x.answer.0
 
 pub value_of_row-value-requires-clause-header : goal.value_of_row-value-requires-clause-header
-value_of_row-value-requires-clause-header c = c.in-Found.ensures.scan.2.answer.0.is_row.header
+value_of_row-value-requires-clause-header c = c.in-Found.ensures.scan.2.answer.0.begins
 
 pub count_hit-requires-clause-place : goal.count_hit-requires-clause-place
 count_hit-requires-clause-place c = let b = c.args.board.now in let f = c.in-Found in let hit = f.hit in let v = c.value_of_row-value in let m = f.ensures.scan.0 in let x = f.ensures.scan.2 in
     found_place b.shape hit.place (item_word hit.item) c.args.key.now v.result (trace m) (trace v.new.pass) v.ensures.reads.looked.did.moved.pass.lawful
-    (read_value b m c.scan_for.new.pass v.new.pass hit.place hit.item hit.row c.args.key.now v.result x.reads x.answer.0 v.ensures.reads v.ensures.value)
+    (read_value b m c.scan_for.new.pass v.new.pass hit.place hit.item hit.header c.args.key.now v.result x.reads x.answer.0 v.ensures.reads v.ensures.value)
 
 pub leave_segment-requires-in-Found-clause-inside : goal.leave_segment-requires-in-Found-clause-inside
 leave_segment-requires-in-Found-clause-inside c = let b = c.args.board.now in let p = c.args.pass.now in let f = c.in-Found in let hit = f.hit in let v = c.value_of_row-value in
-    let read = read_in b p c.scan_for.new.pass v.new.pass hit.item.seg f.ensures.reads v.ensures.reads.looked in
+    let read = read_in b p c.scan_for.new.pass v.new.pass hit.item.seg hit.item.row f.ensures.reads v.ensures.reads in
     is_inside b p c.count_hit.new.pass hit.item.seg (then_reader b p v.new.pass c.count_hit.new.pass hit.item.seg read c.count_hit.ensures.reads).reads
 
 pub returns-then-hit-now : goal.returns-then-hit-now
@@ -45,18 +42,18 @@ pub returns-else-hit-now : goal.returns-else-hit-now
 returns-else-hit-now c =
     let b = c.args.board.now in let p = c.args.pass.now in let q = c.scan_for.new.pass in let v = c.value_of_row-value in let t = c.count_hit.new.pass in let l = c.leave_segment-in-Found in let r = l.new.pass in
     let f = c.in-Found in let hit = f.hit in let key = c.args.key.now in let m = f.ensures.scan.0 in let x = f.ensures.scan.2 in
-    let read = read_in b m q v.new.pass hit.item.seg x.reads v.ensures.reads.looked in
-    let found = read_value b m q v.new.pass hit.place hit.item hit.row key v.result x.reads x.answer.0 v.ensures.reads v.ensures.value in
+    let read = read_in b m q v.new.pass hit.item.seg hit.item.row x.reads v.ensures.reads in
+    let found = read_value b m q v.new.pass hit.place hit.item hit.header key v.result x.reads x.answer.0 v.ensures.reads v.ensures.value in
     let left = moved_on b _ t r l.ensures.moved in
     let still = looked b q v.new.pass v.ensures.reads.looked.did.moved in
     let gone = leaves b hit.item.seg t r l.ensures.moved in record {
-      reads = reads_key b key p m r f.ensures.scan.1 (read_and_left b m q v.new.pass t r hit.item.seg x.reads v.ensures.reads.looked c.count_hit.ensures.reads l.ensures)
+      reads = reads_key b key p m r f.ensures.scan.1 (read_and_left b m q v.new.pass t r hit.item.seg hit.item.row x.reads v.ensures.reads c.count_hit.ensures.reads l.ensures)
           c.args.draw c.args.now (get.Found v.result) c.requires.pass
           (let few = x.tries in let before = still.0 in let same = c.count_hit.ensures.stays_out in let away = gone.0 in omega (arith, few, before, same, away))
           (λ bucket. glances_none t r gone.1 bucket ∙ (c.count_hit.ensures.glances bucket ∙ glances_none m v.new.pass (still.1 ∙ x.only_scans) bucket))
           (hit_raises b key v.result c.args.draw m v.new.pass t r read.reads.moved.same (moved_on b _ m v.new.pass read.reads.moved) left (raises_none m v.new.pass (still.1 ∙ x.only_scans))
           (c.count_hit.ensures.raises key v.result (trace m) (is_inside b m v.new.pass hit.item.seg read.reads) found) (raises_none t r gone.1))
-          (found_reads b.shape hit.place (item_word hit.item) key v.result (trace m) (trace v.new.pass) found hit.deadline (read_deadline b m q v.new.pass hit.item hit.deadline x.reads v.ensures.reads.looked x.answer.1) (trace r)
+          (found_reads b.shape hit.place (item_word hit.item) key v.result (trace m) (trace v.new.pass) found hit.deadline (read_deadline b m q v.new.pass hit.item hit.deadline x.reads v.ensures.reads x.answer.1) (trace r)
           (begins_on (trace v.new.pass) (trace t) (trace r) (moved_on b _ v.new.pass t c.count_hit.ensures.reads.reads.moved) left) c.args.now c.if-hit-now.false);
     }
 

@@ -78,7 +78,7 @@ returns-in-Same-clause-way c = let b = c.args.board.now in let i = c.loop-count.
     let reads = enter_then b p q r c.in-Same.item.seg i.reads x.reads in (
       p,
       i.look,
-      (reads, hit_here b c.args.sought.now.key c.args.place c.loop-count.item c.in-Same.item c.in-Same.row c.try_item-keyed.result.1 c.args.tries c.loop-count.count p q r i.place i.reads reads c.loop-count-test.true i.tried i.trying x.once x.keyed.1 x.deadline),
+      (reads, hit_here b c.args.sought.now.key c.args.place c.loop-count.item c.in-Same.item c.in-Same.header c.try_item-keyed.result.1 c.args.tries c.loop-count.count p q r i.place i.reads reads c.loop-count-test.true i.tried i.trying x.once x.keyed.1 x.deadline),
     )
 
 pub returns-in-Other-clause-way : goal.returns-in-Other-clause-way

@@ -10,13 +10,7 @@ use Rattle.segread.proofs.version.see_version.Goals as goal
 
 pub value_of_row-value-requires-clause-readable : goal.value_of_row-value-requires-clause-readable
 value_of_row-value-requires-clause-readable c = let f = c.in-Found in let hit = f.hit in let s = f.ensures.scan in
-    hit_readable c.args.board.now s.0 c.scan_from.new.pass hit.place hit.item hit.row c.args.call.now.sought.key s.2.0 s.2.1.found
-
-pub value_of_row-value-requires-clause-start : goal.value_of_row-value-requires-clause-start
-value_of_row-value-requires-clause-start c = c.in-Found.ensures.scan.2.1.found.is_row.start
-
-pub value_of_row-value-requires-clause-header : goal.value_of_row-value-requires-clause-header
-value_of_row-value-requires-clause-header c = c.in-Found.ensures.scan.2.1.found.is_row.header
+    hit_readable c.args.board.now s.0 c.scan_from.new.pass hit.place hit.item hit.header c.args.call.now.sought.key s.2.0 s.2.1.found
 
 pub returns-else-hit-call : goal.returns-else-hit-call
 returns-else-hit-call c =

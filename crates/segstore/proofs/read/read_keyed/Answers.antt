@@ -15,7 +15,7 @@ returns-in-Some-clause-keyed c = let b = c.args.board.now in let x = c.in-Ok.ens
       record {
         value = x.value;
         found = found_as b.shape (trace p) (trace k.new.pass) c.args.place (item_word item) x.key x.value _ _ key refl (found_item b p q k.new.pass c.args.place item x.key x.value c.in-Ok.ensures.looked x.was x.entered k.ensures.reads);
-        is_row = c.in-Some.ensures.row;
+        begins = c.in-Some.ensures.header;
       },
     )
 
