@@ -1,5 +1,5 @@
 //! Histories of two threads over two buckets, written by hand. The program judges them first, as its tests:
-//! tests apart would have the whole crate proved once more. They are constants, which cost no proof.
+//! tests apart would have the whole crate proved once more.
 use crate::call::{Call, Operation};
 use crate::replay::{Fault, Replay, Sizes, check};
 use crate::round::RoundFault;
