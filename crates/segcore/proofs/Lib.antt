@@ -22,6 +22,7 @@ pub mod Exact
 pub mod Deadlines
 pub mod Entered
 pub mod Facts
+pub mod LookFacts
 pub mod WorkedExample
 pub mod Homes
 pub mod Buckets
