@@ -1,4 +1,0 @@
-use Rattle.segbase.proofs.board.Board.put_chain.Given as goal
-
-abbrev pub ghost-exchange_at : goal.ghost-exchange_at
-ghost-exchange_at g a = g.step

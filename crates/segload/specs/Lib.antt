@@ -1,9 +1,0 @@
-pub mod Counting
-pub mod Gates
-pub mod Lists
-pub mod Making
-pub mod Calls
-pub mod Working
-pub mod Loads
-pub mod OnePass
-pub mod Words

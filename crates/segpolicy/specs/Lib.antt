@@ -1,5 +1,0 @@
-pub mod Cycle
-pub mod Draws
-pub mod Frequency
-pub mod Load
-pub mod Words

@@ -1,5 +1,0 @@
-use Rattle.std.proofs.Common.{None}
-use Rattle.segread.proofs.held.release.Given as goal
-
-abbrev pub ghost-set_hold : goal.ghost-set_hold
-ghost-set_hold a = None

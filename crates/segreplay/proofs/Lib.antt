@@ -1,4 +1,0 @@
-pub mod Parts
-pub mod Steps
-pub mod Feeding
-pub mod Lists

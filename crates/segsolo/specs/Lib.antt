@@ -1,5 +1,0 @@
-pub mod Alone
-pub mod Props
-pub mod Served
-pub mod Solo
-pub mod Words

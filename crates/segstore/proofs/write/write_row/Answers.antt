@@ -1,6 +1,0 @@
-use Rattle.segstore.proofs.Keeping.{next_is_own}
-use Rattle.segstore.proofs.write.write_row.Goals as goal
-
-pub fill_row-requires-clause-own : goal.fill_row-requires-clause-own
-fill_row-requires-clause-own c = let next = c.in_ok-row.ensures.next in
-    next_is_own c.args.board.now c.args.pass.now c.in_ok-row.row.segment c.in_ok-row.row.row c.requires.pass c.requires.segments next.1 next.2
