@@ -34,8 +34,6 @@ Example:
   segtime --mix b --draws zipf --keys 100000 --threads 4 --sample 64
 times four threads that mostly get, and tells how long each 64th command took.";
 
-const RETENTION: &str = "Times nothing, and tells for ways of giving up segments how many gets hit";
-
 // Options with a word: which words, the default, and the help.
 const WORDS: [(&str, &[&str], &str, &str); 5] = [
     ("mix", MIXES, "mixed", "What the commands are"),
@@ -108,8 +106,6 @@ pub struct Options {
     pub waits: bool,
     /// Whether only the shape of the index is printed.
     pub prints_shape: bool,
-    /// Where nothing is timed: by how many gets ways of recycling segments are compared.
-    pub gets: Option<u32>,
 }
 
 /// Reads the words behind the program's name.
@@ -138,15 +134,6 @@ fn options_of(matches: &ArgMatches<'_>) -> Options {
         has_times: !matches.get_flag("no-times"),
         waits: matches.get_flag("wait"),
         prints_shape: matches.get_flag("print-shape"),
-        gets: gets_of(matches),
-    }
-}
-
-// The number of gets, where the subcommand is given.
-fn gets_of(matches: &ArgMatches<'_>) -> Option<u32> {
-    match matches.subcommand() {
-        Some((_, matches)) => Some(number_of(matches, "gets")),
-        None => None,
     }
 }
 
@@ -156,15 +143,11 @@ fn number_of(matches: &ArgMatches<'_>, name: &str) -> u32 {
 }
 
 fn command_line<'a>(alloc: Global) -> Result<Command<'a>, AllocError> {
-    let gets = option(alloc, "gets", "5000000", "How many gets are counted");
-    let gets = gets.value_parser(value_parser!(u32));
-    let retention = Command::new(alloc, "retention").about(RETENTION).arg(gets)?;
     let mut command = Command::new(alloc, "segtime")
         .version("0.2.0")
         .about(ABOUT)
         .after_help(AFTER)
-        .no_binary_name(true)
-        .subcommand(retention)?;
+        .no_binary_name(true);
     for &(name, words, default, help) in WORDS.iter() {
         command = command.arg(option(alloc, name, default, help).value_parser(words))?;
     }

@@ -1,18 +1,15 @@
-//! Times the index, on so many threads over so many keys, or prints for several ways of recycling
-//! segments how many gets hit.
+//! Times the index, on so many threads over so many keys.
 #![tactic(auto)]
 
 mod arguments;
 mod draws;
 mod mix;
 mod report;
-mod retention;
 mod round;
 mod tally;
 mod worker;
 
 use arguments::read_options;
-use retention::tell_retention;
 use round::{measure, tell_shape};
 use std::process::ExitCode;
 use std::{env, io};
@@ -29,10 +26,10 @@ fn main(rt: HostRuntime) -> io::Result<ExitCode> {
             return Ok(ExitCode::from(u8::try_from(error.exit_code()).unwrap_or(1)));
         }
     };
-    match options.gets {
-        Some(gets) => tell_retention(&rt, gets)?,
-        None if options.prints_shape => tell_shape(&rt, &options)?,
-        None => measure(&rt, &options)?,
+    if options.prints_shape {
+        tell_shape(&rt, &options)?;
+    } else {
+        measure(&rt, &options)?;
     }
     Ok(ExitCode::SUCCESS)
 }

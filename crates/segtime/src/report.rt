@@ -29,7 +29,8 @@ impl Display for Thousandths {
 
 // The nanoseconds of each of so many commands.
 fn each(time: Duration, commands: u64) -> Thousandths {
-    Thousandths(time.as_nanos().saturating_mul(1000) / u128::from(commands.max(1)))
+    let nanoseconds = u64::try_from(time.as_nanos()).unwrap_or(u64::MAX);
+    Thousandths(u128::from(nanoseconds) * 1000 / u128::from(commands.max(1)))
 }
 
 // How many percent of so many commands these are.

@@ -68,12 +68,15 @@ pub fn tell_shape<R: AllocGlobal + Print>(rt: &R, options: &Options) -> io::Resu
     )
 }
 
+fn bytes_of(number: u32) -> [u8; 16] {
+    u128::from(number).wrapping_mul(SPREAD).to_le_bytes()
+}
+
 // The values from which each write draws one.
 fn values_to_draw(alloc: Global) -> Result<Vec<Value>, AllocError> {
     let mut values = Vec::new(alloc);
     for number in 1..=VALUES {
-        let bytes = u128::from(number).wrapping_mul(SPREAD).to_le_bytes();
-        if let Some(value) = Value::new(&bytes) {
+        if let Some(value) = Value::new(&bytes_of(number)) {
             values.push(value)?;
         }
     }

@@ -95,7 +95,10 @@ impl<'i> Worker<'i> {
     // The key of one of the round's commands, made anew as a server makes it of what it received.
     #[inline(always)]
     fn key_at(&self, place: usize) -> Option<Key> {
-        key_of(*self.numbers.get(place)?)
+        match self.numbers.get(place) {
+            Some(number) => key_of(*number),
+            None => None,
+        }
     }
 
     fn work_one_by_one<R: Clock>(&mut self, rt: &R, task: Task<'_>) -> io::Result<()> {
