@@ -8,6 +8,7 @@ pub mod Ended
 pub mod Exchanging
 pub mod GivenUp
 pub mod Known
+pub mod MadeFacts
 pub mod Minded
 pub mod Moves
 pub mod Starting
