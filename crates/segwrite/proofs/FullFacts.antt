@@ -10,7 +10,7 @@ use Rattle.segmodel.specs.Example.{shape, one}
 use Rattle.segmodel.specs.Words.{Cached, IsBetween}
 use Rattle.segcore.specs.Mark as mark
 use Rattle.segcore.specs.Words.{Mark}
-use Rattle.segwrite.specs.Full.{IsFull, WasFull}
+use Rattle.segwrite.specs.Full.{CanGrow, IsFull, WasFull}
 
 -- ---- marked histories
 
@@ -31,6 +31,12 @@ grown = mark.chained 0 ∷ mark.drawn 0 ∷ seven
 -- the same index with an overflow bucket
 abbrev roomy : Shape
 roomy = record shape { overflow = 1 }
+
+-- ---- growing
+
+-- no overflow bucket is left
+no_bucket_is_left : ¬ (CanGrow shape seven (104 ∷ []))
+no_bucket_is_left can = absurd (omega (arith, can.left))
 
 -- ---- the only moment from one to itself
 
