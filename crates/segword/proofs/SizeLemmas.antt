@@ -1,11 +1,11 @@
 -- A shape that is made for so many keys is valid, and has room for them.
-use Rattle.std.proofs.Common.{◌≡◌, ℕ, ◌+◌, ◌*◌, ◌/◌, ◌^◌, ◌<◌, ◌≤◌, ◌⊎◌, min, max, arith, refl, inl, inr}
+use Rattle.std.proofs.Common.{◌≡◌, ℕ, ◌+◌, ◌*◌, ◌<◌, ◌≤◌, ◌⊎◌, min, max, arith, refl, inl, inr}
 use Rattle.std.specs.Int.{IsInRange, IsPowerOfTwo, div_ceil}
 use Rattle.std.proofs.lemmas.Bool.{cases_lt}
 use Rattle.std.proofs.lemmas.Grind.{div_ceil_times}
 use Rattle.std.proofs.Math.Nat.{mul-le-mul_left, mul-le-mul_right}
 use Rattle.std.proofs.lemmas.Nat.{mul-le}
-use Rattle.segword.specs.Shape.{HasRoomFor, IsValid, word_count}
+use Rattle.segword.specs.Shape.{HasRoomFor, IsValid}
 use Rattle.segword.specs.declared.shape.Shape.{Shape}
 
 -- the lower one of a power of two and 65,536

@@ -1,4 +1,4 @@
-use Rattle.std.proofs.Common.{◌≡◌, ◌≤◌, refl, arith, rules}
+use Rattle.std.proofs.Common.{◌≤◌, refl, arith, rules}
 use Rattle.std.specs.Int.{IsInRange}
 use Rattle.segword.proofs.SizeLemmas.{has_room, is_valid}
 use Rattle.segword.proofs.shape.Shape.for_keys.Goals as goal
