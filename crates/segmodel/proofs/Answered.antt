@@ -9,7 +9,6 @@ use Rattle.segmodel.specs.Words.{Answer, Cached, DeleteAnswer, EvictAnswer, Repl
 use Rattle.segmodel.specs.Words.{SegState, WriteAnswer}
 use Rattle.segmodel.specs.declared.request.Request.TheVariants.{Set, Add, Replace, Cas, Delete}
 use Rattle.segmodel.specs.declared.request.Reply.TheVariants as reply
-use Rattle.segmodel.specs.declared.answer.Command.TheVariants.{Write}
 use Rattle.segmodel.specs.declared.answer.Answer.TheVariants as answer
 use Rattle.segmodel.specs.declared.answer.WriteAnswer.TheVariants as write
 use Rattle.segmodel.specs.declared.answer.DeleteAnswer.TheVariants as delete

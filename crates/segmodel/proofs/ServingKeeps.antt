@@ -14,7 +14,6 @@ use Rattle.segmodel.specs.declared.answer.DeleteAnswer.TheVariants as delete
 use Rattle.segmodel.specs.declared.answer.EvictAnswer.TheVariants as evict
 use Rattle.segmodel.specs.declared.answer.RefillAnswer.TheVariants as refill
 use Rattle.segmodel.specs.declared.answer.SegState.TheVariants.{Empty, InUse, Evicted}
-use Rattle.segmodel.specs.declared.answer.Turn.TheVariants.{Held}
 use Rattle.segmodel.specs.Places.{bucket_of}
 use Rattle.segmodel.specs.Request.{key_of, value_of, reply_to}
 use Rattle.segmodel.specs.Cache.{key_cmp, standing, present, reply_in}
