@@ -1,5 +1,5 @@
 -- What the program prints of the fault of a bad line, as a function of the line's number and fault.
-use Rattle.std.specs.Prelude.{ℕ, List, [], ◌++◌, codes, decimal}
+use Rattle.std.specs.Prelude.{ℕ, List, ◌++◌, codes, decimal}
 use Rattle.segscript.specs.declared.reason.LineFault.{LineFault}
 use Rattle.segscript.specs.declared.reason.LineFault.TheVariants as fault
 use Rattle.segscript.specs.declared.reason.Part.{Part}

@@ -1,4 +1,4 @@
-use Rattle.std.proofs.Common.{◌≡◌, ◌∙◌, Err, inl, inr, map, refl, ap, string_bytes, subst}
+use Rattle.std.proofs.Common.{◌∙◌, Err, inl, inr, map, refl, ap, string_bytes, subst}
 use Rattle.segcli.specs.Asked.{IsReadAsCommand}
 use Rattle.segcli.specs.Faults.{fault_line, fault_status}
 use Rattle.segcli.specs.Printing.{IsPrinted}

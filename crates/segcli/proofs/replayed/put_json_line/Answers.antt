@@ -1,4 +1,4 @@
-use Rattle.std.proofs.Common.{List, ℕ, codes}
+use Rattle.std.proofs.Common.{codes}
 use Rattle.segcli.specs.Replayed.{replay_json}
 use Rattle.segcli.proofs.TotalsText.{put_bytes, if_ok}
 use Rattle.segcli.proofs.replayed.put_json_line.Goals as goal

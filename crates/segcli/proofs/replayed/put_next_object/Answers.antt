@@ -1,4 +1,4 @@
-use Rattle.std.proofs.Common.{List, ℕ, codes}
+use Rattle.std.proofs.Common.{codes}
 use Rattle.segcli.specs.Replayed.{cache_object}
 use Rattle.segcli.proofs.TotalsText.{put_bytes, if_ok}
 use Rattle.segcli.proofs.replayed.put_next_object.Goals as goal
