@@ -20,5 +20,6 @@ pub mod Meanwhile
 pub mod Locking
 pub mod UnderWrite
 pub mod Draws
+pub mod CostFacts
 pub mod Costs
 pub mod Before
