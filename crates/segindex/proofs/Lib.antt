@@ -13,3 +13,4 @@ pub mod AtRest
 pub mod Listing
 pub mod Ended
 pub mod Commands
+pub mod OrderFacts

@@ -22,3 +22,4 @@ pub mod Deleting
 pub mod Writes
 pub mod Told
 pub mod FullFacts
+pub mod AnswerFacts
