@@ -1,11 +1,15 @@
 //! Answers altered so that no cache gives them in turn. By these the checker's own strength is measured.
-use crate::call::{Access, CasReply, Ended, Item, Operation, Refusal};
+//! What a client's put stored or evicted is told by later answers, if by any.
+use crate::call::{
+    Access, CasReply, Ended, Item, Operation, PutEnd, Read, Reads, Recycled, Refusal,
+};
 
 /// How many kinds of alterations there are.
 pub const KINDS: u32 = 10;
 
 /// The operation with its answer altered, if this kind of alteration fits it.
 /// Were the calls made in turn, the altered answer can't be right, whatever the others did before.
+/// Of what a client stores or evicts that is so only if it is read or evicted later.
 pub fn altered(operation: &Operation, kind: u32) -> Option<Operation> {
     match operation {
         Operation::OnKey {
@@ -76,8 +80,78 @@ fn of_segment(operation: &Operation, kind: u32) -> Option<Operation> {
                 is_held: !*is_held,
             })
         }
+        Operation::Put {
+            bucket,
+            key,
+            recycled,
+            ended,
+        } => {
+            let (recycled, ended) = other_put(*recycled, *ended, kind)?;
+            Some(Operation::Put {
+                bucket: *bucket,
+                key: *key,
+                recycled,
+                ended,
+            })
+        }
+        Operation::GetMany { bucket, now, reads } if kind < 2 => Some(Operation::GetMany {
+            bucket: *bucket,
+            now: *now,
+            reads: other_reads(*reads, kind),
+        }),
+        Operation::MakeRoom { recycled } => Some(Operation::MakeRoom {
+            recycled: other_recycled(*recycled, kind)?,
+        }),
         _ => None,
     }
+}
+
+// Another answer to a put, or another number of keys that it evicted.
+fn other_put(recycled: Recycled, ended: PutEnd, kind: u32) -> Option<(Recycled, PutEnd)> {
+    if let Some(other) = other_recycled(recycled, kind) {
+        return Some((other, ended));
+    }
+    let other = match (ended, kind) {
+        (PutEnd::Stored(item), 1) => PutEnd::Stored(Item {
+            value: item.value.wrapping_add(1),
+            ..item
+        }),
+        (PutEnd::Stored(_), 5) => PutEnd::Refused(Refusal::StoreBusy),
+        (PutEnd::Stored(_), 6) => PutEnd::Refused(Refusal::NoRoom),
+        (PutEnd::Stored(_), 7) => PutEnd::Refused(Refusal::BucketFull),
+        (PutEnd::Stored(_), _) => return None,
+        (PutEnd::Refused(refusal), _) => PutEnd::Refused(another_refusal(refusal, kind)?),
+    };
+    Some((recycled, other))
+}
+
+// Another answer to the first or the last of several gets.
+fn other_reads(mut reads: Reads, kind: u32) -> Reads {
+    if kind == 0 {
+        reads.first.0 = other_read(reads.first.0);
+    } else {
+        reads.third.2 = other_read(reads.third.2);
+    }
+    reads
+}
+
+fn other_read(read: Read) -> Read {
+    match read {
+        Read::Value(Some(_)) => Read::Value(None),
+        Read::Value(None) => Read::Value(Some(1)),
+        Read::Busy => Read::Busy,
+    }
+}
+
+// Another number of keys that a client's call evicted.
+fn other_recycled(recycled: Recycled, kind: u32) -> Option<Recycled> {
+    if !matches!(kind, 3 | 4) {
+        return None;
+    }
+    Some(Recycled {
+        taken: other_count(recycled.taken, kind)?,
+        ..recycled
+    })
 }
 
 // One key more or fewer. A call that is altered to have ended early keeps its count.

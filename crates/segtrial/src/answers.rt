@@ -1,7 +1,10 @@
 //! What an answer means for the cache, as the checker takes it.
-use crate::call::{Access, CasReply, Ended, Item, Operation, Refusal};
-use crate::keys::Place;
+use crate::call::{
+    Access, CasReply, Ended, Item, Operation, PutEnd, Read, Reads, Recycled, Refusal,
+};
+use crate::keys::{EACH, Place};
 use crate::values::number_of;
+use segclient::PutAnswer;
 use segmodel::{
     Answer, Command, DeleteAnswer, EvictAnswer, GetAnswer, GetsAnswer, KeepAnswer, RefillAnswer,
     Request, WriteAnswer,
@@ -24,6 +27,38 @@ pub fn said_by(command: &Command, answer: &Answer, place: Place, item: Item) -> 
         Some((now, access)) => place.says(now, access),
         None => Said::Wrong,
     }
+}
+
+/// What the answers to gets of all keys of a bucket mean.
+pub fn said_by_get_many(bucket: usize, now: u32, answers: &[GetAnswer]) -> Said {
+    let mut reads = [Read::Busy; EACH];
+    for (read, answer) in reads.iter_mut().zip(answers) {
+        *read = match answer {
+            GetAnswer::Found(value) => Read::Value(Some(number_of(value))),
+            GetAnswer::Miss => Read::Value(None),
+            GetAnswer::Busy => Read::Busy,
+        };
+    }
+    Said::Operation(Operation::GetMany {
+        bucket,
+        now,
+        reads: Reads::new(&reads),
+    })
+}
+
+/// What the answer to a client's put means. It recycled so much, and the item is what it would store.
+pub fn said_by_put(answer: PutAnswer, place: Place, recycled: Recycled, item: Item) -> Said {
+    Said::Operation(Operation::Put {
+        bucket: place.bucket,
+        key: place.key,
+        recycled,
+        ended: match answer {
+            PutAnswer::Stored => PutEnd::Stored(item),
+            PutAnswer::NoRoom => PutEnd::Refused(Refusal::NoRoom),
+            PutAnswer::BucketFull => PutEnd::Refused(Refusal::BucketFull),
+            PutAnswer::Busy => PutEnd::Refused(Refusal::StoreBusy),
+        },
+    })
 }
 
 /// What the answer to an evict means.

@@ -9,7 +9,7 @@ const LONG_ABOUT: &str = "Looks for an order that explains what threads are told
 
 First the checker judges histories that were written by hand.
 In each round a new index is made, and each of its passes makes calls at random, on a thread of its own
-or in turn with the others.
+or in turn with the others. In some rounds each pass is of a client, which makes room for what it puts.
 The keys are few, share four buckets, and have the same tag. How many rows, segments and overflow
 buckets there are is drawn. Each call is stamped before and after it by one counter.
 Then an order of all calls is looked for, each between its two stamps, in which a cache of one thread
@@ -28,11 +28,13 @@ Exit status:
   3  out of memory, or a search that is too long";
 
 // Options with a number: the least, the most, the default, and the help.
-const NUMBERS: [(&str, i64, i64, &str, &str); 6] = [
+const NUMBERS: [(&str, i64, i64, &str, &str); 8] = [
     ("passes", 1, 8, "4", "Passes, each on a thread: 1 to 8"),
     ("turns", 1, 1_000_000, "10000", TURNS),
     ("rounds", 0, MOST, "1", ROUNDS),
     ("in-turn", 0, MOST, "0", IN_TURN),
+    ("clients", 0, MOST, "0", CLIENTS),
+    ("clients-in-turn", 0, MOST, "0", CLIENTS_IN_TURN),
     ("alter", 0, MOST, "0", ALTER),
     ("beside", 0, 1000, "1", BESIDE),
 ];
@@ -43,8 +45,12 @@ const ROUNDS: &str = "Rounds in which each pass has a thread";
 
 const IN_TURN: &str = "Rounds more, in which the passes take turns on one thread";
 
+const CLIENTS: &str = "Rounds more in which each pass is of a client, and has a thread";
+
+const CLIENTS_IN_TURN: &str = "Rounds more of clients, which take turns on one thread";
+
 const ALTER: &str =
-    "Answers of each round in turn that are altered, one at a time; at most 1 in 100 may be accepted";
+    "Answers of each round in turn that are altered, one at a time; at most 1 in 100 may be accepted, of clients 1 in 4";
 
 const BESIDE: &str =
     "Of 1000 calls on threads, how many another pass's call overlaps, at least, if there are two passes";
@@ -62,11 +68,25 @@ pub struct Options {
     pub rounds: u32,
     /// Rounds in which the passes take turns on one thread.
     pub in_turn: u32,
+    /// Rounds in which each pass is of a client, and has a thread.
+    pub clients: u32,
+    /// Rounds of clients that take turns on one thread.
+    pub clients_in_turn: u32,
     /// How many answers of each round in turn are altered.
     pub alter: u32,
     /// What part of the calls on threads another pass's call is to overlap, in a thousand.
     pub beside: u32,
     pub seed: u64,
+}
+
+impl Options {
+    /// How many rounds there are of all kinds.
+    pub fn all_rounds(&self) -> u64 {
+        u64::from(self.rounds)
+            .saturating_add(u64::from(self.in_turn))
+            .saturating_add(u64::from(self.clients))
+            .saturating_add(u64::from(self.clients_in_turn))
+    }
 }
 
 /// Reads the words behind the program's name.
@@ -81,6 +101,8 @@ fn options_of(matches: &ArgMatches<'_>) -> Options {
         turns: number_of(matches, "turns"),
         rounds: number_of(matches, "rounds"),
         in_turn: number_of(matches, "in-turn"),
+        clients: number_of(matches, "clients"),
+        clients_in_turn: number_of(matches, "clients-in-turn"),
         alter: number_of(matches, "alter"),
         beside: number_of(matches, "beside"),
         seed: matches.get_one("seed").unwrap_or(1),

@@ -25,10 +25,10 @@ pub struct Bucket {
 }
 
 impl Bucket {
-    /// A bucket in which no key stands.
-    pub fn new(alloc: Global, number: usize, version: u32) -> Result<Bucket, AllocError> {
+    /// A bucket in this state.
+    pub fn new(alloc: Global, number: usize, state: State) -> Result<Bucket, AllocError> {
         let mut states = Vec::new(alloc);
-        states.push(State::new(version))?;
+        states.push(state)?;
         Ok(Bucket {
             number,
             states,
@@ -149,7 +149,8 @@ impl Bucket {
 
     // Looks for the states in which the thread's operation can return.
     fn search(&mut self, thread: usize, pending: &Pending) -> Result<(), Fault> {
-        let is_cut_off = matches!(pending.get(thread), Some(Some(it)) if it.is_cut_off());
+        let is_cut_off =
+            matches!(pending.get(thread), Some(Some(it)) if it.is_cut_off(self.number));
         self.seen.clear();
         for state in self.states.iter() {
             add(&mut self.seen, settled(*state, self.number, pending))?;
@@ -184,7 +185,11 @@ impl Bucket {
                         add(&mut self.seen, settled(next, self.number, pending))?;
                     }
                 }
-            } else if let Some(next) = state.after(thread, operation) {
+            }
+            if operation.is_cut_off(self.number) {
+                continue;
+            }
+            if let Some(next) = state.after(thread, operation) {
                 add(&mut self.seen, settled(next, self.number, pending))?;
             }
         }

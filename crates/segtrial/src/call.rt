@@ -1,4 +1,5 @@
 //! What a thread noted of each call that it made.
+use crate::keys::EACH;
 use crate::sums::bit;
 
 /// A value as it was stored: its number, the segment, and the deadline of the segment.
@@ -61,6 +62,59 @@ pub enum Ended {
     Busy,
 }
 
+/// The answer to one of several gets: the value, or none at a Miss.
+#[derive(Clone, Copy)]
+pub enum Read {
+    Value(Option<u32>),
+    Busy,
+}
+
+/// The answers to gets of all keys of a bucket. They are no array:
+/// the borrow checker covers no constant of an enum that holds one.
+#[derive(Clone, Copy)]
+pub struct Reads {
+    pub first: (Read, Read, Read),
+    pub second: (Read, Read, Read),
+    pub third: (Read, Read, Read),
+}
+
+impl Reads {
+    /// The answers by the numbers of their keys.
+    pub fn new(all: &[Read; EACH]) -> Reads {
+        Reads {
+            first: (all[0], all[1], all[2]),
+            second: (all[3], all[4], all[5]),
+            third: (all[6], all[7], all[8]),
+        }
+    }
+
+    /// All answers, by the numbers of their keys.
+    pub fn all(&self) -> [Read; EACH] {
+        let (first, second, third) = (self.first, self.second, self.third);
+        [
+            first.0, first.1, first.2, second.0, second.1, second.2, third.0, third.1, third.2,
+        ]
+    }
+}
+
+/// What a call of a client did to its pass's segments, which it recycles unseen.
+#[derive(Clone, Copy)]
+pub struct Recycled {
+    /// One number for all segments of the pass.
+    pub segment: u32,
+    /// How many keys were evicted.
+    pub taken: u32,
+    /// How many items were moved within the segments.
+    pub kept: u32,
+}
+
+/// How a put ended.
+#[derive(Clone, Copy)]
+pub enum PutEnd {
+    Stored(Item),
+    Refused(Refusal),
+}
+
 /// What a call asked, and its answer. Buckets are numbered from 0, and so are the keys of each.
 #[derive(Clone, Copy)]
 pub enum Operation {
@@ -116,6 +170,23 @@ pub enum Operation {
         segment: u32,
         is_held: bool,
     },
+    /// Gets of all keys of a bucket at one moment, one after the other.
+    GetMany {
+        bucket: usize,
+        now: u32,
+        reads: Reads,
+    },
+    /// A client's put, which can evict keys of any bucket before it stores its own.
+    Put {
+        bucket: usize,
+        key: usize,
+        recycled: Recycled,
+        ended: PutEnd,
+    },
+    /// A client's call that makes room. What it returned isn't judged.
+    MakeRoom {
+        recycled: Recycled,
+    },
 }
 
 impl Access {
@@ -162,11 +233,22 @@ impl Operation {
             | Operation::Held { bucket, .. }
             | Operation::Release { bucket }
             | Operation::Lock { bucket }
-            | Operation::Unlock { bucket } => Some(*bucket),
+            | Operation::Unlock { bucket }
+            | Operation::GetMany { bucket, .. }
+            | Operation::Put { bucket, .. } => Some(*bucket),
             Operation::Evict { .. }
             | Operation::Keep { .. }
             | Operation::Refill { .. }
-            | Operation::RefillRefused { .. } => None,
+            | Operation::RefillRefused { .. }
+            | Operation::MakeRoom { .. } => None,
+        }
+    }
+
+    /// What the operation recycled, if it is a client's call that recycles segments.
+    pub(crate) fn recycled(&self) -> Option<Recycled> {
+        match self {
+            Operation::Put { recycled, .. } | Operation::MakeRoom { recycled } => Some(*recycled),
+            _ => None,
         }
     }
 
@@ -179,7 +261,24 @@ impl Operation {
                 ..
             } => *refusal == Refusal::BucketFull && *bucket == number,
             Operation::RefillRefused { .. } => false,
+            Operation::Put { .. } | Operation::MakeRoom { .. } => {
+                self.taken().is_some() || self.ends_in(number)
+            }
             _ => self.bucket().is_none_or(|bucket| bucket == number),
+        }
+    }
+
+    // Whether the operation is a put that stored in this bucket, or found it full.
+    fn ends_in(&self, number: usize) -> bool {
+        match self {
+            Operation::Put { bucket, ended, .. } => {
+                *bucket == number
+                    && matches!(
+                        ended,
+                        PutEnd::Stored(_) | PutEnd::Refused(Refusal::BucketFull)
+                    )
+            }
+            _ => false,
         }
     }
 
@@ -199,16 +298,20 @@ impl Operation {
     pub(crate) fn is_free(&self) -> bool {
         match self {
             Operation::OnKey { access, .. } => !access.changes(),
-            Operation::Lock { .. } => false,
+            Operation::Lock { .. } | Operation::Put { .. } | Operation::MakeRoom { .. } => false,
             _ => true,
         }
     }
 
-    /// How many keys the operation took out of its segment, one after the other, if it is an evict or a keep.
+    /// How many keys the operation took out of its segment, one after the other, if it is an evict or a keep,
+    /// or a client's call that took any.
     pub(crate) fn taken(&self) -> Option<u32> {
         match self {
             Operation::Evict { taken, .. } | Operation::Keep { taken, .. } => Some(*taken),
-            _ => None,
+            _ => {
+                let taken = self.recycled()?.taken;
+                (taken > 0).then_some(taken)
+            }
         }
     }
 
@@ -231,9 +334,10 @@ impl Operation {
         }
     }
 
-    /// Whether the operation can return though keys still stand in its segment.
-    pub(crate) fn is_cut_off(&self) -> bool {
-        self.taken().is_some() && self.emptied().is_none()
+    /// Whether the operation can return though keys of this bucket still stand in its segment.
+    /// A put can't where it stored, or found the bucket full.
+    pub(crate) fn is_cut_off(&self, number: usize) -> bool {
+        self.taken().is_some() && self.emptied().is_none() && !self.ends_in(number)
     }
 
     /// Whether the operation can set the bit of this bucket. Keys of these segments can stand there.
@@ -250,6 +354,9 @@ impl Operation {
             Operation::Evict { segment, .. } | Operation::Keep { segment, .. } => {
                 stood & bit(*segment) != 0
             }
+            Operation::Put { recycled, .. } | Operation::MakeRoom { recycled } => {
+                self.bucket() == Some(number) || stood & bit(recycled.segment) != 0
+            }
             _ => false,
         }
     }
@@ -259,6 +366,13 @@ impl Operation {
         match self {
             Operation::OnKey { bucket, access, .. } => {
                 u64::from(*bucket == number && access.writes())
+            }
+            Operation::Put { recycled, .. } | Operation::MakeRoom { recycled } => {
+                // A put sets twice at most in a bucket that isn't busy, the first time in vain.
+                let sets = if self.bucket() == Some(number) { 2 } else { 0 };
+                u64::from(recycled.taken)
+                    .saturating_add(u64::from(recycled.kept))
+                    .saturating_add(sets)
             }
             _ => u64::from(self.taken().unwrap_or(0)),
         }
@@ -270,6 +384,9 @@ impl Operation {
             self,
             Operation::OnKey {
                 access: Access::Set(_) | Access::Add(Some(_)),
+                ..
+            } | Operation::Put {
+                ended: PutEnd::Stored(_),
                 ..
             }
         )

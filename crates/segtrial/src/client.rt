@@ -1,323 +1,339 @@
-//! A pass that makes calls at random, and notes what each returned.
+//! A client that makes calls at random, and notes what each returned.
+//! No note of one client is learned by another: the checker demands the order of all stamps,
+//! which is more than a note promises.
 ghost use Rattle.std.specs.Prelude.{◌≡◌};
 ghost use Rattle.segbase.specs.Words.{holding};
-ghost use Rattle.segindex.specs.Words.{board_of, shape_of};
-ghost use Rattle.segstore.specs.Words.{IsQuiet, IsQuiet-prop};
+ghost use Rattle.segindex.specs.Words.{shape_of};
 ghost use Rattle.segread.specs.Words.{IsHoldOf};
 
-use crate::answers::{Said, said_by, said_by_evict, said_by_keep, said_by_refill};
-use crate::call::{Access, Item, Operation, Refusal};
-use crate::draws::{Draws, Turn};
-use crate::keys::{BUCKETS, Place};
-use crate::log::Log;
-use crate::start::Start;
-use crate::values::{number_of, value_of};
-use segindex::{Hold, HoldAnswer, Index, LockAnswer, Pass, hold_stays};
-use segmodel::{Answer, Command, EvictAnswer, GetsAnswer, KeepAnswer, RefillAnswer, WriteAnswer};
-use segword::Key;
-use std::alloc::Global;
-use std::sync::atomic::AtomicU64;
+use crate::answers::{Said, said_by_get_many, said_by_put};
+use crate::call::{Access, Item, Operation, Recycled, Refusal};
+use crate::draws::{ClientTurn, Keeping};
+use crate::keys::{BUCKETS, EACH, Place};
+use crate::log::Notes;
+use crate::session::{Asked, Desk, Session};
+use crate::values::number_of;
+use segclient::{Client, Hold, HoldAnswer, PutAnswer, Stats, hold_stays};
+use segmodel::{Answer, Command, GetAnswer, Request, WriteAnswer};
+use segword::{Key, Value};
+use std::alloc::{AllocError, Global};
+use std::mem;
 
-/// How many commands are made while an item is held, and how many turns while a bucket is locked.
-const MEANWHILE: u32 = 2;
-
-/// What all clients of a round use.
-#[derive(Clone, Copy)]
-pub struct Desk<'a> {
-    pub keys: &'a [Key],
-    /// The counter from which the stamps are drawn.
-    pub clock: &'a AtomicU64,
-    pub start: &'a Start,
-    /// How many segments each pass has.
-    pub segments: u32,
-}
-
-/// A pass, and what its next calls depend on.
+/// A client, and what its next calls depend on.
 #[derive(Drop)]
-pub struct Client<'a> {
-    index: &'a Index,
-    desk: Desk<'a>,
-    pass: Pass,
-    draws: Draws,
-    log: Log<'a>,
-    /// How many times the pass went on to its next segment.
-    fillings: u32,
-    /// The segment that the pass stores into, and the segment's deadline.
-    segment: u32,
+pub struct ClientCaller<'a> {
+    client: Client<'a>,
+    /// The number of its pass, which stands for each of the segments.
+    number: u32,
+    session: Session<'a>,
+    time_to_live: u32,
+    /// The deadline of the segment that was refilled last, into which the client stores.
     deadline: u32,
-    /// The version that the pass's last gets of each bucket found.
-    versions: [u32; BUCKETS as usize],
-    /// The bucket that the pass has locked, and after how many turns it unlocks the bucket.
-    locked: Option<(usize, u32)>,
-    ghost quiet: { IsQuiet (board_of index.now) pass } by { IsQuiet-prop (board_of index.now) pass },
+    /// Whether keys were evicted since the last look.
+    has_evicted: bool,
+    /// The answers to gets of all keys of a bucket.
+    answers: Vec<GetAnswer>,
 }
 
-impl<'a> Client<'a> {
-    /// A client whose pass has made no call.
-    pub fn new(alloc: Global, index: &'a Index, desk: Desk<'a>, pass: Pass, seed: u64) -> Client<'a>
-        requires { IsQuiet (board_of index.now) pass }
-    {
-        let draws = Draws::new(seed, pass.number());
-        Client {
-            index,
-            desk,
-            pass,
-            draws,
-            log: Log::new(alloc, desk.clock),
-            fillings: 0,
-            segment: 0,
-            deadline: 0,
-            versions: [0; BUCKETS as usize],
-            locked: None,
+impl<'a> ClientCaller<'a> {
+    /// A caller whose client has made no call. How it keeps what was read is drawn.
+    pub fn new(
+        alloc: Global,
+        desk: Desk<'a>,
+        mut client: Client<'a>,
+        number: u32,
+        seed: u64,
+    ) -> Result<ClientCaller<'a>, AllocError> {
+        let mut session = Session::new(alloc, desk, number, seed);
+        match session.draws.keeping(desk.segments) {
+            Keeping::ByQueues => {}
+            Keeping::From(cutoff) => client.keep_from(Some(cutoff)),
+            Keeping::Nothing => client.keep_nothing(),
         }
+        let time_to_live = session.draws.time_to_live();
+        client.set_time_to_live(time_to_live);
+        let mut answers = Vec::new(alloc);
+        for _ in 0..EACH {
+            answers.push(GetAnswer::Busy)?;
+        }
+        Ok(ClientCaller {
+            client,
+            number,
+            session,
+            time_to_live,
+            deadline: 0,
+            has_evicted: false,
+            answers,
+        })
     }
 
     /// Waits until so many passes are there, and then makes so many turns.
-    pub fn work(mut self, passes: u32, turns: u32) -> Client<'a> {
-        self.desk.start.wait_for(passes);
-        self.refill();
+    pub fn work(&mut self, passes: u32, turns: u32) {
+        self.session.desk.start.wait_for(passes);
         for _ in 0..turns {
             self.turn();
         }
-        self
+    }
+
+    /// What it noted of its calls.
+    pub fn into_notes(self) -> Notes {
+        self.session.log.into_notes()
     }
 
     /// Makes one turn, drawn at random.
     pub fn turn(&mut self) {
-        self.go_on_with_lock();
-        match self.draws.turn() {
-            Turn::Command => self.command(),
-            Turn::Hold => self.hold(),
-            Turn::Lock => self.lock(),
-            Turn::Keep => self.keep(),
-            Turn::Refill => self.refill(),
-        }
-    }
-
-    /// What the client noted of its calls.
-    pub fn into_log(self) -> Log<'a> {
-        let Client { log, .. } = self;
-        log
-    }
-
-    // A command on a key.
-    fn command(&mut self)
-        ensures index { self.new.index.now ≡ self.old.index.now }
-        ensures held { holding self.new.pass ≡ holding self.old.pass }
-    {
-        let place = self.draws.place();
-        let item = Item {
-            value: self.draws.value(),
-            segment: self.segment,
-            deadline: self.deadline,
-        };
-        let (Some(key), Some(value)) = (self.key(place), value_of(item.value)) else {
-            return;
-        };
-        let version = self.versions.get(place.bucket).copied().unwrap_or(0);
-        let command = self.draws.command(key.copy(), value, version);
-        let draw = self.draws.below(u32::MAX);
-        let called = self.log.stamp();
-        let answer = serve(self.index, &mut self.pass, &command, draw);
-        let returned = self.log.stamp();
-        self.log
-            .note(called, returned, said_by(&command, &answer, place, item));
-        if let Answer::Gets(GetsAnswer::Found(_, version)) = &answer {
-            if let Some(last) = self.versions.get_mut(place.bucket) {
-                *last = *version;
+        self.look_after();
+        match self.session.draws.client_turn() {
+            ClientTurn::Command => self.command(),
+            ClientTurn::Hold => self.hold(),
+            ClientTurn::MakeRoom => self.make_room(),
+            ClientTurn::GetMany => {
+                let bucket = self.session.draws.place().bucket;
+                let now = self.session.draws.moment();
+                self.get_many(bucket, now);
             }
         }
-        if answer == Answer::Write(WriteAnswer::NoRoom) {
-            self.refill();
+    }
+
+    // A command on a key. Most sets are puts.
+    fn command(&mut self)
+        ensures index { self.new.client.index.now ≡ self.old.client.index.now }
+        ensures held { holding self.new.client.member.pass ≡ holding self.old.client.member.pass }
+    {
+        let Some(asked) = self.session.ask(self.number, self.deadline) else {
+            return;
+        };
+        match &asked.command {
+            Command::Write(request) if self.session.draws.is_put(request) => {
+                self.put(asked.place, asked.item, request);
+            }
+            _ => self.serve(&asked),
         }
     }
 
-    // Goes on to the next segment, moves items of the oldest one there that were read often enough,
-    // and evicts what is left.
-    fn keep(&mut self)
-        ensures index { self.new.index.now ≡ self.old.index.now }
-        ensures held { holding self.new.pass ≡ holding self.old.pass }
+    fn put(&mut self, place: Place, item: Item, request: &Request)
+        ensures index { self.new.client.index.now ≡ self.old.client.index.now }
+        ensures held { holding self.new.client.member.pass ≡ holding self.old.client.member.pass }
     {
-        self.refill();
-        let segment = self.next_segment();
-        let cutoff = self.draws.cutoff();
-        let called = self.log.stamp();
-        let answer = keep(self.index, &mut self.pass, segment, cutoff);
-        let returned = self.log.stamp();
-        let said = said_by_keep(segment, self.segment, cutoff, answer);
-        self.log.note(called, returned, said);
-        self.evict(segment);
+        let Request::Set(key, value, now) = request else {
+            return;
+        };
+        set_now(&mut self.client, *now);
+        let before = self.client.stats();
+        let called = self.session.log.stamp();
+        let answer = put(&mut self.client, key, value);
+        let returned = self.session.log.stamp();
+        let recycled = self.recycled(before, *now);
+        let deadline = self.deadline;
+        let said = said_by_put(answer, place, recycled, Item { deadline, ..item });
+        self.session.note((called, returned), said);
     }
 
-    // The segment that the pass goes on to next. It is the one that was refilled first.
-    fn next_segment(&self) -> u32 {
-        let each = self.desk.segments.max(1);
-        let first = self.pass.number().saturating_mul(each);
-        first.saturating_add(self.fillings % each)
+    // Makes a command as it is. If there is no room for it, the client makes some.
+    fn serve(&mut self, asked: &Asked)
+        ensures index { self.new.client.index.now ≡ self.old.client.index.now }
+        ensures held { holding self.new.client.member.pass ≡ holding self.old.client.member.pass }
+    {
+        let called = self.session.log.stamp();
+        let Some(answer) = serve(&mut self.client, &asked.command) else {
+            return;
+        };
+        let returned = self.session.log.stamp();
+        self.session.note_answer((called, returned), asked, &answer);
+        if answer == Answer::Write(WriteAnswer::NoRoom) {
+            self.make_room();
+        }
     }
 
-    fn evict(&mut self, segment: u32)
-        ensures index { self.new.index.now ≡ self.old.index.now }
-        ensures held { holding self.new.pass ≡ holding self.old.pass }
+    fn make_room(&mut self)
+        ensures index { self.new.client.index.now ≡ self.old.client.index.now }
+        ensures held { holding self.new.client.member.pass ≡ holding self.old.client.member.pass }
     {
-        let called = self.log.stamp();
-        let answer = evict(self.index, &mut self.pass, segment);
-        let returned = self.log.stamp();
-        self.log
-            .note(called, returned, said_by_evict(segment, answer));
+        let now = self.session.draws.moment();
+        set_now(&mut self.client, now);
+        let before = self.client.stats();
+        let called = self.session.log.stamp();
+        make_room(&mut self.client);
+        let returned = self.session.log.stamp();
+        let recycled = self.recycled(before, now);
+        let room = Operation::MakeRoom { recycled };
+        self.session.note((called, returned), Said::Operation(room));
     }
 
-    /// Evicts and refills the next segment. If that is done, the pass stores there from then on.
-    pub fn refill(&mut self)
-        ensures index { self.new.index.now ≡ self.old.index.now }
-        ensures held { holding self.new.pass ≡ holding self.old.pass }
+    // If keys were evicted, looks which still stand, at a moment before all deadlines.
+    // Else the checker would have to go on with too many cases.
+    fn look_after(&mut self) {
+        if mem::replace(&mut self.has_evicted, false) {
+            for bucket in 0..BUCKETS as usize {
+                self.get_many(bucket, 0);
+            }
+        }
+    }
+
+    // Gets of all keys of a bucket.
+    fn get_many(&mut self, bucket: usize, now: u32) {
+        let all = self.session.desk.keys;
+        let Some(keys) = all.get(Place::all_of(bucket)) else {
+            return;
+        };
+        set_now(&mut self.client, now);
+        let called = self.session.log.stamp();
+        get_many(&mut self.client, keys, self.answers.as_mut_slice());
+        let returned = self.session.log.stamp();
+        let said = said_by_get_many(bucket, now, self.answers.as_slice());
+        self.session.note((called, returned), said);
+    }
+
+    // What a call at this moment recycled, by the counts before it.
+    // A segment that it refilled has the deadline of this moment.
+    fn recycled(&mut self, before: Stats, now: u32) -> Recycled
+        ensures index { self.new.client.index.now ≡ self.old.client.index.now }
+        ensures held { holding self.new.client.member.pass ≡ holding self.old.client.member.pass }
     {
-        let segment = self.next_segment();
-        self.fillings = self.fillings.wrapping_add(1);
-        self.evict(segment);
-        let deadline = self.draws.deadline();
-        let called = self.log.stamp();
-        let answer = refill(self.index, &mut self.pass, segment, deadline);
-        let returned = self.log.stamp();
-        self.log.note(called, returned, said_by_refill(segment, deadline, answer));
-        if answer == RefillAnswer::Refilled {
-            self.segment = segment;
-            self.deadline = deadline;
+        let after = self.client.stats();
+        if before.segments_refilled < after.segments_refilled {
+            self.deadline = deadline_at(now, self.time_to_live);
+        }
+        self.has_evicted = self.has_evicted || before.keys_evicted < after.keys_evicted;
+        Recycled {
+            segment: self.number,
+            taken: grown(before.keys_evicted, after.keys_evicted),
+            kept: grown(before.items_kept, after.items_kept),
         }
     }
 
     // Holds an item while other commands are made.
     fn hold(&mut self) {
-        let place = self.draws.place();
-        let now = self.draws.moment();
-        let Some(key) = self.key(place) else {
+        let place = self.session.draws.place();
+        let now = self.session.draws.moment();
+        let Some(key) = self.session.key(place) else {
             return;
         };
-        let index = self.index;
-        let called = self.log.stamp();
-        let answer = index.hold(&mut self.pass, key, now);
-        let returned = self.log.stamp();
+        self.client.set_now(now);
+        let called = self.session.log.stamp();
+        let answer = self.client.hold(key);
+        let returned = self.session.log.stamp();
         match answer {
             HoldAnswer::Holding(hold) => {
                 hold_stays();
-                let value = index.held_value(&mut self.pass, &hold);
+                let value = self.client.held_value(&hold);
                 let read = Access::Hold(Some(number_of(&value)));
-                self.log.note(called, returned, place.says(now, read));
-                for _ in 0..MEANWHILE {
-                    self.command();
-                }
+                self.session.note((called, returned), place.says(now, read));
+                self.make_commands();
                 self.end_hold(place.bucket, hold);
             }
             HoldAnswer::Miss => {
                 let said = place.says(now, Access::Hold(None));
-                self.log.note(called, returned, said);
+                self.session.note((called, returned), said);
             }
             HoldAnswer::Busy => {
                 let said = place.refuses(Refusal::ReadBusy);
-                self.log.note(called, returned, said);
+                self.session.note((called, returned), said);
             }
-            HoldAnswer::AlreadyHolding => self.log.note(called, returned, Said::Wrong),
+            HoldAnswer::AlreadyHolding => self.session.note((called, returned), Said::Wrong),
         }
+    }
+
+    // The two commands that are made while an item is held.
+    fn make_commands(&mut self)
+        ensures index { self.new.client.index.now ≡ self.old.client.index.now }
+        ensures held { holding self.new.client.member.pass ≡ holding self.old.client.member.pass }
+    {
+        self.command();
+        self.command();
     }
 
     // Reads the held value once more, and releases the hold.
     fn end_hold(&mut self, bucket: usize, hold: Hold<'_>)
-        requires { IsHoldOf (shape_of self.old.index.now) hold self.old.pass }
+        requires { IsHoldOf (shape_of self.old.client.index.now) hold self.old.client.member.pass }
     {
-        let called = self.log.stamp();
-        let value = self.index.held_value(&mut self.pass, &hold);
-        let returned = self.log.stamp();
-        let value = number_of(&value);
-        let held = Operation::Held { bucket, value };
-        self.log.note(called, returned, Said::Operation(held));
-        let called = self.log.stamp();
-        self.index.release(&mut self.pass, hold);
-        let returned = self.log.stamp();
-        let release = Operation::Release { bucket };
-        self.log.note(called, returned, Said::Operation(release));
+        let called = self.session.log.stamp();
+        let value = self.client.held_value(&hold);
+        let returned = self.session.log.stamp();
+        self.session.note_held((called, returned), bucket, &value);
+        let called = self.session.log.stamp();
+        self.client.release(hold);
+        let returned = self.session.log.stamp();
+        self.session.note_release((called, returned), bucket);
     }
+}
 
-    // Locks a bucket for the next turns, unless the pass has one locked.
-    fn lock(&mut self) {
-        let place = self.draws.place();
-        let bucket = place.bucket;
-        let (None, Some(key)) = (self.locked, self.key(place)) else {
-            return;
-        };
-        let called = self.log.stamp();
-        let answer = self.index.lock_bucket(&mut self.pass, key);
-        let returned = self.log.stamp();
-        let said = match answer {
-            LockAnswer::Locked => Said::Operation(Operation::Lock { bucket }),
-            LockAnswer::Busy => place.refuses(Refusal::Busy),
-            LockAnswer::AlreadyLocked => Said::Wrong,
-        };
-        self.log.note(called, returned, said);
-        if answer == LockAnswer::Locked {
-            self.locked = Some((bucket, MEANWHILE));
+// Sets the clock of a client. What it holds stays held.
+fn set_now(client: &mut Client<'_>, now: u32)
+    ensures index { client.new.index.now ≡ client.old.index.now }
+    ensures held { holding client.new.member.pass ≡ holding client.old.member.pass }
+{
+    client.set_now(now);
+}
+
+// A put. What the client holds stays held.
+fn put(client: &mut Client<'_>, key: &Key, value: &Value) -> PutAnswer
+    ensures index { client.new.index.now ≡ client.old.index.now }
+    ensures held { holding client.new.member.pass ≡ holding client.old.member.pass }
+{
+    client.put(key, value)
+}
+
+// Makes room. What the client holds stays held.
+fn make_room(client: &mut Client<'_>)
+    ensures index { client.new.index.now ≡ client.old.index.now }
+    ensures held { holding client.new.member.pass ≡ holding client.old.member.pass }
+{
+    client.make_room();
+}
+
+// Gets of these keys. There are as many answers.
+fn get_many(client: &mut Client<'_>, keys: &[Key], answers: &mut [GetAnswer]) {
+    if answers.len() == keys.len() {
+        client.get_many(keys, answers);
+    }
+}
+
+// Makes a command of a client at its moment. Moves and evictions by hand aren't among them.
+fn serve(client: &mut Client<'_>, command: &Command) -> Option<Answer>
+    ensures index { client.new.index.now ≡ client.old.index.now }
+    ensures held { holding client.new.member.pass ≡ holding client.old.member.pass }
+{
+    match command {
+        Command::Get(key, now) => {
+            client.set_now(*now);
+            Some(Answer::Get(client.get(key)))
         }
-    }
-
-    // Unlocks the bucket that is locked, if enough turns were made since.
-    fn go_on_with_lock(&mut self) {
-        match self.locked {
-            None => {}
-            Some((bucket, 0)) => self.unlock(bucket),
-            Some((bucket, turns)) => self.locked = Some((bucket, turns - 1)),
+        Command::Gets(key, now) => {
+            client.set_now(*now);
+            Some(Answer::Gets(client.gets(key)))
         }
-    }
-
-    fn unlock(&mut self, bucket: usize) {
-        let called = self.log.stamp();
-        let is_unlocked = self.index.unlock_bucket(&mut self.pass);
-        let returned = self.log.stamp();
-        let unlock = Said::Operation(Operation::Unlock { bucket });
-        self.log.note(
-            called,
-            returned,
-            if is_unlocked { unlock } else { Said::Wrong },
-        );
-        self.locked = None;
-    }
-
-    fn key(&self, place: Place) -> Option<&'a Key> {
-        let keys = self.desk.keys;
-        keys.get(place.number())
+        Command::Write(request) => {
+            client.set_now(request.moment());
+            Some(write(client, request))
+        }
+        Command::Keep(_, _) | Command::Evict(_) | Command::Refill(_, _) => None,
     }
 }
 
-// Serves a command. What the pass holds stays held.
-fn serve(index: &Index, pass: &mut Pass, command: &Command, draw: u32) -> Answer
-    requires { IsQuiet (board_of index.now) pass.old }
-    ensures quiet { IsQuiet (board_of index.now) pass.new }
-    ensures held { holding pass.new ≡ holding pass.old }
+fn write(client: &mut Client<'_>, request: &Request) -> Answer
+    ensures index { client.new.index.now ≡ client.old.index.now }
+    ensures held { holding client.new.member.pass ≡ holding client.old.member.pass }
 {
-    index.serve(pass, command, draw)
+    match request {
+        Request::Set(key, value, _) => Answer::Write(client.set(key, value)),
+        Request::Add(key, value, _) => Answer::Write(client.add(key, value)),
+        Request::Replace(key, value, _) => Answer::Write(client.replace(key, value)),
+        Request::Cas(key, value, expected, _) => Answer::Write(client.cas(key, value, *expected)),
+        Request::Delete(key, _) => Answer::Delete(client.delete(key)),
+    }
 }
 
-// Evicts a segment. What the pass holds stays held.
-fn evict(index: &Index, pass: &mut Pass, segment: u32) -> EvictAnswer
-    requires { IsQuiet (board_of index.now) pass.old }
-    ensures quiet { IsQuiet (board_of index.now) pass.new }
-    ensures held { holding pass.new ≡ holding pass.old }
-{
-    index.evict(pass, segment)
+// The deadline of a segment that is refilled at a moment.
+fn deadline_at(now: u32, time_to_live: u32) -> u32 {
+    let until = now.saturating_add(time_to_live);
+    if until == u32::MAX {
+        return until;
+    }
+    until.saturating_sub(until % (time_to_live / 2).max(1))
 }
 
-// A keep. What the pass holds stays held.
-fn keep(index: &Index, pass: &mut Pass, segment: u32, cutoff: u8) -> KeepAnswer
-    requires { IsQuiet (board_of index.now) pass.old }
-    ensures quiet { IsQuiet (board_of index.now) pass.new }
-    ensures held { holding pass.new ≡ holding pass.old }
-{
-    index.keep(pass, segment, cutoff)
-}
-
-// A refill. What the pass holds stays held.
-fn refill(index: &Index, pass: &mut Pass, segment: u32, deadline: u32) -> RefillAnswer
-    requires { IsQuiet (board_of index.now) pass.old }
-    ensures quiet { IsQuiet (board_of index.now) pass.new }
-    ensures held { holding pass.new ≡ holding pass.old }
-{
-    index.refill(pass, segment, deadline)
+// How much a count grew.
+fn grown(before: u64, after: u64) -> u32 {
+    u32::try_from(after.saturating_sub(before)).unwrap_or(u32::MAX)
 }

@@ -32,6 +32,27 @@ pub enum Turn {
     Refill,
 }
 
+/// What a client does next.
+#[derive(Clone, Copy)]
+pub enum ClientTurn {
+    Command,
+    Hold,
+    MakeRoom,
+    GetMany,
+}
+
+/// What a client's puts keep.
+#[derive(Clone, Copy)]
+pub enum Keeping {
+    ByQueues,
+    /// What has at least this frequency.
+    From(u8),
+    Nothing,
+}
+
+/// By queues a client needs so many segments.
+const FOR_QUEUES: u32 = 4;
+
 impl Draws {
     pub fn new(seed: u64, pass: u32) -> Draws {
         Draws {
@@ -62,6 +83,49 @@ impl Draws {
             },
             first_version: self.below(VERSIONS).wrapping_sub(VERSIONS),
         }
+    }
+
+    /// The shape of an index whose passes are of clients. A put evicts few keys, so that it is soon
+    /// seen which.
+    pub fn shape_for_clients(&mut self, passes: u32) -> Shape {
+        Shape {
+            rows: self.below(3).saturating_add(2),
+            ..self.shape(passes)
+        }
+    }
+
+    pub fn keeping(&mut self, segments: u32) -> Keeping {
+        match self.below(3) {
+            0 if segments >= FOR_QUEUES => Keeping::ByQueues,
+            0 | 1 => Keeping::From(match self.below(3) {
+                0 => 2,
+                1 => 3,
+                _ => 4,
+            }),
+            _ => Keeping::Nothing,
+        }
+    }
+
+    pub fn time_to_live(&mut self) -> u32 {
+        match self.below(3) {
+            0 => MOMENTS / 2,
+            1 => MOMENTS,
+            _ => u32::MAX,
+        }
+    }
+
+    pub fn client_turn(&mut self) -> ClientTurn {
+        match self.below(64) {
+            0 | 1 => ClientTurn::Hold,
+            2 => ClientTurn::MakeRoom,
+            3 | 4 => ClientTurn::GetMany,
+            _ => ClientTurn::Command,
+        }
+    }
+
+    /// Whether a client makes a put of this request.
+    pub fn is_put(&mut self, request: &Request) -> bool {
+        matches!(request, Request::Set(_, _, _)) && self.below(8) > 0
     }
 
     pub fn turn(&mut self) -> Turn {

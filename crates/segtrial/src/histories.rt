@@ -4,7 +4,8 @@ use crate::call::{Call, Operation};
 use crate::replay::{Fault, Replay, Sizes, check};
 use crate::round::RoundFault;
 use crate::{
-    history_alterations, history_ending, history_holding, history_moving, history_refusing,
+    history_alterations, history_ending, history_holding, history_moving, history_putting,
+    history_refusing,
 };
 use std::alloc::{AllocError, Global};
 
@@ -15,7 +16,7 @@ pub const FIRST_VERSION: u32 = 7;
 pub const SIZES: Sizes = Sizes {
     buckets: 2,
     overflow: 1,
-    rows: 8,
+    rows: Some(8),
     first_version: FIRST_VERSION,
 };
 
@@ -99,6 +100,7 @@ pub fn judge_histories(alloc: Global) -> Result<(), RoundFault> {
     history_holding::judge_all(alloc)?;
     history_moving::judge_all(alloc)?;
     history_refusing::judge_all(alloc)?;
+    history_putting::judge_all(alloc)?;
     history_ending::judge_all(alloc)
 }
 

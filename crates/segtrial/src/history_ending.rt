@@ -12,7 +12,7 @@ use std::alloc::Global;
 const NO_OVERFLOW: Sizes = Sizes {
     buckets: 2,
     overflow: 0,
-    rows: 8,
+    rows: Some(8),
     first_version: FIRST_VERSION,
 };
 

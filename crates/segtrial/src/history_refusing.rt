@@ -9,7 +9,7 @@ use std::alloc::Global;
 const SMALL: Sizes = Sizes {
     buckets: 2,
     overflow: 0,
-    rows: 2,
+    rows: Some(2),
     first_version: FIRST_VERSION,
 };
 

@@ -3,6 +3,7 @@ use crate::answers::Said;
 use crate::call::{Access, Operation, Refusal};
 use segword::{Key, bucket_of, hash, tag_of};
 use std::alloc::{AllocError, Global};
+use std::ops::Range;
 
 /// How many buckets there are.
 pub const BUCKETS: u32 = 4;
@@ -35,6 +36,12 @@ impl Place {
     /// The number among all keys.
     pub fn number(self) -> usize {
         self.bucket.saturating_mul(EACH).saturating_add(self.key)
+    }
+
+    /// The numbers of the keys of a bucket.
+    pub fn all_of(bucket: usize) -> Range<usize> {
+        let first = bucket.saturating_mul(EACH);
+        first..first.saturating_add(EACH)
     }
 
     /// What a call on this key means.

@@ -16,6 +16,14 @@ pub struct Log<'a> {
     pub is_short: bool,
 }
 
+/// What a log has in the end, without the counter: so a thread can return it.
+#[derive(Drop)]
+pub struct Notes {
+    pub calls: Vec<Call>,
+    pub is_wrong: bool,
+    pub is_short: bool,
+}
+
 impl<'a> Log<'a> {
     pub fn new(alloc: Global, clock: &'a AtomicU64) -> Log<'a> {
         Log {
@@ -43,6 +51,14 @@ impl<'a> Log<'a> {
                 self.is_short = self.calls.push(call).is_err() || self.is_short;
             }
             Said::Wrong => self.is_wrong = true,
+        }
+    }
+
+    pub fn into_notes(self) -> Notes {
+        Notes {
+            calls: self.calls,
+            is_wrong: self.is_wrong,
+            is_short: self.is_short,
         }
     }
 }

@@ -7,6 +7,7 @@ mod answers;
 mod arguments;
 mod bucket;
 mod call;
+mod caller;
 mod client;
 mod draws;
 mod ending;
@@ -15,12 +16,15 @@ mod history_alterations;
 mod history_ending;
 mod history_holding;
 mod history_moving;
+mod history_putting;
 mod history_refusing;
 mod keys;
 mod log;
+mod pass;
 mod replay;
 mod round;
 mod rows;
+mod session;
 mod start;
 mod state;
 mod strength;
@@ -92,18 +96,7 @@ fn tell_counts(rt: &HostRuntime, options: &Options, counts: &Counts) -> io::Resu
     } else {
         0
     };
-    eprintln!(rt;
-        "{} answers, {} on threads, {} beside other calls",
-        counts.answers, counts.on_threads, counts.beside
-    )?;
-    eprintln!(rt;
-        "refused: {} Busy, {} NoRoom, {} BucketFull, {} Held",
-        counts.busy, counts.no_room, counts.bucket_full, counts.held
-    )?;
-    eprintln!(rt;
-        "{} items moved, {} answers altered, {} of them accepted",
-        counts.moved, counts.altered, counts.accepted
-    )?;
+    tell_numbers(rt, counts)?;
     if !counts.are_beside(share) {
         eprintln!(rt; "error: under {share} in 1000 answers came beside other calls")?;
         return Ok(ExitCode::from(UNEXPLAINED));
@@ -116,9 +109,40 @@ fn tell_counts(rt: &HostRuntime, options: &Options, counts: &Counts) -> io::Resu
         moves_of(counts)
     )?;
     println!(rt;
+        "{} rounds of {} clients, and {} in turn: every answer is explained, {}",
+        options.clients,
+        options.passes,
+        options.clients_in_turn,
+        recycling_of(counts)
+    )?;
+    println!(rt;
         "{share} in 1000 or more came beside other calls, and each index ended as they left it"
     )?;
     Ok(ExitCode::SUCCESS)
+}
+
+// Prints how many answers there were of each sort.
+fn tell_numbers(rt: &HostRuntime, counts: &Counts) -> io::Result<()> {
+    eprintln!(rt;
+        "{} answers, {} on threads, {} beside other calls",
+        counts.answers, counts.on_threads, counts.beside
+    )?;
+    eprintln!(rt;
+        "refused: {} Busy, {} NoRoom, {} BucketFull, {} Held",
+        counts.busy, counts.no_room, counts.bucket_full, counts.held
+    )?;
+    eprintln!(rt;
+        "{} items moved, {} answers altered, {} of them accepted",
+        counts.moved, counts.of_passes.altered, counts.of_passes.accepted
+    )?;
+    eprintln!(rt;
+        "clients: {} answers, {} items kept, {} keys evicted, {} answers altered, {} of them accepted",
+        counts.to_clients,
+        counts.kept,
+        counts.evicted,
+        counts.of_clients.altered,
+        counts.of_clients.accepted
+    )
 }
 
 // Whether the order that explains the answers has moves of items.
@@ -127,6 +151,15 @@ fn moves_of(counts: &Counts) -> &'static str {
         "with items that moved"
     } else {
         "and no item moved"
+    }
+}
+
+// Whether clients kept and evicted anything.
+fn recycling_of(counts: &Counts) -> &'static str {
+    if counts.kept > 0 && counts.evicted > 0 {
+        "with items kept and keys evicted"
+    } else {
+        "but not with both items kept and keys evicted"
     }
 }
 

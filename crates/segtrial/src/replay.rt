@@ -1,8 +1,8 @@
 //! The calls of all threads in the order of their stamps, bucket by bucket.
 use crate::bucket::{Bucket, Pending};
-use crate::call::{Call, Ended, Operation, Refusal};
+use crate::call::{Call, Ended, Operation, PutEnd, Read, Refusal};
 use crate::rows::{Rows, SEGMENTS};
-use crate::state::{HIGHEST_CUTOFF, KEYS, THREADS};
+use crate::state::{HIGHEST_CUTOFF, KEYS, State, THREADS};
 use crate::sums::{added, bit, rests};
 use std::alloc::{AllocError, Global};
 use thiserror::Error;
@@ -40,8 +40,19 @@ pub struct Sizes {
     /// How many buckets there are by which chains can grow.
     pub overflow: u32,
     /// How many rows each segment has.
-    pub rows: u32,
+    /// None if clients recycle the segments: then what is left of them isn't followed.
+    pub rows: Option<u32>,
     pub first_version: u32,
+}
+
+impl Sizes {
+    // The frequency of what is stored. It needn't be followed where clients keep items unseen.
+    fn first_frequency(&self) -> u8 {
+        match self.rows {
+            Some(_) => 1,
+            None => HIGHEST_CUTOFF,
+        }
+    }
 }
 
 /// How far the calls of all threads were followed.
@@ -49,8 +60,10 @@ pub struct Sizes {
 pub struct Replay {
     buckets: Vec<Bucket>,
     overflow: u32,
-    rows: [Rows; THREADS],
+    rows: Option<[Rows; THREADS]>,
     pending: Pending,
+    /// How many keys each thread's last call took out, if that call was of a client and took any.
+    taken: [Option<u32>; THREADS],
     /// How many calls of each thread have returned.
     returned: [usize; THREADS],
     /// One more than the last stamp; 0 before the first.
@@ -82,13 +95,15 @@ impl Replay {
     fn new(alloc: Global, sizes: Sizes) -> Result<Replay, AllocError> {
         let mut buckets = Vec::new(alloc);
         for number in 0..sizes.buckets {
-            buckets.push(Bucket::new(alloc, number, sizes.first_version)?)?;
+            let state = State::new(sizes.first_version, sizes.first_frequency());
+            buckets.push(Bucket::new(alloc, number, state)?)?;
         }
         Ok(Replay {
             buckets,
             overflow: sizes.overflow,
-            rows: [Rows::new(sizes.rows); THREADS],
+            rows: sizes.rows.map(|rows| [Rows::new(rows); THREADS]),
             pending: [None; THREADS],
+            taken: [None; THREADS],
             returned: [0; THREADS],
             stamp: 0,
         })
@@ -148,6 +163,9 @@ impl Replay {
         if !self.is_known(operation) {
             return Err(Fault::BadCall);
         }
+        if operation.taken().is_some() {
+            self.forget(thread)?;
+        }
         if let Some(place) = self.pending.get_mut(thread) {
             *place = Some(*operation);
         }
@@ -176,11 +194,7 @@ impl Replay {
         if !self.answer(thread, operation)? || !self.has_overflow() {
             return Err(Fault::NoOrder(call.returned));
         }
-        if !self
-            .rows
-            .get_mut(thread)
-            .is_some_and(|rows| rows.follow(operation))
-        {
+        if !self.has_segment(thread, operation) {
             return Err(Fault::NoSegment(call.returned));
         }
         if !self.has_reason(thread, operation) {
@@ -196,6 +210,16 @@ impl Replay {
             *returned = returned.saturating_add(1);
         }
         Ok(())
+    }
+
+    // Whether the thread's own segments allow the answer, if what is left of them is followed.
+    fn has_segment(&mut self, thread: usize, operation: &Operation) -> bool {
+        match &mut self.rows {
+            Some(all) => all
+                .get_mut(thread)
+                .is_some_and(|rows| rows.follow(operation)),
+            None => true,
+        }
     }
 
     // Whether there can be as many overflow buckets as the chains need at least.
@@ -228,16 +252,15 @@ impl Replay {
                 bucket,
                 refusal,
                 ..
-            } => {
-                let watch = self.buckets.get(*bucket).map(|bucket| bucket.watch(thread));
-                match refusal {
-                    Refusal::ReadBusy => watch.is_some_and(|watch| watch.was_disturbed()),
-                    Refusal::StoreBusy | Refusal::Busy => watch.is_some_and(
-                        |watch| watch.was_set(),
-                    ),
-                    Refusal::BucketFull => self.can_lack_overflow(thread),
-                    Refusal::NoRoom => true,
-                }
+            }
+            | Operation::Put {
+                bucket,
+                ended: PutEnd::Refused(refusal),
+                ..
+            } => self.can_refuse(thread, *bucket, *refusal),
+            Operation::GetMany { bucket, reads, .. } => {
+                !reads.all().iter().any(|read| matches!(read, Read::Busy))
+                    || self.can_refuse(thread, *bucket, Refusal::ReadBusy)
             }
             Operation::RefillRefused {
                 segment,
@@ -262,10 +285,22 @@ impl Replay {
         }
     }
 
+    // Whether a call in this bucket can have been refused so.
+    fn can_refuse(&self, thread: usize, bucket: usize, refusal: Refusal) -> bool {
+        let watch = self.buckets.get(bucket).map(|bucket| bucket.watch(thread));
+        match refusal {
+            Refusal::ReadBusy => watch.is_some_and(|watch| watch.was_disturbed()),
+            Refusal::StoreBusy | Refusal::Busy => watch.is_some_and(|watch| watch.was_set()),
+            Refusal::BucketFull => self.can_lack_overflow(thread),
+            Refusal::NoRoom => true,
+        }
+    }
+
     fn has_target(&self, thread: usize, segment: u32) -> bool {
-        self.rows
-            .get(thread)
-            .is_some_and(|rows| rows.has_target(segment))
+        match &self.rows {
+            Some(all) => all.get(thread).is_some_and(|rows| rows.has_target(segment)),
+            None => false,
+        }
     }
 
     // Whether a reader can have been in the segment, or an item of it can have been held.
@@ -295,10 +330,27 @@ impl Replay {
                 return Ok(false);
             }
         }
-        match operation.taken() {
-            Some(taken) => self.count(thread, taken),
-            None => Ok(true),
+        if let (Some(taken), Some(place)) = (operation.taken(), self.taken.get_mut(thread)) {
+            *place = Some(taken);
         }
+        let is_possible = self.count_all(operation)?;
+        if operation.taken().is_some() && operation.recycled().is_none() {
+            self.forget(thread)?;
+        }
+        Ok(is_possible)
+    }
+
+    // Counts what was taken out, if the operation is one that tells of it. Returns whether that is possible.
+    fn count_all(&mut self, operation: &Operation) -> Result<bool, Fault> {
+        let tells = operation.taken().is_some() || matches!(operation, Operation::GetMany { .. });
+        for thread in 0..THREADS {
+            if let Some(Some(taken)) = self.taken.get(thread).copied() {
+                if tells && !self.count(thread, taken)? {
+                    return Ok(false);
+                }
+            }
+        }
+        Ok(true)
     }
 
     // The thread's evict or keep took so many keys out of all buckets together. Returns whether that is possible.
@@ -310,10 +362,19 @@ impl Replay {
                 return Ok(false);
             }
         }
-        for bucket in self.buckets.iter_mut() {
-            bucket.forget(thread)?;
-        }
         Ok(true)
+    }
+
+    // What the thread took out isn't counted any longer.
+    fn forget(&mut self, thread: usize) -> Result<(), Fault> {
+        if let Some(place) = self.taken.get_mut(thread) {
+            if place.take().is_some() {
+                for bucket in self.buckets.iter_mut() {
+                    bucket.forget(thread)?;
+                }
+            }
+        }
+        Ok(())
     }
 
     // Which numbers of keys the thread's evict or keep may have taken out of all buckets but this one.

@@ -1,24 +1,24 @@
-//! Rounds: each has a new index, passes that make calls on threads or in turn, and a check of the answers.
+//! Rounds: each has a new index, passes or clients that make calls on threads or in turn, and a check of the answers.
 ghost use Rattle.std.specs.Prelude.{All, IfSome};
 ghost use Rattle.segindex.specs.Words.{board_of};
 ghost use Rattle.segstore.specs.Words.{IsQuiet};
 
 use crate::arguments::Options;
-use crate::call::{Call, Operation, Refusal};
-use crate::client::{Client, Desk};
+use crate::call::{Call, Operation, PutEnd, Refusal};
+use crate::caller::{Course, work_of_clients, work_of_passes};
 use crate::draws::Draws;
 use crate::ending::content_of;
 use crate::histories::judge_histories;
-use crate::keys::{BUCKETS, colliding_keys};
-use crate::log::Log;
+use crate::keys::colliding_keys;
+use crate::log::Notes;
 use crate::replay::{Fault, Replay, Sizes, check};
+use crate::session::Desk;
 use crate::start::Start;
-use crate::strength::strength_of;
+use crate::strength::{Strength, strength_of};
 use segindex::{Index, Pass};
 use segword::{Key, Shape, Value};
 use std::alloc::{AllocError, Global};
 use std::sync::atomic::AtomicU64;
-use std::thread;
 use std::thread::Threads;
 use thiserror::Error;
 
@@ -38,10 +38,25 @@ pub struct Counts {
     pub held: u64,
     /// The items that were moved.
     pub moved: u64,
-    /// The answers that were altered, one at a time, and those of them that are accepted all the same.
+    /// The answers to clients.
+    pub to_clients: u64,
+    /// The items that clients kept, and the keys that they evicted.
+    pub kept: u64,
+    pub evicted: u64,
+    /// The answers to passes that were altered, one at a time, and those of them that are accepted all the same.
     /// An evict or keep that ended early leaves open which keys it took out, so some can be.
-    pub altered: u64,
-    pub accepted: u64,
+    pub of_passes: Strength,
+    /// The same of answers to clients. Only later answers tell what a put did, so more are accepted.
+    pub of_clients: Strength,
+}
+
+/// How the calls of a round are made.
+#[derive(Clone, Copy)]
+struct Kind {
+    // Whether the passes take turns on one thread.
+    is_in_turn: bool,
+    // Whether each pass is of a client.
+    has_clients: bool,
 }
 
 /// Why a round failed.
@@ -53,7 +68,7 @@ pub enum RoundFault {
     History(Fault),
     #[error("what the index lists at its end isn't what the calls left")]
     WrongContent,
-    #[error("the checker accepts more than one in a hundred answers that were altered")]
+    #[error("the checker accepts too many answers that were altered")]
     Accepted,
     #[error("the checker misjudges a history that was written by hand: {0}")]
     Misjudged(&'static str),
@@ -91,15 +106,29 @@ pub fn run_rounds<R: Threads + Sync>(
         return Err(Failure { seed, fault });
     }
     let mut counts = Counts::default();
-    for round in 0..options.rounds.saturating_add(options.in_turn) {
-        let seed = options.seed.wrapping_add(u64::from(round));
-        let is_in_turn = options.rounds <= round;
-        match run_round(rt, alloc, options, is_in_turn, seed) {
+    for round in 0..options.all_rounds() {
+        let seed = options.seed.wrapping_add(round);
+        match run_round(rt, alloc, options, kind_of(options, round), seed) {
             Ok(more) => counts = counts.plus(more),
             Err(fault) => return Err(Failure { seed, fault }),
         }
     }
     Ok(counts)
+}
+
+// The rounds of passes come first, and of each sort those on threads.
+fn kind_of(options: &Options, round: u64) -> Kind {
+    let of_passes = u64::from(options.rounds).saturating_add(u64::from(options.in_turn));
+    let has_clients = of_passes <= round;
+    let on_threads = if has_clients {
+        of_passes.saturating_add(u64::from(options.clients))
+    } else {
+        u64::from(options.rounds)
+    };
+    Kind {
+        is_in_turn: on_threads <= round,
+        has_clients,
+    }
 }
 
 // What the passes of a round were told, and what their index had at its end.
@@ -118,22 +147,26 @@ fn run_round<R: Threads + Sync>(
     rt: &R,
     alloc: Global,
     options: &Options,
-    is_in_turn: bool,
+    kind: Kind,
     seed: u64,
 ) -> Result<Counts, RoundFault> {
-    let mut round = make_calls(rt, alloc, options, is_in_turn, seed)?;
-    let sizes = sizes_of(&round.shape);
+    let mut round = make_calls(rt, alloc, options, kind, seed)?;
+    let sizes = sizes_of(&round.shape, kind);
     let replay = check(alloc, sizes, &round.told)?;
     judge_end(alloc, &replay, &round.keys, &round.content)?;
     let mut counts = round.counts;
-    if is_in_turn {
+    if kind.is_in_turn {
         let mut draws = Draws::new(seed, options.passes);
         let strength = strength_of(alloc, sizes, &mut round.told, &mut draws, options.alter)?;
-        if strength.altered < strength.accepted.saturating_mul(100) {
+        let part = if kind.has_clients { 4 } else { 100 };
+        if strength.altered < strength.accepted.saturating_mul(part) {
             return Err(RoundFault::Accepted);
         }
-        counts.altered = u64::from(strength.altered);
-        counts.accepted = u64::from(strength.accepted);
+        if kind.has_clients {
+            counts.of_clients = strength;
+        } else {
+            counts.of_passes = strength;
+        }
     }
     Ok(counts)
 }
@@ -143,11 +176,11 @@ fn make_calls<R: Threads + Sync>(
     rt: &R,
     alloc: Global,
     options: &Options,
-    is_in_turn: bool,
+    kind: Kind,
     seed: u64,
 ) -> Result<Round, RoundFault> {
     let keys = colliding_keys(alloc)?;
-    let shape = Draws::new(seed, options.passes).shape(options.passes.saturating_add(1));
+    let shape = shape_of(options, kind, seed);
     let Ok((index, mut passes)) = Index::new(alloc, shape) else {
         return Err(RoundFault::OutOfMemory);
     };
@@ -162,15 +195,19 @@ fn make_calls<R: Threads + Sync>(
         start: &start,
         segments: shape.segments_each,
     };
-    let clients = clients_of(alloc, &index, desk, passes, seed)?;
-    let (passes, turns) = (options.passes, options.turns);
-    let clients = if is_in_turn {
-        work_in_turn(clients, turns)
-    } else {
-        thread::map_vec(rt, clients, &|client: Client| client.work(passes, turns))?
+    let course = Course {
+        desk,
+        passes: options.passes,
+        turns: options.turns,
+        is_in_turn: kind.is_in_turn,
+        seed,
     };
-    let logs = logs_of(alloc, clients)?;
-    let counts = counts_of(&logs, is_in_turn)?;
+    let logs = if kind.has_clients {
+        work_of_clients(rt, alloc, &index, passes, course)?
+    } else {
+        work_of_passes(rt, alloc, &index, passes, course)?
+    };
+    let counts = counts_of(&logs, kind)?;
     let told = told_of(alloc, logs)?;
     let Ok(content) = index.close(alloc, last) else {
         return Err(RoundFault::OutOfMemory);
@@ -184,6 +221,17 @@ fn make_calls<R: Threads + Sync>(
     })
 }
 
+// The shape of a round's index, which has one pass more.
+fn shape_of(options: &Options, kind: Kind, seed: u64) -> Shape {
+    let mut draws = Draws::new(seed, options.passes);
+    let passes = options.passes.saturating_add(1);
+    if kind.has_clients {
+        draws.shape_for_clients(passes)
+    } else {
+        draws.shape(passes)
+    }
+}
+
 // Takes the last pass out of the list.
 fn pop(index: &Index, passes: &mut Vec<Pass>) -> Option<Pass>
     requires { All (IsQuiet (board_of index.now)) passes.old.items }
@@ -193,29 +241,23 @@ fn pop(index: &Index, passes: &mut Vec<Pass>) -> Option<Pass>
     passes.pop()
 }
 
-// What the clients noted.
-fn logs_of<'a>(alloc: Global, clients: Vec<Client<'a>>) -> Result<Vec<Log<'a>>, AllocError> {
-    let mut logs = Vec::new(alloc);
-    for client in clients {
-        logs.push(client.into_log())?;
-    }
-    Ok(logs)
-}
-
 // The counts of all answers.
-fn counts_of(logs: &[Log<'_>], is_in_turn: bool) -> Result<Counts, RoundFault> {
+fn counts_of(logs: &[Notes], kind: Kind) -> Result<Counts, RoundFault> {
     let mut counts = Counts::default();
     for log in logs {
         counts.add(log)?;
     }
-    if !is_in_turn {
+    if !kind.is_in_turn {
         counts.on_threads = counts.answers;
+    }
+    if kind.has_clients {
+        counts.to_clients = counts.answers;
     }
     Ok(counts)
 }
 
 // The calls that were noted.
-fn told_of(alloc: Global, logs: Vec<Log<'_>>) -> Result<Vec<Vec<Call>>, RoundFault> {
+fn told_of(alloc: Global, logs: Vec<Notes>) -> Result<Vec<Vec<Call>>, RoundFault> {
     let mut told = Vec::new(alloc);
     for log in logs {
         if told.push(log.calls).is_err() {
@@ -225,11 +267,11 @@ fn told_of(alloc: Global, logs: Vec<Log<'_>>) -> Result<Vec<Vec<Call>>, RoundFau
     Ok(told)
 }
 
-fn sizes_of(shape: &Shape) -> Sizes {
+fn sizes_of(shape: &Shape, kind: Kind) -> Sizes {
     Sizes {
         buckets: shape.buckets as usize,
         overflow: shape.overflow,
-        rows: shape.rows,
+        rows: (!kind.has_clients).then_some(shape.rows),
         first_version: shape.first_version,
     }
 }
@@ -250,36 +292,6 @@ fn judge_end(
     }
 }
 
-// Lets the clients take so many turns each on this thread, one after the other.
-fn work_in_turn<'a>(mut clients: Vec<Client<'a>>, turns: u32) -> Vec<Client<'a>> {
-    for client in clients.iter_mut() {
-        client.refill();
-    }
-    for _ in 0..turns {
-        for client in clients.iter_mut() {
-            client.turn();
-        }
-    }
-    clients
-}
-
-// A client for each pass.
-fn clients_of<'a>(
-    alloc: Global,
-    index: &'a Index,
-    desk: Desk<'a>,
-    passes: Vec<Pass>,
-    seed: u64,
-) -> Result<Vec<Client<'a>>, AllocError>
-    requires { All (IsQuiet (board_of index.now)) passes.items }
-{
-    let mut clients = Vec::new(alloc);
-    for pass in passes {
-        clients.push(Client::new(alloc, index, desk, pass, seed))?;
-    }
-    Ok(clients)
-}
-
 impl Counts {
     /// The sums of both counts.
     pub fn plus(self, other: Counts) -> Counts {
@@ -292,8 +304,11 @@ impl Counts {
             bucket_full: self.bucket_full.saturating_add(other.bucket_full),
             held: self.held.saturating_add(other.held),
             moved: self.moved.saturating_add(other.moved),
-            altered: self.altered.saturating_add(other.altered),
-            accepted: self.accepted.saturating_add(other.accepted),
+            to_clients: self.to_clients.saturating_add(other.to_clients),
+            kept: self.kept.saturating_add(other.kept),
+            evicted: self.evicted.saturating_add(other.evicted),
+            of_passes: self.of_passes.plus(other.of_passes),
+            of_clients: self.of_clients.plus(other.of_clients),
         }
     }
 
@@ -304,7 +319,7 @@ impl Counts {
     }
 
     // Counts the answers to a pass, if no answer was wrong and each could be noted.
-    fn add(&mut self, log: &Log<'_>) -> Result<(), RoundFault> {
+    fn add(&mut self, log: &Notes) -> Result<(), RoundFault> {
         if log.is_wrong {
             return Err(RoundFault::WrongAnswer);
         }
@@ -321,14 +336,18 @@ impl Counts {
         Ok(())
     }
 
-    // Counts a refusal, or the items that were moved.
+    // Counts a refusal, or what was moved or evicted.
     fn count(&mut self, operation: &Operation) {
+        if let Some(recycled) = operation.recycled() {
+            self.kept = self.kept.saturating_add(u64::from(recycled.kept));
+            self.evicted = self.evicted.saturating_add(u64::from(recycled.taken));
+        }
         match operation {
-            Operation::Refused { refusal, .. } => match refusal {
-                Refusal::NoRoom => self.no_room = self.no_room.saturating_add(1),
-                Refusal::BucketFull => self.bucket_full = self.bucket_full.saturating_add(1),
-                _ => self.busy = self.busy.saturating_add(1),
-            },
+            Operation::Refused { refusal, .. }
+            | Operation::Put {
+                ended: PutEnd::Refused(refusal),
+                ..
+            } => self.count_refusal(*refusal),
             Operation::RefillRefused { is_held: true, .. } => {
                 self.held = self.held.saturating_add(1);
             }
@@ -336,6 +355,14 @@ impl Counts {
                 self.moved = self.moved.saturating_add(u64::from(*taken));
             }
             _ => {}
+        }
+    }
+
+    fn count_refusal(&mut self, refusal: Refusal) {
+        match refusal {
+            Refusal::NoRoom => self.no_room = self.no_room.saturating_add(1),
+            Refusal::BucketFull => self.bucket_full = self.bucket_full.saturating_add(1),
+            _ => self.busy = self.busy.saturating_add(1),
         }
     }
 }

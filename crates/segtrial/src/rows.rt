@@ -61,7 +61,10 @@ impl Rows {
             Operation::Held { .. }
             | Operation::Release { .. }
             | Operation::Lock { .. }
-            | Operation::Unlock { .. } => true,
+            | Operation::Unlock { .. }
+            | Operation::GetMany { .. } => true,
+            // Which segments clients recycle isn't told.
+            Operation::Put { .. } | Operation::MakeRoom { .. } => false,
         }
     }
 

@@ -1,5 +1,5 @@
 //! A bucket of a cache of one thread, and which of the calls that are under way have been taken there.
-use crate::call::{Access, CasReply, Item, Operation, Refusal};
+use crate::call::{Access, CasReply, Item, Operation, PutEnd, Read, Refusal};
 use crate::sums::bit;
 use std::mem;
 
@@ -30,6 +30,8 @@ struct Hand {
     is_done: bool,
     /// How many keys of this bucket the thread's evict or keep took out of its segment.
     taken: u32,
+    /// How many of the keys the thread's several gets have read.
+    read: usize,
     /// The item that the thread holds, of a key of this bucket.
     held: Option<Item>,
 }
@@ -41,22 +43,26 @@ pub struct State {
     /// How many buckets the chain has.
     width: u32,
     version: u32,
+    /// The frequency of an item that is stored.
+    first: u8,
     is_locked: bool,
     hands: [Hand; THREADS],
 }
 
 impl State {
-    /// A state in which no key stands.
-    pub fn new(version: u32) -> State {
+    /// A state in which no key stands. What is stored has this frequency.
+    pub fn new(version: u32, first: u8) -> State {
         let idle = Hand {
             is_done: false,
             taken: 0,
+            read: 0,
             held: None,
         };
         State {
             items: [None; KEYS],
             width: 1,
             version,
+            first,
             is_locked: false,
             hands: [idle; THREADS],
         }
@@ -124,6 +130,7 @@ impl State {
     }
 
     /// The state after the whole of a thread's operation, if the cache allows this answer here.
+    /// Of several gets, it is the state after those that it allows one after the other.
     pub fn after(&self, thread: usize, operation: &Operation) -> Option<State> {
         let mut next = *self;
         let hand = next.hands.get_mut(thread)?;
@@ -148,12 +155,39 @@ impl State {
             Operation::Refill { segment, .. } => {
                 (self.stood() | self.held()) & bit(*segment) == 0
             }
-            Operation::RefillRefused { .. } => true,
+            Operation::GetMany { now, reads, .. } => {
+                return self.read_on(thread, *now, &reads.all());
+            }
+            Operation::Put { key, ended, .. } => match ended {
+                PutEnd::Stored(item) => next.store(*key, *item),
+                PutEnd::Refused(_) => self.is_full_for(*key),
+            },
+            Operation::RefillRefused { .. } | Operation::MakeRoom { .. } => true,
         };
         is_allowed.then_some(next)
     }
 
-    /// The state after a thread's evict or keep took this key out of its segment, if the key stands there.
+    // The state once the thread's several gets have read as many keys as they can here.
+    fn read_on(&self, thread: usize, now: u32, reads: &[Read]) -> Option<State> {
+        let mut next = *self;
+        let hand = next.hands.get_mut(thread)?;
+        for (key, read) in reads.iter().enumerate() {
+            let is_right = match read {
+                Read::Value(value) => self.present(key, now).map(|item| item.value) == *value,
+                Read::Busy => true,
+            };
+            if key == hand.read && is_right {
+                hand.read = hand.read.saturating_add(1);
+            }
+        }
+        if hand.read == reads.len() {
+            hand.is_done = true;
+            hand.read = 0;
+        }
+        Some(next)
+    }
+
+    /// The state after a thread's evict, keep or client's call took this key out of its segment, if the key stands there.
     /// It took out no more keys than it returned.
     /// A keep moves the key's item into another segment.
     pub fn without(&self, thread: usize, key: usize, operation: &Operation) -> Option<State> {
@@ -165,7 +199,10 @@ impl State {
                 taken,
                 ..
             } => (*segment, *taken, *cutoff),
-            _ => return None,
+            _ => {
+                let recycled = operation.recycled()?;
+                (recycled.segment, recycled.taken, 0)
+            }
         };
         let mut next = *self;
         let place = next.items.get_mut(key)?;
@@ -239,7 +276,10 @@ impl State {
         if self.has_no_word_for(key) {
             self.width = self.width.saturating_add(1);
         }
-        let standing = Standing { item, frequency: 1 };
+        let standing = Standing {
+            item,
+            frequency: self.first,
+        };
         self.write(key, Some(standing)) && self.width <= WIDEST
     }
 

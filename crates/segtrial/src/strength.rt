@@ -9,6 +9,9 @@ use std::mem;
 /// Only the first calls of each thread are altered, so that what comes before them is short.
 const FIRST: u32 = 1000;
 
+/// Calls that return from this stamp on are left out, so that a history that is accepted is short.
+const END: u64 = 16_000;
+
 /// How often a call is drawn that has an answer to alter.
 const TRIES: u32 = 64;
 
@@ -22,7 +25,17 @@ pub struct Strength {
     pub accepted: u32,
 }
 
-/// Alters so many answers of the threads, each alone.
+impl Strength {
+    /// The sums of both.
+    pub fn plus(self, other: Strength) -> Strength {
+        Strength {
+            altered: self.altered.saturating_add(other.altered),
+            accepted: self.accepted.saturating_add(other.accepted),
+        }
+    }
+}
+
+/// Alters so many answers of the threads, each alone. The calls were made in turn.
 pub fn strength_of(
     alloc: Global,
     sizes: Sizes,
@@ -30,9 +43,13 @@ pub fn strength_of(
     draws: &mut Draws,
     count: u32,
 ) -> Result<Strength, Fault> {
+    for calls in told.iter_mut() {
+        calls.retain(|call| call.returned < END);
+    }
     let mut strength = Strength::default();
     for _ in 0..count {
-        if let Some((spot, other)) = alteration(told, draws) {
+        let kinds = kinds_of(sizes);
+        if let Some((spot, other)) = alteration(told, draws, kinds) {
             strength.altered = strength.altered.saturating_add(1);
             if !is_refused(alloc, sizes, told, spot, other)? {
                 strength.accepted = strength.accepted.saturating_add(1);
@@ -42,14 +59,22 @@ pub fn strength_of(
     Ok(strength)
 }
 
+// How many kinds of alterations fit. Clients aren't told the segment, whose alteration comes last.
+fn kinds_of(sizes: Sizes) -> u32 {
+    match sizes.rows {
+        Some(_) => KINDS,
+        None => KINDS - 1,
+    }
+}
+
 // A call, drawn at random, and its operation with another answer.
-fn alteration(told: &[Vec<Call>], draws: &mut Draws) -> Option<(Spot, Operation)> {
+fn alteration(told: &[Vec<Call>], draws: &mut Draws, kinds: u32) -> Option<(Spot, Operation)> {
     for _ in 0..TRIES {
         let thread = draws.below(number(told.len())) as usize;
         let calls = told.get(thread)?;
         let place = draws.below(number(calls.len()).min(FIRST)) as usize;
         let call = calls.get(place)?;
-        if let Some(other) = altered(&call.operation, draws.below(KINDS)) {
+        if let Some(other) = altered(&call.operation, draws.below(kinds)) {
             return Some(((thread, place), other));
         }
     }

@@ -1,0 +1,296 @@
+//! A pass that makes calls of the index at random, and notes what each returned.
+ghost use Rattle.std.specs.Prelude.{◌≡◌};
+ghost use Rattle.segbase.specs.Words.{holding};
+ghost use Rattle.segindex.specs.Words.{board_of, shape_of};
+ghost use Rattle.segstore.specs.Words.{IsQuiet, IsQuiet-prop};
+ghost use Rattle.segread.specs.Words.{IsHoldOf};
+
+use crate::answers::{Said, said_by_evict, said_by_keep, said_by_refill};
+use crate::call::{Access, Operation, Refusal};
+use crate::draws::Turn;
+use crate::log::Notes;
+use crate::session::{Desk, Session};
+use crate::values::number_of;
+use segindex::{Hold, HoldAnswer, Index, LockAnswer, Pass, hold_stays};
+use segmodel::{Answer, Command, EvictAnswer, KeepAnswer, RefillAnswer, WriteAnswer};
+use std::alloc::Global;
+
+/// How many turns are made while a bucket is locked.
+const MEANWHILE: u32 = 2;
+
+/// A pass, and what its next calls depend on.
+#[derive(Drop)]
+pub struct PassCaller<'a> {
+    index: &'a Index,
+    pass: Pass,
+    session: Session<'a>,
+    /// How many times the pass went on to its next segment.
+    fillings: u32,
+    /// The segment that the pass stores into, and the segment's deadline.
+    segment: u32,
+    deadline: u32,
+    /// The bucket that the pass has locked, and after how many turns it unlocks the bucket.
+    locked: Option<(usize, u32)>,
+    ghost quiet: { IsQuiet (board_of index.now) pass } by { IsQuiet-prop (board_of index.now) pass },
+}
+
+impl<'a> PassCaller<'a> {
+    /// A caller whose pass has made no call.
+    pub fn new(
+        alloc: Global,
+        index: &'a Index,
+        desk: Desk<'a>,
+        pass: Pass,
+        seed: u64,
+    ) -> PassCaller<'a>
+        requires { IsQuiet (board_of index.now) pass }
+    {
+        let session = Session::new(alloc, desk, pass.number(), seed);
+        PassCaller {
+            index,
+            pass,
+            session,
+            fillings: 0,
+            segment: 0,
+            deadline: 0,
+            locked: None,
+        }
+    }
+
+    /// Waits until so many passes are there, and then makes so many turns. Returns what it noted.
+    pub fn work(mut self, passes: u32, turns: u32) -> Notes {
+        self.session.desk.start.wait_for(passes);
+        self.refill();
+        for _ in 0..turns {
+            self.turn();
+        }
+        self.into_notes()
+    }
+
+    /// What it noted of its calls.
+    pub fn into_notes(self) -> Notes {
+        self.session.log.into_notes()
+    }
+
+    /// Makes one turn, drawn at random.
+    pub fn turn(&mut self) {
+        self.go_on_with_lock();
+        match self.session.draws.turn() {
+            Turn::Command => self.command(),
+            Turn::Hold => self.hold(),
+            Turn::Lock => self.lock(),
+            Turn::Keep => self.keep(),
+            Turn::Refill => self.refill(),
+        }
+    }
+
+    // A command on a key.
+    fn command(&mut self)
+        ensures index { self.new.index.now ≡ self.old.index.now }
+        ensures held { holding self.new.pass ≡ holding self.old.pass }
+    {
+        let Some(asked) = self.session.ask(self.segment, self.deadline) else {
+            return;
+        };
+        let draw = self.session.draws.below(u32::MAX);
+        let called = self.session.log.stamp();
+        let answer = serve(self.index, &mut self.pass, &asked.command, draw);
+        let returned = self.session.log.stamp();
+        self.session
+            .note_answer((called, returned), &asked, &answer);
+        if answer == Answer::Write(WriteAnswer::NoRoom) {
+            self.refill();
+        }
+    }
+
+    // Goes on to the next segment, moves items of the oldest one there that were read often enough,
+    // and evicts what is left.
+    fn keep(&mut self)
+        ensures index { self.new.index.now ≡ self.old.index.now }
+        ensures held { holding self.new.pass ≡ holding self.old.pass }
+    {
+        self.refill();
+        let segment = self.next_segment();
+        let cutoff = self.session.draws.cutoff();
+        let called = self.session.log.stamp();
+        let answer = keep(self.index, &mut self.pass, segment, cutoff);
+        let returned = self.session.log.stamp();
+        let said = said_by_keep(segment, self.segment, cutoff, answer);
+        self.session.note((called, returned), said);
+        self.evict(segment);
+    }
+
+    // The segment that the pass goes on to next. It is the one that was refilled first.
+    fn next_segment(&self) -> u32 {
+        let each = self.session.desk.segments.max(1);
+        let first = self.pass.number().saturating_mul(each);
+        first.saturating_add(self.fillings % each)
+    }
+
+    fn evict(&mut self, segment: u32)
+        ensures index { self.new.index.now ≡ self.old.index.now }
+        ensures held { holding self.new.pass ≡ holding self.old.pass }
+    {
+        let called = self.session.log.stamp();
+        let answer = evict(self.index, &mut self.pass, segment);
+        let returned = self.session.log.stamp();
+        self.session
+            .note((called, returned), said_by_evict(segment, answer));
+    }
+
+    /// Evicts and refills the next segment. If that is done, the pass stores there from then on.
+    pub fn refill(&mut self)
+        ensures index { self.new.index.now ≡ self.old.index.now }
+        ensures held { holding self.new.pass ≡ holding self.old.pass }
+    {
+        let segment = self.next_segment();
+        self.fillings = self.fillings.wrapping_add(1);
+        self.evict(segment);
+        let deadline = self.session.draws.deadline();
+        let called = self.session.log.stamp();
+        let answer = refill(self.index, &mut self.pass, segment, deadline);
+        let returned = self.session.log.stamp();
+        self.session.note(
+            (called, returned),
+            said_by_refill(segment, deadline, answer),
+        );
+        if answer == RefillAnswer::Refilled {
+            self.segment = segment;
+            self.deadline = deadline;
+        }
+    }
+
+    // Holds an item while other commands are made.
+    fn hold(&mut self) {
+        let place = self.session.draws.place();
+        let now = self.session.draws.moment();
+        let Some(key) = self.session.key(place) else {
+            return;
+        };
+        let index = self.index;
+        let called = self.session.log.stamp();
+        let answer = index.hold(&mut self.pass, key, now);
+        let returned = self.session.log.stamp();
+        match answer {
+            HoldAnswer::Holding(hold) => {
+                hold_stays();
+                let value = index.held_value(&mut self.pass, &hold);
+                let read = Access::Hold(Some(number_of(&value)));
+                self.session.note((called, returned), place.says(now, read));
+                self.make_commands();
+                self.end_hold(place.bucket, hold);
+            }
+            HoldAnswer::Miss => {
+                let said = place.says(now, Access::Hold(None));
+                self.session.note((called, returned), said);
+            }
+            HoldAnswer::Busy => {
+                let said = place.refuses(Refusal::ReadBusy);
+                self.session.note((called, returned), said);
+            }
+            HoldAnswer::AlreadyHolding => self.session.note((called, returned), Said::Wrong),
+        }
+    }
+
+    // The two commands that are made while an item is held.
+    fn make_commands(&mut self)
+        ensures index { self.new.index.now ≡ self.old.index.now }
+        ensures held { holding self.new.pass ≡ holding self.old.pass }
+    {
+        self.command();
+        self.command();
+    }
+
+    // Reads the held value once more, and releases the hold.
+    fn end_hold(&mut self, bucket: usize, hold: Hold<'_>)
+        requires { IsHoldOf (shape_of self.old.index.now) hold self.old.pass }
+    {
+        let called = self.session.log.stamp();
+        let value = self.index.held_value(&mut self.pass, &hold);
+        let returned = self.session.log.stamp();
+        self.session.note_held((called, returned), bucket, &value);
+        let called = self.session.log.stamp();
+        self.index.release(&mut self.pass, hold);
+        let returned = self.session.log.stamp();
+        self.session.note_release((called, returned), bucket);
+    }
+
+    // Locks a bucket for the next turns, unless the pass has one locked.
+    fn lock(&mut self) {
+        let place = self.session.draws.place();
+        let bucket = place.bucket;
+        let (None, Some(key)) = (self.locked, self.session.key(place)) else {
+            return;
+        };
+        let called = self.session.log.stamp();
+        let answer = self.index.lock_bucket(&mut self.pass, key);
+        let returned = self.session.log.stamp();
+        let said = match answer {
+            LockAnswer::Locked => Said::Operation(Operation::Lock { bucket }),
+            LockAnswer::Busy => place.refuses(Refusal::Busy),
+            LockAnswer::AlreadyLocked => Said::Wrong,
+        };
+        self.session.note((called, returned), said);
+        if answer == LockAnswer::Locked {
+            self.locked = Some((bucket, MEANWHILE));
+        }
+    }
+
+    // Unlocks the bucket that is locked, if enough turns were made since.
+    fn go_on_with_lock(&mut self) {
+        match self.locked {
+            None => {}
+            Some((bucket, 0)) => self.unlock(bucket),
+            Some((bucket, turns)) => self.locked = Some((bucket, turns - 1)),
+        }
+    }
+
+    fn unlock(&mut self, bucket: usize) {
+        let called = self.session.log.stamp();
+        let is_unlocked = self.index.unlock_bucket(&mut self.pass);
+        let returned = self.session.log.stamp();
+        let unlock = Said::Operation(Operation::Unlock { bucket });
+        self.session.log.note(
+            called,
+            returned,
+            if is_unlocked { unlock } else { Said::Wrong },
+        );
+        self.locked = None;
+    }
+}
+
+// Serves a command. What the pass holds stays held.
+fn serve(index: &Index, pass: &mut Pass, command: &Command, draw: u32) -> Answer
+    requires { IsQuiet (board_of index.now) pass.old }
+    ensures quiet { IsQuiet (board_of index.now) pass.new }
+    ensures held { holding pass.new ≡ holding pass.old }
+{
+    index.serve(pass, command, draw)
+}
+
+// Evicts a segment. What the pass holds stays held.
+fn evict(index: &Index, pass: &mut Pass, segment: u32) -> EvictAnswer
+    requires { IsQuiet (board_of index.now) pass.old }
+    ensures quiet { IsQuiet (board_of index.now) pass.new }
+    ensures held { holding pass.new ≡ holding pass.old }
+{
+    index.evict(pass, segment)
+}
+
+// A keep. What the pass holds stays held.
+fn keep(index: &Index, pass: &mut Pass, segment: u32, cutoff: u8) -> KeepAnswer
+    requires { IsQuiet (board_of index.now) pass.old }
+    ensures quiet { IsQuiet (board_of index.now) pass.new }
+    ensures held { holding pass.new ≡ holding pass.old }
+{
+    index.keep(pass, segment, cutoff)
+}
+
+// A refill. What the pass holds stays held.
+fn refill(index: &Index, pass: &mut Pass, segment: u32, deadline: u32) -> RefillAnswer
+    requires { IsQuiet (board_of index.now) pass.old }
+    ensures quiet { IsQuiet (board_of index.now) pass.new }
+    ensures held { holding pass.new ≡ holding pass.old }
+{
+    index.refill(pass, segment, deadline)
+}
