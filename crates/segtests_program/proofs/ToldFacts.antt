@@ -32,7 +32,11 @@ load_had_a_shape shape commands may told is = is
 
 -- ---- turns
 
--- a release without a hold changes nothing
+-- a look at what is held, without a hold, changes nothing
+nothing_held : (b : Board) (p q : Pass) → IsOutcomeOfCall b turn.Held outcome.NotHolding p q → q ≡ p
+nothing_held b p q is = is.0
+
+-- nor does a release
 nothing_released : (b : Board) (p q : Pass) → IsOutcomeOfCall b turn.Release outcome.NotHolding p q → q ≡ p
 nothing_released b p q is = is.0
 
