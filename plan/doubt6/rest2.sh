@@ -1,0 +1,7 @@
+#!/usr/bin/env bash
+# The other crates, once the first two are done: that with the finding first.
+cd /work/h/doubt
+while kill -0 "$1" 2>/dev/null; do sleep 5; done
+for c in segreplay segevict segindex segword segbase segscript segload segclient segcache; do
+  MOST=36 python3 batch.py $c > logs/try-$c.txt 2>&1
+done
