@@ -1,8 +1,8 @@
 //! Tables and texts that no contract has: hashes and words known from outside, and the limits.
 use crate::same::same;
 use segword::{
-    Chain, Info, Item, Key, KeyWords, Reading, Shape, ShapeFault, Value, bucket_of, hash, read_key,
-    read_row, read_value, row_words, same_item, tag_of,
+    Chain, Info, Item, Key, KeyWords, Reading, SegmentWord, Shape, ShapeFault, Value, bucket_of,
+    hash, read_key, read_row, read_value, row_words, same_item, tag_of,
 };
 use std::process::Abort;
 
@@ -104,6 +104,16 @@ fn information_words_have_no_bit_between(rt: HostRuntime) {
 }
 
 #[test]
+fn segment_words_have_the_deadline_above_the_readers(rt: HostRuntime) {
+    let segment = SegmentWord {
+        deadline: 7,
+        readers: 3,
+    };
+    same(&rt, &segment.pack(), &0x0000_0007_0000_0003);
+    same(&rt, &SegmentWord::unpack(0x0000_0007_0000_0003), &segment);
+}
+
+#[test]
 fn chain_words_stop_at_the_last_overflow_bucket(rt: HostRuntime) {
     let unpacked = [
         Chain::unpack(0),
@@ -124,8 +134,13 @@ fn a_word_has_one_of_three_readings_or_none(rt: HostRuntime) {
         seg: 0,
         row: 0,
     };
-    let readings = [Reading::Empty, Reading::Chain(1), Reading::Item(item)];
-    for (word, reading) in [0, 2, 0x0010_0000_0000_0000].into_iter().zip(readings) {
+    let readings = [
+        Reading::Empty,
+        Reading::Chain(0),
+        Reading::Chain(1),
+        Reading::Item(item),
+    ];
+    for (word, reading) in [0, 1, 2, 0x0010_0000_0000_0000].into_iter().zip(readings) {
         same(
             &rt,
             &(Reading::unpack(word), reading.pack()),
@@ -227,6 +242,8 @@ fn words_that_no_pair_has_are_no_row(rt: HostRuntime) {
     ] {
         assert!(rt; read_row(&words).is_none(), "{words:?}");
     }
+    // No length but 1 to 24 is a key's.
+    assert!(rt; read_key(&[0x21, 0, 0, 0]).is_none());
     let (read, stored) = read_row(&[0x101, 0x61, 0, 0, 0x7a, 0, 0, 0]).expect(&rt, "a row");
     let row = (read.as_bytes(), stored.as_bytes());
     same(&rt, &row, &(b"a".as_slice(), b"z".as_slice()));
