@@ -129,7 +129,7 @@ impl Words {
     pub fn row(&self, segment: u32, row: u32) -> [u64; ROW_WORDS]
         requires segment { IsSegment (shape_of self.now) segment }
         requires row { row < (shape_of self.now).rows }
-        ensures { (place : ℕ) → place < 8
+        ensures { (place : ℕ) → place < ROW_WORDS
             → slice_index result place ≡ word_of_cell self.now (OfRow segment row place) }
     {
         let mut words = [0; ROW_WORDS];

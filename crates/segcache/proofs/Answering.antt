@@ -1,5 +1,6 @@
 -- How an export answers: by what was done to the box in its handle, or for lack of one.
 use Rattle.std.proofs.Common.{◌≡◌, ◌≤◌, ℕ, List, length, Option, Some, None, refl, sym, ap, subst}
+use Rattle.segword.specs.Words.{value_limit}
 use Rattle.segcache.specs.declared.client.SharedClient.{SharedClient}
 use Rattle.segcache.specs.declared.kept.Kept.{Kept}
 use Rattle.segcache.specs.declared.kept.Kept.TheVariants as kept
@@ -37,9 +38,9 @@ bad_key Refuses key Does old un refused = record { good = λ is. absurd (un is);
 
 -- by a value of a good length, and by another
 pub good_value : (Refuses : Status → Type 0) (value : List ℕ) (Does : SharedClient → SharedClient → Type 0) (old new : SharedClient)
-    → length value ≤ 32 → Does old new → ByValue Refuses value Does old new
+    → length value ≤ value_limit → Does old new → ByValue Refuses value Does old new
 good_value Refuses value Does old new is does = record { good = λ _. does; bad = λ un. absurd (un is) }
 
 pub bad_value : (Refuses : Status → Type 0) (value : List ℕ) (Does : SharedClient → SharedClient → Type 0) (old : SharedClient)
-    → ¬ (length value ≤ 32) → Refuses status.BadValue → ByValue Refuses value Does old old
+    → ¬ (length value ≤ value_limit) → Refuses status.BadValue → ByValue Refuses value Does old old
 bad_value Refuses value Does old un refused = record { good = λ is. absurd (un is); bad = λ _. (refused, refl) }

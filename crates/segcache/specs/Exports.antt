@@ -1,5 +1,6 @@
 -- What an export answers, and what it does with a handle, a key and a value.
 use Rattle.std.specs.Prelude.{◌≡◌, ℕ, ◌≤◌, List, length, ◌++◌, drop, Option, Some}
+use Rattle.segword.specs.Words.{value_limit}
 use Rattle.segcache.specs.declared.client.SharedClient.{SharedClient}
 use Rattle.segcache.specs.declared.kept.Kept.{Kept}
 use Rattle.segcache.specs.declared.kept.Kept.TheVariants as kept
@@ -43,11 +44,11 @@ pub record ByKey (Refuses : Status → Type 0) (key : List ℕ)
   pub good : HasKeyLength key → Does old new
   pub bad : ¬ (HasKeyLength key) → Refuses status.BadKey × (new ≡ old)
 
--- With a value of at most 32 bytes the client did this. Any other is refused by BadValue.
+-- With a value of at most value_limit bytes the client did this. Any other is refused by BadValue.
 pub record ByValue (Refuses : Status → Type 0) (value : List ℕ)
     (Does : SharedClient → SharedClient → Type 0) (old new : SharedClient) : Type 0 where
-  pub good : length value ≤ 32 → Does old new
-  pub bad : ¬ (length value ≤ 32) → Refuses status.BadValue × (new ≡ old)
+  pub good : length value ≤ value_limit → Does old new
+  pub bad : ¬ (length value ≤ value_limit) → Refuses status.BadValue × (new ≡ old)
 
 -- ---- what is written
 

@@ -10,6 +10,7 @@ use crate::kept::Kept;
 use crate::reading::{get_key, gets_key};
 use crate::status::Status;
 use segclient::Key;
+use segword::VALUE_BYTES;
 use std::alloc::Global;
 
 // So many keys are looked ahead for at a time.
@@ -27,7 +28,7 @@ pub struct Lookup {
     pub value_len: usize,
     pub status: u32,
     pub version: u32,
-    pub value: [u8; 32],
+    pub value: [u8; VALUE_BYTES],
 }
 
 /// Looks up each key at a moment, one after another, and writes value and status into its lookup.

@@ -16,7 +16,7 @@ pub enum Status {
     NotFound,
     /// A key has 1 to 24 bytes.
     BadKey,
-    /// A value has at most 32 bytes.
+    /// A value has at most `VALUE_BYTES` bytes.
     BadValue,
     /// The value has more bytes than the buffer.
     ShortBuffer,

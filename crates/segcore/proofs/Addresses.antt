@@ -2,7 +2,7 @@
 use Rattle.std.proofs.Common.{◌≡◌, ◌≢◌, ℕ, ap, ◌+◌, ◌*◌, ◌<◌, ◌≤◌, Bool, true, false, ◌&&◌, eqb, sym, refl, ◌∙◌, arith}
 use Rattle.std.proofs.lemmas.Bool.{eqb-true, eq-eqb, false≢true, and_parts}
 use Rattle.std.proofs.lemmas.Nat.{same_from_place, mul-add-lt}
-use Rattle.segword.specs.Words.{Shape, word_count}
+use Rattle.segword.specs.Words.{row_width, Shape, word_count}
 use Rattle.segcore.specs.Words.{Cell}
 use Rattle.segcore.specs.declared.cell.Cell.TheVariants.{OfCounter, OfBucket, OfOverflow, OfSegment, OfRow}
 use Rattle.segcore.specs.Word.{IsCell, same_cell, address, segments_at, segment_size}
@@ -11,15 +11,15 @@ use Rattle.segcore.specs.Word.{IsCell, same_cell, address, segments_at, segment_
 in_segment : (z : Shape) (s i : ℕ) → s < z.passes * z.segments_each → i < segment_size z → s * segment_size z + i < z.passes * z.segments_each * segment_size z
 in_segment z s i a b = let e = mul-add-lt s (segment_size z) i (z.passes * z.segments_each) a b in omega arith
 
-row_in : (z : Shape) (r j : ℕ) → r < z.rows → j < 8 → 1 + (r * 8 + j) < segment_size z
-row_in z r j a b = let e = mul-add-lt r 8 j z.rows a b in omega arith
+row_in : (z : Shape) (r j : ℕ) → r < z.rows → j < row_width → 1 + (r * row_width + j) < segment_size z
+row_in z r j a b = let e = mul-add-lt r row_width j z.rows a b in omega arith
 
 pub in_count : (z : Shape) (c : Cell) → IsCell z c → address z c < word_count z
 in_count z OfCounter h = omega arith
 in_count z (OfBucket b w) h = let e = mul-add-lt b 8 w z.buckets h.0 h.1 in omega arith
 in_count z (OfOverflow m w) h = let e = mul-add-lt m 8 w z.overflow h.0 h.1 in omega arith
 in_count z (OfSegment s) h = let e = in_segment z s 0 h (omega arith) in omega arith
-in_count z (OfRow s r j) h = let e = in_segment z s (1 + (r * 8 + j)) h.0 (row_in z r j h.1 h.2) in omega arith
+in_count z (OfRow s r j) h = let e = in_segment z s (1 + (r * row_width + j)) h.0 (row_in z r j h.1 h.2) in omega arith
 
 both : (x y : Bool) → x ≡ true → y ≡ true → (x && y) ≡ true
 both x y p q = rw (p, q) refl
@@ -56,13 +56,13 @@ apart z (OfSegment s) (OfSegment s') h h' f e =
     let q = same_from_place s 0 s' 0 (segment_size z) (omega arith) (omega arith) (omega arith) in
     false≢true (sym f ∙ eq-eqb s s' q.0)
 apart z (OfRow s r j) (OfRow s' r' j') h h' f e =
-    let q = same_from_place s (1 + (r * 8 + j)) s' (1 + (r' * 8 + j')) (segment_size z) (row_in z r j h.1 h.2) (row_in z r' j' h'.1 h'.2) (omega arith) in
-    let t = same_from_place r j r' j' 8 h.2 h'.2 (let e' = q.1 in omega arith) in
+    let q = same_from_place s (1 + (r * row_width + j)) s' (1 + (r' * row_width + j')) (segment_size z) (row_in z r j h.1 h.2) (row_in z r' j' h'.1 h'.2) (omega arith) in
+    let t = same_from_place r j r' j' row_width h.2 h'.2 (let e' = q.1 in omega arith) in
     false≢true (sym f ∙ both (eqb s s') (eqb r r' && eqb j j') (eq-eqb s s' q.0) (both (eqb r r') (eqb j j') (eq-eqb r r' t.0) (eq-eqb j j' t.1)))
 apart z (OfSegment s) (OfRow s' r j) h h' f e =
-    let q = same_from_place s 0 s' (1 + (r * 8 + j)) (segment_size z) (omega arith) (row_in z r j h'.1 h'.2) (omega arith) in let a = q.1 in omega arith
+    let q = same_from_place s 0 s' (1 + (r * row_width + j)) (segment_size z) (omega arith) (row_in z r j h'.1 h'.2) (omega arith) in let a = q.1 in omega arith
 apart z (OfRow s' r j) (OfSegment s) h' h f e =
-    let q = same_from_place s 0 s' (1 + (r * 8 + j)) (segment_size z) (omega arith) (row_in z r j h'.1 h'.2) (omega arith) in let a = q.1 in omega arith
+    let q = same_from_place s 0 s' (1 + (r * row_width + j)) (segment_size z) (omega arith) (row_in z r j h'.1 h'.2) (omega arith) in let a = q.1 in omega arith
 apart z c d h h' f e = let a = bounds z c h in let b = bounds z d h' in let a0 = a.0 in let a1 = a.1 in let b0 = b.0 in let b1 = b.1 in omega arith
 
 pub same_place : (c d : Cell) → same_cell c d ≡ true → c ≡ d

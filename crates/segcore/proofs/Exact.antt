@@ -2,8 +2,9 @@
 use Rattle.std.proofs.Common.{◌^◌, ◌≡◌, ℕ, ◌+◌, ◌<◌, List, [], ◌∷◌, take, drop, Some, sym, refl, ap, ◌∙◌, subst, inl, inr, arith}
 use Rattle.std.specs.Prelude.{slice_index, fold}
 use Rattle.std.proofs.lemmas.Option.{same_Some}
-use Rattle.segword.specs.Words.{hash_of, IsKey, IsValid, IsValue, row_of, Shape, with_byte}
-use Rattle.segword.proofs.RowLemmas.{key_of_row, value_of_row}
+use Rattle.std.proofs.lemmas.Grind.{same_number_lists}
+use Rattle.segword.specs.Words.{hash_of, IsKey, IsValid, IsValue, row_of, row_width, Shape, with_byte}
+use Rattle.segword.proofs.RowLemmas.{key_of_row, length-row_of, value_of_row}
 use Rattle.segmodel.specs.Words.{bucket_of, Cached, tag_of}
 use Rattle.segcore.specs.Words.{Cell, Event}
 use Rattle.segcore.specs.Bucket.{Slot, slot, Content, nothing, item, next, copy, bucket_after}
@@ -27,11 +28,9 @@ use Rattle.segcore.proofs.StepKinds.Words.{word_content, cell_in}
 use Rattle.segcore.proofs.StepKinds.Items.{above}
 use Rattle.segcore.proofs.StepKinds.Frequencies.{Named, names, one_place}
 
-same_words : (k v k' v' : List ℕ) → ((j : ℕ) → j < 8 → slice_index (row_of k v) j ≡ slice_index (row_of k' v') j) → row_of k v ≡ row_of k' v'
+same_words : (k v k' v' : List ℕ) → ((j : ℕ) → j < row_width → slice_index (row_of k v) j ≡ slice_index (row_of k' v') j) → row_of k v ≡ row_of k' v'
 same_words k v k' v' e =
-    let e0 = e 0 (omega arith) in let e1 = e 1 (omega arith) in let e2 = e 2 (omega arith) in let e3 = e 3 (omega arith) in
-    let e4 = e 4 (omega arith) in let e5 = e 5 (omega arith) in let e6 = e 6 (omega arith) in let e7 = e 7 (omega arith) in
-    (λ i. e0 i ∷ e1 i ∷ e2 i ∷ e3 i ∷ e4 i ∷ e5 i ∷ e6 i ∷ e7 i ∷ [])
+    same_number_lists (row_of k v) (row_of k' v') (length-row_of k v ∙ sym (length-row_of k' v')) (λ j lt. e j (subst (λ n. j < n) (length-row_of k v) lt))
 
 pub same_row : (u : Row) (k v k' v' : List ℕ) → Holds u k v → Holds u k' v' → row_of k v ≡ row_of k' v'
 same_row u k v k' v' a b = same_words k v k' v' (λ j lt. sym (a j lt) ∙ b j lt)

@@ -5,7 +5,7 @@
 -- and two passes of two segments of two rows.
 -- A trace is named after what was done last.
 use Rattle.std.specs.Prelude.{ℕ, true, false, List, [], ◌∷◌, ◌++◌, Some, None, replicate, slice_index_or}
-use Rattle.segword.specs.Words.{Shape}
+use Rattle.segword.specs.Words.{Shape, word_count}
 use Rattle.segmodel.specs.declared.request.Request.TheVariants.{Set, Add, Replace}
 use Rattle.segmodel.specs.declared.request.Reply.TheVariants.{NotStored}
 use Rattle.segcore.specs.declared.event.Event.{Event}
@@ -116,7 +116,7 @@ view_of pass trace = record { number = pass; trace = trace; looks = []; dealt = 
 
 -- every word is 0, as the first version is
 abbrev pub opening : World
-opening = record { words = replicate 85 0; views = view_of 0 [] ∷ view_of 1 [] ∷ []; trace = [] }
+opening = record { words = replicate (word_count shape) 0; views = view_of 0 [] ∷ view_of 1 [] ∷ []; trace = [] }
 
 -- what a pass has seen in a world
 abbrev pub view_in : World → ℕ → View

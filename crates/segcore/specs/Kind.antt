@@ -2,7 +2,7 @@
 -- the events that the step adds, and when a pass may take it.
 use Rattle.std.specs.Prelude.{◌≡◌, ℕ, ◌+◌, ◌%◌, ◌^◌, ◌<◌, ◌≤◌, ◌==◌, ◌⊎◌, Bool, true, false, List, [], ◌∷◌, ◌++◌, Option, Some, None, bit_or, if◌then◌else◌, ◌*◌}
 use prog.Atomic.{either}
-use Rattle.segword.specs.Words.{chain_word, Shape}
+use Rattle.segword.specs.Words.{chain_word, row_width, Shape}
 use Rattle.segmodel.specs.declared.entry.Entry.TheVariants as entry
 use Rattle.segmodel.specs.Words.{after, bucket_of, Follows, key_of, owner, Reply, Request, tag_of}
 use Rattle.segcore.specs.declared.event.Event.{Event}
@@ -225,7 +225,7 @@ May shape trace pass (row_store segment row place w) =
 May shape trace pass (row_load segment row place) =
     IsSegment shape segment
     × (row < shape.rows)
-    × (place < 8)
+    × (place < row_width)
     × MayRead shape trace pass segment row
 May shape trace pass (enter segment) = Fits shape trace (Entered pass segment)
 May shape trace pass (leave segment) = Fits shape trace (Left pass segment)

@@ -1,7 +1,7 @@
 -- Which event may come next after a trace, and which traces are lawful:
 -- each event could come where it stands.
 use Rattle.std.specs.Prelude.{◌≡◌, ◌≢◌, ℕ, ◌+◌, ◌*◌, ◌<◌, Bool, true, false, List, [], ◌∷◌, ◌⊎◌, Option, Some, None, MatchOption, ◌^◌}
-use Rattle.segword.specs.Words.{IsKey, IsValue, Shape}
+use Rattle.segword.specs.Words.{IsKey, IsValue, row_width, Shape}
 use Rattle.segmodel.specs.declared.request.Reply.TheVariants.{NotStored, Exists, NotFound}
 use Rattle.segmodel.specs.Words.{after, bucket_of, Follows, key_of, owner, Reply, standing}
 use Rattle.segmodel.specs.Words.{value_of}
@@ -92,7 +92,7 @@ Suits shape trace (Freed pass bucket counted) =
     (state.written ≡ counted) × (state.spare ≡ None)
 Suits shape trace (Replied pass request reply) = IsRefusal reply
 Suits shape trace (Filled pass segment row place word) =
-    IsOwnRow shape trace pass segment row × (place < 8)
+    IsOwnRow shape trace pass segment row × (place < row_width)
 Suits shape trace (Linked pass request segment row position) =
     let state = bucket_after shape trace (bucket_of shape (key_of request)) in
     IsOwnRow shape trace pass segment row

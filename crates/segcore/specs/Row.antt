@@ -1,7 +1,7 @@
 -- The state of a segment's rows after a trace: the words of each,
 -- which key was linked to it in this filling, and the frequency of its item.
 use Rattle.std.specs.Prelude.{◌≡◌, ℕ, ◌<◌, ◌==◌, ◌&&◌, Bool, false, List, [], ◌∷◌, Option, Some, None, slice_index, if◌then◌else◌}
-use Rattle.segword.specs.Words.{row_of}
+use Rattle.segword.specs.Words.{row_of, row_width}
 use Rattle.segmodel.specs.Words.{key_of, with_at}
 use Rattle.segcore.specs.declared.event.Event.{Event}
 use Rattle.segcore.specs.declared.event.Event.TheVariants.{Filled, Linked, Relinked, Bumped, Refilled}
@@ -36,10 +36,10 @@ row_after (event ∷ trace) segment row =
     then writes_row event (row_after trace segment row)
     else row_after trace segment row
 
--- the row's eight words are those of the pair
+-- the row's words are those of the pair
 abbrev pub Holds : Row → List ℕ → List ℕ → Type 0
 Holds row key value =
-    (place : ℕ) → place < 8 → row.words place ≡ slice_index (row_of key value) place
+    (place : ℕ) → place < row_width → row.words place ≡ slice_index (row_of key value) place
 
 -- The frequency of the item that names the row: 1 at its link, and what a bump raised it to.
 -- After a move to the row, it is the frequency that the row which the item left had.

@@ -2,7 +2,7 @@
 -- and which of them are the words of a chain.
 use Rattle.std.specs.Prelude.{◌≡◌, ℕ, zero, suc, ◌+◌, ◌*◌, ◌%◌, ◌^◌, ◌<◌, ◌==◌, ◌&&◌, Bool, true, false, List, Option, Some, None}
 use Rattle.segmodel.specs.Words.{tag_of}
-use Rattle.segword.specs.Words.{chain_word, Shape}
+use Rattle.segword.specs.Words.{chain_word, row_width, Shape}
 use Rattle.segcore.specs.declared.event.Event.{Event}
 use Rattle.segcore.specs.declared.cell.Cell.{Cell}
 use Rattle.segcore.specs.declared.cell.Cell.TheVariants.{OfCounter, OfBucket, OfOverflow, OfSegment, OfRow}
@@ -20,7 +20,7 @@ IsCell shape (OfBucket bucket word) = (bucket < shape.buckets) × (word < 8)
 IsCell shape (OfOverflow number word) = (number < shape.overflow) × (word < 8)
 IsCell shape (OfSegment segment) = segment < shape.passes * shape.segments_each
 IsCell shape (OfRow segment row place) =
-    (segment < shape.passes * shape.segments_each) × (row < shape.rows) × (place < 8)
+    (segment < shape.passes * shape.segments_each) × (row < shape.rows) × (place < row_width)
 
 abbrev pub same_cell : Cell → Cell → Bool
 same_cell OfCounter OfCounter = true
@@ -35,7 +35,7 @@ abbrev pub segments_at : Shape → ℕ
 segments_at shape = 1 + 8 * shape.buckets + 8 * shape.overflow
 
 abbrev pub segment_size : Shape → ℕ
-segment_size shape = 1 + 8 * shape.rows
+segment_size shape = 1 + row_width * shape.rows
 
 -- the place of a cell in the table: the counter, the buckets, the overflow buckets,
 -- then each segment's word and its rows
@@ -45,7 +45,7 @@ address shape (OfBucket bucket word) = 1 + (bucket * 8 + word)
 address shape (OfOverflow number word) = 1 + 8 * shape.buckets + (number * 8 + word)
 address shape (OfSegment segment) = segments_at shape + segment * segment_size shape
 address shape (OfRow segment row place) =
-    segments_at shape + (segment * segment_size shape + (1 + (row * 8 + place)))
+    segments_at shape + (segment * segment_size shape + (1 + (row * row_width + place)))
 
 -- ---- what each holds
 

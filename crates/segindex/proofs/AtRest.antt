@@ -4,7 +4,8 @@ use Rattle.std.proofs.lemmas.Bool.{cases_lt, lt-ltb, le-ltb}
 use Rattle.std.proofs.lemmas.List.{ext_get_or}
 use Rattle.std.specs.Prelude.{slice_index, Option, option_map}
 use Rattle.segword.specs.Words.{chain_word, IsChainWord, IsKey, IsValid, IsValue, Item, item_word}
-use Rattle.segword.specs.Words.{row_of, Shape}
+use Rattle.segword.specs.Words.{row_of, row_width, Shape}
+use Rattle.segword.proofs.RowLemmas.{length-row_of}
 use Rattle.segmodel.specs.Words.{Cached}
 use Rattle.segcore.specs.declared.cell.Cell.TheVariants.{OfRow}
 use Rattle.segcore.specs.Words.{bucket_after, Cell, Event, home as home_at, home_of, IsItemAt}
@@ -62,12 +63,13 @@ module _ (words : Words) (trace : List Event) (home at : ℕ) (place : Place) (r
     row_in_table = let there = linked.2.in_segment in (subst (λ s. IsSegment z s) in_segment there.0, subst (λ r. r < z.rows) in_row there.1)
 
     -- and its words are those of the key's pair
-    same_row : (row : List ℕ) → length row ≡ 8 → ((n : ℕ) → n < 8 → slice_index row n ≡ word_of_cell words (OfRow item.seg item.row n)) → row_of linked.0 linked.1 ≡ row
+    same_row : (row : List ℕ) → length row ≡ row_width → ((n : ℕ) → n < row_width → slice_index row n ≡ word_of_cell words (OfRow item.seg item.row n)) → row_of linked.0 linked.1 ≡ row
     same_row row long each = let x = linked.2 in
-        ext_get_or 0 (row_of linked.0 linked.1) row (sym long) (λ n lt.
+        ext_get_or 0 (row_of linked.0 linked.1) row (length-row_of linked.0 linked.1 ∙ sym long) (λ n less.
+        let lt : n < row_width = subst (λ m. n < m) (length-row_of linked.0 linked.1) less in
         sym (x.holds n lt) ∙ ((λ i. (row_after trace (in_segment i) (in_row i)).words n) ∙ (sym (rest.each (OfRow item.seg item.row n) (row_in_table.0, row_in_table.1, lt)) ∙ sym (each n lt))))
 
-    pub pair_is : (row : List ℕ) (result : Option (List ℕ × List ℕ)) → length row ≡ 8 → ((n : ℕ) → n < 8 → slice_index row n ≡ word_of_cell words (OfRow item.seg item.row n))
+    pub pair_is : (row : List ℕ) (result : Option (List ℕ × List ℕ)) → length row ≡ row_width → ((n : ℕ) → n < row_width → slice_index row n ≡ word_of_cell words (OfRow item.seg item.row n))
         → ((key value : List ℕ) → IsKey key → IsValue value → row_of key value ≡ row → result ≡ Some (key, value)) → IsPairAt z trace home at result
     pair_is row result long each packed = let x = linked.2 in let key = linked.0 in let value = linked.1 in
         subst (λ r. IsPairAt z trace home at r) (sym (packed key value x.valid.0 x.valid.1 (same_row row long each))) (

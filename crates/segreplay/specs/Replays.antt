@@ -1,5 +1,6 @@
 -- What a replay comes to.
 use Rattle.std.specs.Prelude.{◌≡◌, ◌<◌, ◌*◌, ℕ, ◌+◌, Bool, true, false, min, All, List, [], ◌∷◌, length, replicate, take, slice_index_or, Result, Ok, Err}
+use Rattle.segword.specs.Words.{value_limit}
 use Rattle.segreplay.specs.declared.cache.Cache.{Cache}
 use Rattle.segreplay.specs.declared.fault.TraceFault.{TraceFault}
 use Rattle.segreplay.specs.declared.fault.TraceFault.TheVariants as fault
@@ -31,7 +32,7 @@ rules_of plan = record { form = plan.form; clients = plan.shape.passes; warm = p
 
 -- the value that is put: so many bytes, all 0
 abbrev pub value_of : ℕ → List ℕ
-value_of bytes = take (min bytes 32) (replicate 32 0)
+value_of bytes = take (min bytes value_limit) (replicate value_limit 0)
 
 -- the totals of these caches, the first of which has this number
 abbrev pub totals_from : ℕ → List Player → List Cache → List CacheTotals

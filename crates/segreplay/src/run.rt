@@ -12,7 +12,7 @@ use crate::player::{Player, Turn};
 use crate::reading::{Reading, Rules};
 use crate::totals::{CacheTotals, totals_of};
 use segscript::Source;
-use segword::{Shape, Value};
+use segword::{Shape, VALUE_BYTES, Value};
 use std::alloc::{AllocError, Global};
 use std::thread::{Threads, for_each_mut};
 
@@ -26,7 +26,7 @@ const BATCH: usize = 16_384;
 #[derive(Clone, Copy, Debug)]
 pub struct Plan<'p> {
     pub form: Form,
-    /// How many bytes each value has, at most 32.
+    /// How many bytes each value has, at most `VALUE_BYTES`.
     pub value_bytes: usize,
     /// How many commands are left out of the counts.
     pub warm: u64,
@@ -54,8 +54,8 @@ pub struct Replayed {
 fn value_of(bytes: usize) -> Value
     ensures { result ≡ value_of bytes }
 {
-    let zeros = [0u8; 32];
-    match Value::new(&zeros[..bytes.min(32)]) {
+    let zeros = [0u8; VALUE_BYTES];
+    match Value::new(&zeros[..bytes.min(VALUE_BYTES)]) {
         Some(value) => value,
         None => unreachable!(),
     }

@@ -1,14 +1,17 @@
 -- A pass that only looks: looks add up, and what it may read stays as it is.
-use Rattle.std.proofs.Common.{◌≡◌, ℕ, ◌<◌, List, [], ◌∷◌, ◌++◌, get_or, refl, sym, ap, ◌∙◌, subst, append_assoc, arith}
+use Rattle.std.proofs.Common.{◌≡◌, ℕ, zero, suc, ◌+◌, ◌<◌, List, [], ◌∷◌, ◌++◌, length, take, drop, get_or, refl, sym, ap, ◌∙◌, subst, append_assoc, arith}
+use Rattle.std.proofs.lemmas.Grind.{same_number_lists}
+use Rattle.std.proofs.lemmas.List.{get_or-drop, get_or-take}
 use Rattle.std.specs.Prelude.{slice_index}
 use Rattle.segcore.specs.Words.{IsLawful, May, MayRead, NoneBy, Row, row_after, row_load}
-use Rattle.segword.specs.Words.{row_of}
+use Rattle.segword.specs.Words.{head_width, row_of, row_width, value_width}
+use Rattle.segword.proofs.RowLemmas.{length-row_of, length-words_from}
 use Rattle.segcore.proofs.Readable.{read_row, may_read}
 use Rattle.segcore.proofs.Moments.{none_both}
 use Rattle.segbase.specs.declared.place.RowPlace.{RowPlace}
-use Rattle.segbase.specs.Words.{AddsAtOnce, Board, number, Pass, Stepped, trace}
-use Rattle.segbase.proofs.Moves.{moved_then}
-use Rattle.segstore.specs.Reading.{OnlyLooks, IsReadable, ReadsRow, four_words}
+use Rattle.segbase.specs.Words.{AddsAtOnce, Board, IsPassOf, number, Pass, Stepped, trace}
+use Rattle.segbase.proofs.Moves.{moved_then, stays}
+use Rattle.segstore.specs.Reading.{OnlyLooks, IsReadable, ReadsRow, words_at}
 
 -- ---- looks, one after another
 
@@ -51,7 +54,7 @@ loaded b p q s r w found may st = record {
   same = same_row b p q s r st.did may;
 }
 
-pub may_load : (b : Board) (p : Pass) (s r w : ℕ) → IsReadable b p s r → w < 8 → May b.shape (trace p) (number p) (row_load s r w)
+pub may_load : (b : Board) (p : Pass) (s r w : ℕ) → IsReadable b p s r → w < row_width → May b.shape (trace p) (number p) (row_load s r w)
 may_load b p s r w may lt = (may.0, may.1, lt, may.2)
 
 -- a word that was read before
@@ -65,26 +68,43 @@ same_readable b p at s r is may = subst (λ t. IsReadable b p t at.row) (sym is.
 pub same_reads : (b : Board) (p q : Pass) (at : RowPlace) (s r : ℕ) → (at.segment ≡ s) × (at.row ≡ r) → ReadsRow b p q at.segment at.row → ReadsRow b p q s r
 same_reads b p q at s r is reads = subst (λ t. ReadsRow b p q t r) is.0 (subst (ReadsRow b p q at.segment) is.1 reads)
 
-pub same_words : (b : Board) (q : Pass) (at : RowPlace) (s r from : ℕ) (words : List ℕ) → (at.segment ≡ s) × (at.row ≡ r) → words ≡ four_words (row_after (trace q) at.segment at.row).words from → words ≡ four_words (row_after (trace q) s r).words from
-same_words b q at s r from words is these = subst (λ t. words ≡ four_words (row_after (trace q) t r).words from) is.0 (subst (λ n. words ≡ four_words (row_after (trace q) at.segment n).words from) is.1 these)
+pub same_words : (b : Board) (q : Pass) (at : RowPlace) (s r from count : ℕ) (words : List ℕ) → (at.segment ≡ s) × (at.row ≡ r) → words ≡ words_at (row_after (trace q) at.segment at.row).words from count → words ≡ words_at (row_after (trace q) s r).words from count
+same_words b q at s r from count words is these = subst (λ t. words ≡ words_at (row_after (trace q) t r).words from count) is.0 (subst (λ n. words ≡ words_at (row_after (trace q) at.segment n).words from count) is.1 these)
 
-pub whole_row : (words : ℕ → ℕ) (key value : List ℕ) → ((place : ℕ) → place < 8 → words place ≡ slice_index (row_of key value) place) → row_of key value ≡ four_words words 0 ++ four_words words 4
-whole_row words key value holds = rw (
-  holds 0 (omega arith),
-  holds 1 (omega arith),
-  holds 2 (omega arith),
-  holds 3 (omega arith),
-  holds 4 (omega arith),
-  holds 5 (omega arith),
-  holds 6 (omega arith),
-  holds 7 (omega arith),
-) refl
+-- a pass that has read no word yet
+pub reads_nothing : (b : Board) (p : Pass) (s r : ℕ) → IsPassOf b p → IsReadable b p s r → ReadsRow b p p s r
+reads_nothing b p s r is may = record {
+  looked = record { did = record { moved = stays b p is; others = []; none = tt; before = is.lawful; now = refl }; plain = refl; memo = refl };
+  readable = may;
+  same = refl;
+}
 
--- the words of two halves, where these are a row's, are those of its pair
-pub copied : (first last : List ℕ) (words : ℕ → ℕ) (key value : List ℕ) → first ≡ four_words words 0 → last ≡ four_words words 4
-    → ((place : ℕ) → place < 8 → words place ≡ slice_index (row_of key value) place) → (place : ℕ)
-    → slice_index (get_or first 0 0 ∷ get_or first 1 0 ∷ get_or first 2 0 ∷ get_or first 3 0 ∷ get_or last 0 0 ∷ get_or last 1 0 ∷ get_or last 2 0 ∷ get_or last 3 0 ∷ []) place
-    ≡ slice_index (row_of key value) place
-copied first last words key value begins ends holds place =
-    (λ i. slice_index (get_or (begins i) 0 0 ∷ get_or (begins i) 1 0 ∷ get_or (begins i) 2 0 ∷ get_or (begins i) 3 0 ∷ get_or (ends i) 0 0 ∷ get_or (ends i) 1 0 ∷ get_or (ends i) 2 0 ∷ get_or (ends i) 3 0 ∷ []) place)
-    ∙ ap (λ (row : List ℕ). slice_index row place) (sym (whole_row words key value holds))
+-- ---- words in a row
+
+pub length-words_at : (words : ℕ → ℕ) (from count : ℕ) → length (words_at words from count) ≡ count
+length-words_at words from zero = refl
+length-words_at words from (suc count) = ap suc (length-words_at words (from + 1) count)
+
+pub get_or-words_at : (words : ℕ → ℕ) (from count k : ℕ) → k < count → get_or (words_at words from count) k 0 ≡ words (from + k)
+get_or-words_at words from zero k lt = absurd (omega arith)
+get_or-words_at words from (suc count) zero lt = ap words (omega arith)
+get_or-words_at words from (suc count) (suc k) lt = get_or-words_at words (from + 1) count k (omega arith) ∙ ap words (omega arith)
+
+-- words that were read one by one
+pub are_words : (found : List ℕ) (words : ℕ → ℕ) (from count : ℕ) → length found ≡ count → ((k : ℕ) → k < count → get_or found k 0 ≡ words (from + k)) → found ≡ words_at words from count
+are_words found words from count long each =
+    same_number_lists found (words_at words from count) (long ∙ sym (length-words_at words from count))
+    (λ k lt. let less : k < count = omega (arith, lt, long) in each k less ∙ sym (get_or-words_at words from count k less))
+
+-- the words of a row that holds a pair: all, those with the key, and those with the value
+module _ (words : ℕ → ℕ) (key value : List ℕ) (holds : (place : ℕ) → place < row_width → words place ≡ slice_index (row_of key value) place) where
+  pub whole_row : row_of key value ≡ words_at words 0 row_width
+  whole_row = are_words (row_of key value) words 0 row_width (length-row_of key value) (λ k lt. sym (holds k lt) ∙ ap words (omega arith))
+
+  pub head_words : take 4 (row_of key value) ≡ words_at words 0 head_width
+  head_words = are_words (take 4 (row_of key value)) words 0 head_width refl
+      (λ k lt. get_or-take 4 (row_of key value) k 0 lt ∙ (sym (holds k (omega (arith, lt))) ∙ ap words (omega arith)))
+
+  pub value_words : drop 4 (row_of key value) ≡ words_at words 4 value_width
+  value_words = are_words (drop 4 (row_of key value)) words 4 value_width (length-words_from value_width value 0)
+      (λ k lt. get_or-drop 4 (row_of key value) k 0 ∙ sym (holds (4 + k) (omega (arith, lt))))

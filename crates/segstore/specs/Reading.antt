@@ -1,5 +1,5 @@
 -- What a pass reads of a row, and what the pass does by that.
-use Rattle.std.specs.Prelude.{◌≡◌, ℕ, ◌+◌, ◌<◌, List, [], ◌∷◌}
+use Rattle.std.specs.Prelude.{◌≡◌, ℕ, zero, suc, ◌+◌, ◌<◌, List, [], ◌∷◌}
 use Rattle.segcore.specs.Words.{IsSegment, MayRead, row_after}
 use Rattle.segcore.specs.declared.event.Event.TheVariants.{Entered, Left}
 use Rattle.segbase.specs.Words.{AddsAtOnce, AddsEvents, Board, number, Pass, Reads, ReadsIn, sight}
@@ -24,9 +24,10 @@ pub record ReadsRow (b : Board) (p q : Pass) (segment row : ℕ) : Type 0 where
   pub readable : IsReadable b q segment row
   pub same : row_after (trace q) segment row ≡ row_after (trace p) segment row
 
--- four words in a row, from a place on
-abbrev pub four_words : (ℕ → ℕ) → ℕ → List ℕ
-four_words words from = words from ∷ words (from + 1) ∷ words (from + 2) ∷ words (from + 3) ∷ []
+-- so many words of a row, from a place on
+abbrev pub words_at : (ℕ → ℕ) → ℕ → ℕ → List ℕ
+words_at words from zero = []
+words_at words from (suc count) = words from ∷ words_at words (from + 1) count
 
 -- ---- coming into segments, and leaving them
 

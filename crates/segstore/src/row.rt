@@ -1,12 +1,12 @@
 //! Rows that a pass may read, word by word.
-ghost use Rattle.std.specs.Prelude.{◌≡◌, ℕ, ◌≤◌, ◌↔◌, List, IfSome, IsSome, Some};
+ghost use Rattle.std.specs.Prelude.{◌≡◌, ℕ, ◌+◌, ◌≤◌, ◌↔◌, List, IfSome, IsSome, Some};
 ghost use Rattle.segword.specs.Words.{IsKey, IsValue};
 ghost use Rattle.segcore.specs.Words.{Holds, row_after};
 ghost use Rattle.segbase.specs.Words.{IsPassOf, trace};
-ghost use Rattle.segstore.specs.Reading.{IsReadable, ReadsRow, four_words};
+ghost use Rattle.segstore.specs.Reading.{IsReadable, ReadsRow, words_at};
 
 use segbase::{Board, Pass};
-use segword::{Key, KeyWords, Value, read_key, read_row, read_value};
+use segword::{HEAD_WORDS, Key, KeyWords, ROW_WORDS, Value, read_key, read_row, read_value};
 
 /// A row of a segment.
 #[derive(Clone, Copy, Debug, PartialEq, Eq)]
@@ -15,33 +15,34 @@ pub struct RowRef {
     pub row: u32,
 }
 
-// The first of the four words of a row that have the value. Those before have the lengths and the key.
-pub(crate) const VALUE_WORD: u8 = 4;
+// The first of the words of a row that have the value. Those before have the lengths and the key.
+pub(crate) const VALUE_WORD: u8 = HEAD_WORDS as u8;
 
-// Four words of a row.
-pub(crate) fn load_words(
+// So many words of a row, from a place on.
+#[inline(always)]
+pub(crate) fn load_words<const N: usize>(
     board: &Board,
     pass: &mut Pass,
     segment: u32,
     row: u32,
     from: u8,
-) -> [u64; 4]
+) -> [u64; N]
     requires pass { IsPassOf board.now pass.old }
     requires readable { IsReadable board.now pass.old segment row }
-    requires from { from ≤ VALUE_WORD }
+    requires fits { from + N ≤ ROW_WORDS }
     ensures reads { ReadsRow board.now pass.old pass.new segment row }
-    ensures words { result ≡ four_words (row_after (trace pass.new) segment row).words from }
+    ensures words { result ≡ words_at (row_after (trace pass.new) segment row).words from N }
 {
     let at = board.row_at(segment, row);
-    let first = board.row_load_at(pass, at, from);
-    let second = board.row_load_at(pass, at, from + 1);
-    let third = board.row_load_at(pass, at, from + 2);
-    let fourth = board.row_load_at(pass, at, from + 3);
-    [first, second, third, fourth]
+    let mut words = [0; N];
+    for place in 0..N as u8 {
+        words[place as usize] = board.row_load_at(pass, at, from + place);
+    }
+    words
 }
 
 /// Word 0 of a row, if the row is one of the key:
-/// its first four words are compared with the key's.
+/// its first words are compared with the key's.
 #[inline(always)]
 pub fn row_of_key(
     board: &Board,
@@ -99,7 +100,5 @@ pub fn pair_of_row(board: &Board, pass: &mut Pass, segment: u32, row: u32) -> Op
     ensures pair { (key value : List ℕ) → IsKey key → IsValue value
         → Holds (row_after (trace pass.new) segment row) key value → result ≡ Some (key, value) }
 {
-    let [header, first, second, third] = load_words(board, pass, segment, row, 0);
-    let [fourth, fifth, sixth, seventh] = load_words(board, pass, segment, row, VALUE_WORD);
-    read_row(&[header, first, second, third, fourth, fifth, sixth, seventh])
+    read_row(&load_words(board, pass, segment, row, 0))
 }

@@ -9,7 +9,7 @@ ghost use Rattle.segstore.specs.Rows.{FillsRow, StoresRow};
 ghost use Rattle.segstore.specs.Segments.{KeepsSegments, has_room};
 
 use crate::room::{NoRoom, next_row};
-use crate::row::{RowRef, VALUE_WORD, load_words};
+use crate::row::{RowRef, load_words};
 use segbase::{Board, Pass, RowPlace};
 use segword::{Key, KeyWords, ROW_WORDS, Value};
 
@@ -66,19 +66,11 @@ pub fn copy_row(board: &Board, pass: &mut Pass, from: RowRef, to: RowRef)
     ensures plain { pass.new.plain ≡ pass.old.plain }
     ensures memo { (sight pass.new).memo ≡ (sight pass.old).memo }
 {
-    let [header, first, second, third] = load_words(board, pass, from.segment, from.row, 0);
-    let [fourth, fifth, sixth, seventh] = load_words(
-        board,
-        pass,
-        from.segment,
-        from.row,
-        VALUE_WORD,
-    );
-    let words = [header, first, second, third, fourth, fifth, sixth, seventh];
+    let words = load_words(board, pass, from.segment, from.row, 0);
     store_words(board, pass, to.segment, to.row, &words);
 }
 
-// Makes a row of the pass's own, that no item named in this filling, have these eight words.
+// Makes a row of the pass's own, that no item named in this filling, have these words.
 #[inline(always)]
 fn store_words(board: &Board, pass: &mut Pass, segment: u32, row: u32, words: &[u64; ROW_WORDS])
     requires pass { IsPassOf board.now pass.old }

@@ -5,6 +5,7 @@ use Rattle.std.proofs.lemmas.Bool.{cases_lt}
 use Rattle.std.proofs.lemmas.Grind.{div_ceil_times}
 use Rattle.std.proofs.Math.Nat.{mul-le-mul_left, mul-le-mul_right}
 use Rattle.std.proofs.lemmas.Nat.{mul-le}
+use Rattle.segword.specs.declared.row.TheConstants.{ROW_WORDS}
 use Rattle.segword.specs.Shape.{HasRoomFor, IsValid}
 use Rattle.segword.specs.declared.shape.Shape.{Shape}
 
@@ -71,11 +72,11 @@ module _ (keys passes near each segments rows : ℕ) (few : keys ≤ 425984) (in
       small (inr fits) under = fits
 
   -- each pass has a bounded part of the table
-  part_fits : passes * segments * (1 + 8 * rows) ≤ 8000000
+  part_fits : passes * segments * (1 + ROW_WORDS * rows) ≤ 66000000
   part_fits =
       let counts : passes * segments ≤ 64 * 209 = mul-le passes segments 64 209 in_range.1 segments_fit.1 in
       let table : passes * (rows * segments) ≤ passes * (each + segments) = mul-le-mul_left passes (omega (arith, rows_fit.1)) in
-      let spread : passes * segments * (1 + 8 * rows) ≡ passes * segments + 8 * (passes * (rows * segments)) = omega arith in
+      let spread : passes * segments * (1 + ROW_WORDS * rows) ≡ passes * segments + ROW_WORDS * (passes * (rows * segments)) = omega arith in
       let apart : passes * (each + segments) ≡ each * passes + passes * segments = omega arith in
       omega (arith, each_fits.1)
 

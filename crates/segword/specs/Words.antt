@@ -1,4 +1,7 @@
 -- The words of this crate that others use, from one place.
+use Rattle.std.specs.Prelude.{ℕ}
+use Rattle.segword.specs.declared.row.TheConstants.{HEAD_WORDS, ROW_WORDS}
+use Rattle.segword.specs.declared.value.TheConstants.{VALUE_BYTES, VALUE_WORDS}
 pub use Rattle.segword.specs.Bytes.{IsKey, IsValue}
 pub use Rattle.segword.specs.ChainWord.{chain_word, IsChainWord}
 pub use Rattle.segword.specs.Fnv.{hash_of, tag_from_hash, with_byte}
@@ -32,3 +35,17 @@ SegmentWord = declared_segment.SegmentWord
 
 abbrev pub Shape : Type 0
 Shape = declared_shape.Shape
+
+-- How many words a row has, and how many of them come before the value's and have the value;
+-- and how many bytes a value has at most.
+abbrev pub row_width : ℕ
+row_width = ROW_WORDS
+
+abbrev pub head_width : ℕ
+head_width = HEAD_WORDS
+
+abbrev pub value_width : ℕ
+value_width = VALUE_WORDS
+
+abbrev pub value_limit : ℕ
+value_limit = VALUE_BYTES

@@ -4,7 +4,8 @@ ghost use Rattle.segword.specs.Bytes.{IsKey, IsValue};
 ghost use Rattle.segword.specs.Row.{row_of};
 ghost use Rattle.segword.specs.KeyWords.{key_words, key_part};
 
-use crate::row::ROW_WORDS;
+use crate::row::{HEAD_WORDS, ROW_WORDS};
+use crate::value::VALUE_WORDS;
 use crate::words::words_of;
 use crate::{Key, Value};
 use std::marker::Model;
@@ -14,7 +15,7 @@ use std::marker::Model;
 /// Contracts see it as the list of the key's bytes.
 #[derive(Clone, Copy, Debug)]
 pub struct KeyWords {
-    words: [u64; 4],
+    words: [u64; HEAD_WORDS],
 }
 
 impl Model for KeyWords {
@@ -47,7 +48,7 @@ impl KeyWords {
     }
 
     /// Whether a row that begins with these four words is one of this key.
-    pub fn begins(&self, words: &[u64; 4]) -> bool
+    pub fn begins(&self, words: &[u64; HEAD_WORDS]) -> bool
         ensures value { IsTrue result ↔ (key_part words.now ≡ key_words self.now) }
         ensures same_key { (key value : List ℕ) → IsKey key → IsValue value
             → take 4 (row_of key value) ≡ words.now → IsTrue result ↔ (key ≡ self.now) }
@@ -56,15 +57,17 @@ impl KeyWords {
         [header & 0xff, first, second, third] == self.words
     }
 
-    /// The eight words of this key and a value.
+    /// The words of this key and a value.
     pub fn row(&self, value: &Value) -> [u64; ROW_WORDS]
         ensures row { result ≡ row_of self.now value.now }
         ensures valid { IsValue value.now }
     {
         let bytes = value.as_bytes();
         let [length, first, second, third] = self.words;
-        let [fourth, fifth, sixth, seventh] = words_of::<4>(bytes);
         let header = (bytes.len() as u64) << 8 | length;
-        [header, first, second, third, fourth, fifth, sixth, seventh]
+        let mut row = [0; ROW_WORDS];
+        row[..HEAD_WORDS].copy_from_slice(&[header, first, second, third]);
+        row[HEAD_WORDS..].copy_from_slice(&words_of::<VALUE_WORDS>(bytes));
+        row
     }
 }

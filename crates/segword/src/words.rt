@@ -6,7 +6,7 @@ ghost use Rattle.segword.specs.RowLayout.{IsZeroFrom};
 // The first `N` words of these bytes. Missing bytes count as 0.
 #[inline(always)]
 pub(crate) fn words_of<const N: usize>(bytes: &[u8]) -> [u64; N]
-    requires { N ≤ 4 }
+    requires { N ≤ 512 }
     ensures { result ≡ words_from N bytes.now 0 }
 {
     let mut words = [0; N];

@@ -3,7 +3,7 @@ use Rattle.std.proofs.Common.{◌≡◌, ℕ, zero, suc, false, List, [], ◌∷
 use Rattle.std.proofs.lemmas.List.{get_or-replicate, length-replicate}
 use mathlib.Core.Option.{some, some-injective, some-ne-none}
 use lib.ListN.{get_elem?}
-use Rattle.segword.specs.Words.{IsValid}
+use Rattle.segword.specs.Words.{IsValid, word_count}
 use Rattle.segcore.specs.declared.event.Event.TheVariants.{Took}
 use Rattle.segcore.specs.Words.{Cell, View}
 use Rattle.segcore.specs.declared.cell.Cell.TheVariants.{OfCounter, OfBucket, OfOverflow, OfSegment, OfRow}
@@ -36,8 +36,8 @@ opens : IsOpening shape opening
 opens = record {
   valid = valid;
   untouched = refl;
-  long = length-replicate {A = ℕ} 85 0;
-  each = λ c i. get_or-replicate {A = ℕ} 85 (address shape c) 0 0 (in_count shape c i) ∙ sym (start_word c);
+  long = length-replicate {A = ℕ} (word_count shape) 0;
+  each = λ c i. get_or-replicate {A = ℕ} (word_count shape) (address shape c) 0 0 (in_count shape c i) ∙ sym (start_word c);
   new = first_view;
 }
 

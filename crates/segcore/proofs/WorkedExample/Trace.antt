@@ -1,6 +1,9 @@
 -- The example is lawful: no rule on the way contradicts another.
-use Rattle.std.proofs.Common.{◌≡◌, ℕ, zero, suc, ◌<◌, Bool, true, false, List, [], ◌∷◌, Some, None, refl, ◌∙◌, inl, inr, arith, length, get_or}
-use Rattle.segword.specs.Words.{IsKey, IsValue}
+use Rattle.std.proofs.Common.{◌≡◌, ℕ, zero, suc, ◌+◌, ◌*◌, ◌<◌, ◌≤◌, cond, eqb, sym, Bool, true, false, List, [], ◌∷◌, Some, None, refl, ◌∙◌, inl, inr, arith, length, get_or}
+use Rattle.std.proofs.lemmas.Bool.{cond-false, ne_eqb}
+use Rattle.segword.specs.Words.{IsKey, IsValue, row_width, value_width}
+use Rattle.segword.specs.Row.{word_at, words_from}
+use Rattle.segword.proofs.RowLemmas.{get_or-words_from}
 use Rattle.segcore.specs.Words.{Event}
 use Rattle.segcore.specs.declared.event.Event.TheVariants.{Took, Bounced, Glanced, Freed, Filled, Relinked}
 use Rattle.segcore.specs.Bucket.{slot, bucket_after}
@@ -20,17 +23,32 @@ is_key x lt = record { not_empty = omega arith; fits = omega arith; all_bytes = 
 is_value : (x : ℕ) → x < 256 → IsValue (x ∷ [])
 is_value x lt = record { fits = omega arith; all_bytes = small x lt }
 
+-- the words of one byte, past the first
+past_value : (v n : ℕ) → suc n < value_width → get_or (words_from value_width (v ∷ []) 0) (suc n) 0 ≡ 0
+past_value v n lt = get_or-words_from value_width (v ∷ []) 0 (suc n) lt ∙ none (0 + 8 * suc n) (omega arith)
+  where
+    none : (from : ℕ) → 1 ≤ from → word_at (v ∷ []) from ≡ 0
+    none zero lt = absurd (omega arith)
+    none (suc from) lt = nothing from
+      where
+        nothing : (from : ℕ) → word_at [] from ≡ 0
+        nothing zero = refl
+        nothing (suc from) = refl
+
+-- the places that were stored are none of those behind
+past_stored : (header key value n : ℕ) → cond (eqb 4 (suc (suc (suc (suc (suc n)))))) value (cond (eqb 1 (suc (suc (suc (suc (suc n)))))) key (cond (eqb 0 (suc (suc (suc (suc (suc n)))))) header 0)) ≡ 0
+past_stored header key value n =
+    let m : ℕ = suc (suc (suc (suc (suc n)))) in
+    cond-false (eqb 4 m) value _ (ne_eqb 4 m (λ e. omega (arith, e))) ∙ cond-false (eqb 1 m) key _ (ne_eqb 1 m (λ e. omega (arith, e))) ∙ cond-false (eqb 0 m) header 0 (ne_eqb 0 m (λ e. omega (arith, e)))
+
 -- a row of one byte of key and one of value
-holds : (u : Row) (k v : ℕ) → u.words 0 ≡ 257 → u.words 1 ≡ k → u.words 2 ≡ 0 → u.words 3 ≡ 0 → u.words 4 ≡ v → u.words 5 ≡ 0 → u.words 6 ≡ 0 → u.words 7 ≡ 0 → Holds u (k ∷ []) (v ∷ [])
-holds u k v e0 e1 e2 e3 e4 e5 e6 e7 zero lt = e0
-holds u k v e0 e1 e2 e3 e4 e5 e6 e7 (suc zero) lt = e1 ∙ omega arith
-holds u k v e0 e1 e2 e3 e4 e5 e6 e7 (suc (suc zero)) lt = e2
-holds u k v e0 e1 e2 e3 e4 e5 e6 e7 (suc (suc (suc zero))) lt = e3
-holds u k v e0 e1 e2 e3 e4 e5 e6 e7 (suc (suc (suc (suc zero)))) lt = e4 ∙ omega arith
-holds u k v e0 e1 e2 e3 e4 e5 e6 e7 (suc (suc (suc (suc (suc zero))))) lt = e5
-holds u k v e0 e1 e2 e3 e4 e5 e6 e7 (suc (suc (suc (suc (suc (suc zero)))))) lt = e6
-holds u k v e0 e1 e2 e3 e4 e5 e6 e7 (suc (suc (suc (suc (suc (suc (suc zero))))))) lt = e7
-holds u k v e0 e1 e2 e3 e4 e5 e6 e7 (suc (suc (suc (suc (suc (suc (suc (suc n)))))))) lt = absurd (omega arith)
+holds : (u : Row) (k v : ℕ) → u.words 0 ≡ 257 → u.words 1 ≡ k → u.words 2 ≡ 0 → u.words 3 ≡ 0 → u.words 4 ≡ v → ((n : ℕ) → u.words (suc (suc (suc (suc (suc n))))) ≡ 0) → Holds u (k ∷ []) (v ∷ [])
+holds u k v e0 e1 e2 e3 e4 past zero lt = e0
+holds u k v e0 e1 e2 e3 e4 past (suc zero) lt = e1 ∙ omega arith
+holds u k v e0 e1 e2 e3 e4 past (suc (suc zero)) lt = e2
+holds u k v e0 e1 e2 e3 e4 past (suc (suc (suc zero))) lt = e3
+holds u k v e0 e1 e2 e3 e4 past (suc (suc (suc (suc zero)))) lt = e4 ∙ omega arith
+holds u k v e0 e1 e2 e3 e4 past (suc (suc (suc (suc (suc n))))) lt = past n ∙ sym (past_value v n (omega arith))
 
 -- ---- events that ask for little
 
@@ -40,7 +58,7 @@ took h p none = record { guarded = (omega arith, none); follows = tt; suits = tt
 pub freed : (h : List Event) (p : ℕ) (c : Bool) → (bucket_after shape h 0).holder ≡ Some p → (bucket_after shape h 0).written ≡ c → (bucket_after shape h 0).spare ≡ None → Fits shape h (Freed p 0 c)
 freed h p c has w sp = record { guarded = (omega arith, has); follows = tt; suits = (w, sp) }
 
-pub filled : (h : List Event) (p s r j w : ℕ) → IsOwnRow shape h p s r → j < 8 → Fits shape h (Filled p s r j w)
+pub filled : (h : List Event) (p s r j w : ℕ) → IsOwnRow shape h p s r → j < row_width → Fits shape h (Filled p s r j w)
 filled h p s r j w own lt = record { guarded = tt; follows = tt; suits = (own, lt) }
 
 -- ---- the trace
@@ -69,7 +87,7 @@ stored_first = (
       follows = (refl, refl);
       suits = (
         (omega arith, omega arith, refl, refl),
-        holds (row_after (Filled 0 0 0 4 49 ∷ Filled 0 0 0 1 97 ∷ Filled 0 0 0 0 257 ∷ Took 0 0 ∷ opened) 0 0) 97 49 refl refl refl refl refl refl refl refl,
+        holds (row_after (Filled 0 0 0 4 49 ∷ Filled 0 0 0 1 97 ∷ Filled 0 0 0 0 257 ∷ Took 0 0 ∷ opened) 0 0) 97 49 refl refl refl refl refl (past_stored 257 97 49),
         refl,
         (omega arith, omega arith),
         inl (refl, refl),
@@ -129,7 +147,7 @@ added_next = (
       follows = (refl, refl);
       suits = (
         (omega arith, omega arith, refl, refl),
-        holds (row_after (Filled 1 2 0 4 50 ∷ Filled 1 2 0 1 98 ∷ Filled 1 2 0 0 257 ∷ Glanced 0 0 ∷ Bounced 0 0 ∷ Took 1 0 ∷ moved) 2 0) 98 50 refl refl refl refl refl refl refl refl,
+        holds (row_after (Filled 1 2 0 4 50 ∷ Filled 1 2 0 1 98 ∷ Filled 1 2 0 0 257 ∷ Glanced 0 0 ∷ Bounced 0 0 ∷ Took 1 0 ∷ moved) 2 0) 98 50 refl refl refl refl refl (past_stored 257 98 50),
         refl,
         (omega arith, omega arith),
         inl (refl, refl),
@@ -165,7 +183,7 @@ replaced_next = (
       follows = (refl, refl);
       suits = (
         (omega arith, omega arith, refl, refl),
-        holds (row_after (Filled 0 0 1 4 50 ∷ Filled 0 0 1 1 97 ∷ Filled 0 0 1 0 257 ∷ Took 0 0 ∷ refused) 0 1) 97 50 refl refl refl refl refl refl refl refl,
+        holds (row_after (Filled 0 0 1 4 50 ∷ Filled 0 0 1 1 97 ∷ Filled 0 0 1 0 257 ∷ Took 0 0 ∷ refused) 0 1) 97 50 refl refl refl refl refl (past_stored 257 97 50),
         refl,
         (omega arith, omega arith),
         inr (slot a 0 0, refl, refl),
@@ -184,7 +202,7 @@ move_fits = record {
   follows = (refl, refl, refl, (λ e. absurd (omega arith)), refl);
   suits = (
     (omega arith, omega arith, refl, refl),
-    (two, refl, holds (row_after (Filled 0 1 0 4 50 ∷ Filled 0 1 0 1 97 ∷ Filled 0 1 0 0 257 ∷ Took 0 0 ∷ replaced) 1 0) 97 50 refl refl refl refl refl refl refl refl),
+    (two, refl, holds (row_after (Filled 0 1 0 4 50 ∷ Filled 0 1 0 1 97 ∷ Filled 0 1 0 0 257 ∷ Took 0 0 ∷ replaced) 1 0) 97 50 refl refl refl refl refl (past_stored 257 97 50)),
     refl,
   );
 }
@@ -213,7 +231,7 @@ relinked_next = (
       follows = (refl, refl, refl, (λ e. absurd (omega arith)), refl);
       suits = (
         (omega arith, omega arith, refl, refl),
-        (two, refl, holds (row_after (Filled 0 1 0 4 50 ∷ Filled 0 1 0 1 97 ∷ Filled 0 1 0 0 257 ∷ Took 0 0 ∷ replaced) 1 0) 97 50 refl refl refl refl refl refl refl refl),
+        (two, refl, holds (row_after (Filled 0 1 0 4 50 ∷ Filled 0 1 0 1 97 ∷ Filled 0 1 0 0 257 ∷ Took 0 0 ∷ replaced) 1 0) 97 50 refl refl refl refl refl (past_stored 257 97 50)),
         refl,
       );
     },
