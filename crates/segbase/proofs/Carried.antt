@@ -12,7 +12,7 @@ use Rattle.segmodel.specs.Words.{AreOne, Begins}
 use Rattle.segcore.specs.Words.{AllBy, Event, IsLawful, May, row_load, View}
 use Rattle.segbase.specs.Words.{Board, Memo, Pass}
 use Rattle.segbase.specs.declared.law.Sight.{Sight}
-use Rattle.segbase.specs.declared.pass.Plain.{Plain}
+use Rattle.segbase.specs.declared.pass.PlainPart.{PlainPart}
 use Rattle.segbase.specs.Minding.{Minds}
 use Rattle.segbase.specs.Passes.{sight, view, number, trace, IsPassOf, IsMemo}
 use Rattle.segbase.specs.Ruled.{AreApart, AreViews, Rule, IsSight, witness, spent, meets, minding}
@@ -146,9 +146,9 @@ same_pass b p q is table bare same pass minds plain =
       one_of = rw of is.one_of;
       alone = λ one. subst (λ (v : View). AllBy v.number v.trace) (sym same) (is.alone one);
       minds = subst (λ (v : View). Minds b.shape v.trace v.number (sight q).memo) (sym same) minds;
-      numbered = ap (λ (x : Plain). x.number) plain ∙ (is.numbered ∙ sym of);
-      first = ap (λ (x : Plain). x.first) plain ∙ (is.first ∙ ap (λ n. n * b.shape.segments_each) (sym of));
-      owns = ap (λ (x : Plain). length x.segments.items) plain ∙ is.owns;
+      numbered = ap (λ (x : PlainPart). x.number) plain ∙ (is.numbered ∙ sym of);
+      first = ap (λ (x : PlainPart). x.first) plain ∙ (is.first ∙ ap (λ n. n * b.shape.segments_each) (sym of));
+      owns = ap (λ (x : PlainPart). length x.segments.items) plain ∙ is.owns;
     }
 
 -- one that was told of another

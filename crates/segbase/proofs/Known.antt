@@ -5,8 +5,8 @@ use Rattle.std.proofs.lemmas.Option.{none-some, get_or_from_slice_get}
 use Rattle.std.specs.Global.{Vec}
 use Rattle.segmodel.specs.Words.{SegState}
 use Rattle.segbase.specs.Words.{OwnSegment}
-use Rattle.segbase.specs.declared.pass.Plain.{Plain}
-use Rattle.segbase.specs.Plain.{own_segment, put_own, state_in, used_in, with_own, with_state, with_used, deadline_in, with_deadline}
+use Rattle.segbase.specs.declared.pass.PlainPart.{PlainPart}
+use Rattle.segbase.specs.PlainPart.{own_segment, put_own, state_in, used_in, with_own, with_state, with_used, deadline_in, with_deadline}
 use Rattle.segbase.proofs.Owned.{owner_of}
 
 -- ---- one place of a list
@@ -38,7 +38,7 @@ module _ (v : Vec OwnSegment) (i : ℕ) where
 
 -- ---- one segment
 
-module _ (x : Plain) (s : ℕ) where
+module _ (x : PlainPart) (s : ℕ) where
   abbrev at : ℕ
   at = s - x.first
 
@@ -100,7 +100,7 @@ counted used own = record own { used = used }
 abbrev pub lasting : ℕ → OwnSegment → OwnSegment
 lasting deadline own = record own { deadline = deadline }
 
-module _ (x : Plain) (s : ℕ) where
+module _ (x : PlainPart) (s : ℕ) where
   in_state : (state : SegState) (o : Option OwnSegment) → IsSome o → state_in (option_map (stated state) o) ≡ Some state
   in_state state None none = absurd (false≢true none)
   in_state state (Some own) there = refl

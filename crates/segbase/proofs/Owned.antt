@@ -5,16 +5,16 @@ use Rattle.std.proofs.lemmas.Nat.{div-mul-add}
 use Rattle.segmodel.specs.Words.{owner}
 use Rattle.segcore.specs.Words.{Event}
 use Rattle.segbase.specs.Words.{Board, OwnSegment, Pass}
-use Rattle.segbase.specs.declared.pass.Plain.{Plain}
-use Rattle.segbase.specs.Plain.{own_segment, state_in, state_of, used_in, deadline_in}
+use Rattle.segbase.specs.declared.pass.PlainPart.{PlainPart}
+use Rattle.segbase.specs.PlainPart.{own_segment, state_in, state_of, used_in, deadline_in}
 use Rattle.segbase.specs.Passes.{number, IsPassOf, AddsEvents}
 
 -- whose pass it is
-abbrev pub owner_of : Plain → ℕ × ℕ × ℕ
+abbrev pub owner_of : PlainPart → ℕ × ℕ × ℕ
 owner_of x = (x.number, x.first, length x.segments.items)
 
 -- a pass whose plain part alone changed, but not whose it is
-pub still_pass : (b : Board) (p : Pass) (x : Plain) → IsPassOf b p → owner_of x ≡ owner_of p.plain → IsPassOf b (record p { plain = x })
+pub still_pass : (b : Board) (p : Pass) (x : PlainPart) → IsPassOf b p → owner_of x ≡ owner_of p.plain → IsPassOf b (record p { plain = x })
 still_pass b p x is same = record {
   table = is.table;
   bare = is.bare;
@@ -29,7 +29,7 @@ still_pass b p x is same = record {
   owns = ap (λ o. o.2) same ∙ is.owns;
 }
 
-pub moved_still : (b : Board) (own : List Event) (p q : Pass) (x : Plain) → AddsEvents b own p q → owner_of x ≡ owner_of q.plain → AddsEvents b own p (record q { plain = x })
+pub moved_still : (b : Board) (own : List Event) (p q : Pass) (x : PlainPart) → AddsEvents b own p q → owner_of x ≡ owner_of q.plain → AddsEvents b own p (record q { plain = x })
 moved_still b own p q x m same = record { pass = still_pass b q x m.pass same; same = m.same; more = m.more; goes_on = m.goes_on; adds = m.adds; steps = m.steps; kept = m.kept }
 
 got_within : {A : Type 0} (l : List A) (i : ℕ) → is_some (slice_get l i) ≡ true → i < length l

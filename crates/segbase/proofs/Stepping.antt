@@ -6,7 +6,7 @@ use Rattle.segcore.proofs.Quiet.{quiet_inside}
 use Rattle.segcore.proofs.Entered.{no_refill}
 use Rattle.segcore.proofs.StepKinds.{keeps}
 use Rattle.segbase.specs.Words.{Board, Pass}
-use Rattle.segbase.specs.declared.pass.Plain.{Plain}
+use Rattle.segbase.specs.declared.pass.PlainPart.{PlainPart}
 use Rattle.segbase.specs.declared.place.Spot.{Spot}
 use Rattle.segbase.specs.Traces.{own_of, StaysIn}
 use Rattle.segbase.specs.Spots.{cell_of}
@@ -68,7 +68,7 @@ stepped b st spot f found p q can table learns plain =
       one_of = rw same is.one_of;
       alone = λ one. only_by b.shape.passes (number q) (trace q) one (rw same is.one_of) (subst (λ (z : Shape). (n : ℕ) → z.passes ≤ n → NoneBy n (trace q)) b.same learns.0.among);
       minds = subst (λ m. Minds b.shape (trace q) (number q) m) (sym learns.0.memo) (subst (λ n. Minds b.shape (trace q) n (sight p).memo) (sym same) (minded_on b.shape (trace p) (trace q) (number p) (sight p).memo (adds st (number p) found ++ told.more, ap (λ (v : View). v.trace) told.now ∙ sym (append_assoc (adds st (number p) found) told.more (trace p))) is.minds));
-      numbered = ap (λ (x : Plain). x.number) plain ∙ (is.numbered ∙ sym same);
-      first = ap (λ (x : Plain). x.first) plain ∙ (is.first ∙ ap (λ n. n * b.shape.segments_each) (sym same));
-      owns = ap (λ (x : Plain). length x.segments.items) plain ∙ is.owns;
+      numbered = ap (λ (x : PlainPart). x.number) plain ∙ (is.numbered ∙ sym same);
+      first = ap (λ (x : PlainPart). x.first) plain ∙ (is.first ∙ ap (λ n. n * b.shape.segments_each) (sym same));
+      owns = ap (λ (x : PlainPart). length x.segments.items) plain ∙ is.owns;
     } in record { told = told; did = record { moved = moved_by b p q st found is is' can.may told; others = told.more; none = told.others; before = told.before; now = ap (λ (v : View). v.trace) told.now }; plain = plain; memo = learns.0.memo; met = learns.0.met }

@@ -4,7 +4,7 @@ pub mod Minding
 pub mod Notes
 pub mod Opening
 pub mod Passes
-pub mod Plain
+pub mod PlainPart
 pub mod Props
 pub mod Ruled
 pub mod Spots

@@ -5,7 +5,7 @@ use Rattle.segmodel.specs.declared.answer.SegState.TheVariants.{Empty}
 use Rattle.segbase.specs.declared.fault.MakeFault.{MakeFault}
 use Rattle.segbase.specs.declared.fault.MakeFault.TheVariants as fault
 use Rattle.segbase.specs.declared.pass.OwnSegment.{OwnSegment}
-use Rattle.segbase.specs.declared.pass.Plain.{Plain}
+use Rattle.segbase.specs.declared.pass.PlainPart.{PlainPart}
 use Rattle.segbase.specs.declared.pass.Pass.{Pass}
 use Rattle.segbase.specs.declared.board.Board.{Board}
 use Rattle.segbase.specs.Passes.{number, trace, holding, locked, IsPassOf}
@@ -18,7 +18,7 @@ IsMakeFault shape fault.OutOfMemory = IsValid shape
 abbrev pub unfilled : OwnSegment
 unfilled = record { state = Empty; used = 0; deadline = 0 }
 
-pub record IsNewPlain (shape : Shape) (n : ℕ) (plain : Plain) : Type 0 where
+pub record IsNewPlain (shape : Shape) (n : ℕ) (plain : PlainPart) : Type 0 where
   pub number : plain.number ≡ n
   pub first : plain.first ≡ n * shape.segments_each
   pub segments : plain.segments.items ≡ replicate shape.segments_each unfilled

@@ -7,7 +7,7 @@ use crate::fault::MakeFault;
 use crate::law::{Deal, Law, Sight};
 use crate::layout::Layout;
 use crate::opening::opening_words;
-use crate::pass::{OwnSegment, Pass, Plain};
+use crate::pass::{OwnSegment, Pass, PlainPart};
 use atomic_table::{Seat, Table};
 use segmodel::SegState;
 use segword::Shape;
@@ -90,7 +90,7 @@ impl Board {
             deadline: 0,
         };
         let segments = vec![in alloc; unfilled; self.shape.segments_each as usize]?;
-        let plain = Plain {
+        let plain = PlainPart {
             number,
             first: number * self.shape.segments_each,
             segments,

@@ -15,7 +15,7 @@ pub(crate) struct OwnSegment {
 
 // What a pass knows by itself.
 #[derive(Drop)]
-pub(crate) struct Plain {
+pub(crate) struct PlainPart {
     pub(crate) number: u32,
     // The number of the pass's first segment.
     pub(crate) first: u32,
@@ -30,14 +30,14 @@ pub(crate) struct Plain {
 #[derive(Drop)]
 pub struct Pass {
     pub(crate) seat: Seat<(), Sight>,
-    pub(crate) plain: Plain,
+    pub(crate) plain: PlainPart,
 }
 
 impl Pass {
-    ghost use Rattle.segbase.specs.Plain.{number_of, current_of, state_of, used_of, deadline_of};
-    ghost use Rattle.segbase.specs.Plain.{locked_of, is_holding_of, own_segment};
-    ghost use Rattle.segbase.specs.Plain.{with_current, with_state, with_used, with_deadline};
-    ghost use Rattle.segbase.specs.Plain.{with_locked, with_holding};
+    ghost use Rattle.segbase.specs.PlainPart.{number_of, current_of, state_of, used_of, deadline_of};
+    ghost use Rattle.segbase.specs.PlainPart.{locked_of, is_holding_of, own_segment};
+    ghost use Rattle.segbase.specs.PlainPart.{with_current, with_state, with_used, with_deadline};
+    ghost use Rattle.segbase.specs.PlainPart.{with_locked, with_holding};
 
     /// The pass's number, below the number of passes.
     pub fn number(&self) -> u32

@@ -5,7 +5,7 @@ use Rattle.segmodel.specs.declared.answer.EvictAnswer.TheVariants as evict
 use Rattle.segmodel.specs.declared.answer.RefillAnswer.TheVariants as refill
 use Rattle.segmodel.specs.declared.answer.SegState.TheVariants.{Evicted}
 use Rattle.segmodel.specs.Words.{but_for, EvictAnswer, owner}
-use Rattle.segbase.specs.declared.pass.Plain.{Plain}
+use Rattle.segbase.specs.declared.pass.PlainPart.{PlainPart}
 use Rattle.segbase.specs.Words.{Board, current_of, deadline_in, deadline_of, number, own_segment, Pass, state_of, used_in, used_of}
 use Rattle.segbase.proofs.Known.{deadline_stated}
 use Rattle.segbase.proofs.Owned.{state_there}
@@ -38,9 +38,9 @@ pub refilled_room : (b : Board) (segment deadline : ℕ) (p q : Pass) → Refill
 refilled_room b segment deadline p q filled =
     let is = filled.answer in
     let there = sym (state_there (own_segment p.plain segment)) ∙ is.own in
-    let current : current_of q ≡ Some segment = ap (λ (x : Plain). x.current) is.plain in
+    let current : current_of q ≡ Some segment = ap (λ (x : PlainPart). x.current) is.plain in
     let one = filled.on.quiet.pass.valid.0.1.0 in
-    let used : used_of q segment ≡ Some 0 = ap (λ (x : Plain). used_in (own_segment x segment)) is.plain ∙ refilled_used p.plain segment deadline there in
+    let used : used_of q segment ≡ Some 0 = ap (λ (x : PlainPart). used_in (own_segment x segment)) is.plain ∙ refilled_used p.plain segment deadline there in
     ap (λ (o : Option ℕ). is_below b.shape.rows (option_and_then (used_of q) o)) current ∙ ap (is_below b.shape.rows) used ∙ lt-ltb 0 b.shape.rows (omega (arith, one))
 
 -- and its deadline
@@ -48,7 +48,7 @@ pub refilled_until : (b : Board) (segment deadline : ℕ) (p q : Pass) → Refil
 refilled_until b segment deadline p q filled =
     let is = filled.answer in
     let there = sym (state_there (own_segment p.plain segment)) ∙ is.own in
-    (segment, ap (λ (x : Plain). x.current) is.plain, ap (λ (x : Plain). deadline_in (own_segment x segment)) is.plain ∙ refilled_deadline p.plain segment deadline there)
+    (segment, ap (λ (x : PlainPart). x.current) is.plain, ap (λ (x : PlainPart). deadline_in (own_segment x segment)) is.plain ∙ refilled_deadline p.plain segment deadline there)
 
 -- ---- an evict, and a keep
 
@@ -57,9 +57,9 @@ pub evict_apart : (b : Board) (segment : ℕ) (told : EvictAnswer) (p q : Pass) 
 evict_apart b segment (evict.Evicted keys) p q went other = by went.answer
   where
     by : IsEvictAnswer b.shape segment (evict.Evicted keys) p q → current_of q ≡ current_of p
-    by (inl out) = ap (λ (x : Plain). x.current) out.2 ∙ but_other segment (current_of p) other
+    by (inl out) = ap (λ (x : PlainPart). x.current) out.2 ∙ but_other segment (current_of p) other
     by (inr none) = ap current_of none.2
-evict_apart b segment (evict.Busy keys) p q went other = ap (λ (x : Plain). x.current) went.answer.2 ∙ but_other segment (current_of p) other
+evict_apart b segment (evict.Busy keys) p q went other = ap (λ (x : PlainPart). x.current) went.answer.2 ∙ but_other segment (current_of p) other
 evict_apart b segment evict.NotYours p q went other = ap current_of went.answer
 
 -- and all deadlines as they were
@@ -67,9 +67,9 @@ evict_deadlines : (b : Board) (segment : ℕ) (told : EvictAnswer) (p q : Pass) 
 evict_deadlines b segment (evict.Evicted keys) p q went s = by went.answer
   where
     by : IsEvictAnswer b.shape segment (evict.Evicted keys) p q → deadline_of q s ≡ deadline_of p s
-    by (inl out) = ap (λ (x : Plain). deadline_in (own_segment x s)) out.2 ∙ deadline_stated (ended segment p.plain) segment Evicted s
+    by (inl out) = ap (λ (x : PlainPart). deadline_in (own_segment x s)) out.2 ∙ deadline_stated (ended segment p.plain) segment Evicted s
     by (inr none) = ap (λ (r : Pass). deadline_of r s) none.2
-evict_deadlines b segment (evict.Busy keys) p q went s = ap (λ (x : Plain). deadline_in (own_segment x s)) went.answer.2
+evict_deadlines b segment (evict.Busy keys) p q went s = ap (λ (x : PlainPart). deadline_in (own_segment x s)) went.answer.2
 evict_deadlines b segment evict.NotYours p q went s = ap (λ (r : Pass). deadline_of r s) went.answer
 
 until_before : (p q : Pass) → ((s : ℕ) → deadline_of q s ≡ deadline_of p s) → current_of q ≡ current_of p → StoresAsBefore p q
@@ -92,7 +92,7 @@ module _ (b : Board) (segment row cutoff : ℕ) (p q : Pass) where
   unmoved same = ((λ s. ap (λ (r : Pass). deadline_of r s) same), ap current_of same)
 
   unchanged : ChangesNothing p q → IsAsBefore
-  unchanged none = ((λ s. ap (λ (x : Plain). deadline_in (own_segment x s)) none.plain), ap (λ (x : Plain). x.current) none.plain)
+  unchanged none = ((λ s. ap (λ (x : PlainPart). deadline_in (own_segment x s)) none.plain), ap (λ (x : PlainPart). x.current) none.plain)
 
   row_still : (told : KeepRowAnswer) → IsKeepRowAnswer b.shape segment row cutoff told p q → IsAsBefore
   row_still kept.Moved is = (is.2.deadlines, is.2.current)
@@ -114,7 +114,7 @@ module _ (b : Board) (segment row cutoff : ℕ) (p q : Pass) where
 pub refused_apart : (b : Board) (segment deadline keys : ℕ) (p q : Pass) → GivesUp b segment deadline false keys p q → current_of p ≢ Some segment → current_of q ≡ current_of p
 refused_apart b segment deadline keys p q (inl busy) other = evict_apart b segment (evict.Busy keys) p q busy other
 refused_apart b segment deadline keys p q (inr (between, out, held)) other =
-    ap (λ (x : Plain). x.current) held.answer.0.plain ∙ evict_apart b segment (evict.Evicted keys) p between out other
+    ap (λ (x : PlainPart). x.current) held.answer.0.plain ∙ evict_apart b segment (evict.Evicted keys) p between out other
 
 but_here : (segment : ℕ) → but_for segment (Some segment) ≡ None
 but_here segment = cond-true (eqb segment segment) None (Some segment) (eq-eqb segment segment refl)
@@ -124,13 +124,13 @@ evict_current : (b : Board) (segment : ℕ) (keys : ℕ) (p q : Pass) → IsQuie
 evict_current b segment keys p q quiet current went = by went.answer
   where
     by : IsEvictAnswer b.shape segment (evict.Evicted keys) p q → current_of q ≡ None
-    by (inl out) = ap (λ (x : Plain). x.current) out.2 ∙ ap (but_for segment) current ∙ but_here segment
+    by (inl out) = ap (λ (x : PlainPart). x.current) out.2 ∙ ap (but_for segment) current ∙ but_here segment
     by (inr none) = absurd (none.0 (quiet.segments.in_use segment current))
 
 pub refused_current : (b : Board) (segment deadline keys : ℕ) (p q : Pass) → IsQuiet b p → current_of p ≡ Some segment → GivesUp b segment deadline false keys p q → current_of q ≡ None
-refused_current b segment deadline keys p q quiet current (inl busy) = ap (λ (x : Plain). x.current) busy.answer.2 ∙ ap (but_for segment) current ∙ but_here segment
+refused_current b segment deadline keys p q quiet current (inl busy) = ap (λ (x : PlainPart). x.current) busy.answer.2 ∙ ap (but_for segment) current ∙ but_here segment
 refused_current b segment deadline keys p q quiet current (inr (between, out, held)) =
-    ap (λ (x : Plain). x.current) held.answer.0.plain ∙ evict_current b segment keys p between quiet current out
+    ap (λ (x : PlainPart). x.current) held.answer.0.plain ∙ evict_current b segment keys p between quiet current out
 
 -- with none current there is no room
 pub no_room : (b : Board) (p : Pass) → current_of p ≡ None → has_room b.shape p ≡ false

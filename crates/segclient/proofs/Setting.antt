@@ -5,7 +5,7 @@ use Rattle.std.proofs.lemmas.Option.{same_Some}
 use Rattle.segmodel.specs.declared.answer.WriteAnswer.TheVariants as write
 use Rattle.segmodel.specs.declared.request.Request.TheVariants.{Set}
 use Rattle.segmodel.specs.Words.{WriteAnswer}
-use Rattle.segbase.specs.declared.pass.Plain.{Plain}
+use Rattle.segbase.specs.declared.pass.PlainPart.{PlainPart}
 use Rattle.segbase.specs.Words.{Board, Pass}
 use Rattle.segstore.specs.Words.{has_room}
 use Rattle.segwrite.specs.Words.{IsSetAnswer, Writes}
@@ -20,10 +20,10 @@ busy_long zero = refl
 busy_long (suc busy) = let rest = busy_long busy in omega (arith, rest)
 
 pub same_until : (p q : Pass) → q.plain ≡ p.plain → current_deadline q ≡ current_deadline p
-same_until p q same = ap (λ (x : Plain). current_deadline (record p { plain = x })) same
+same_until p q same = ap (λ (x : PlainPart). current_deadline (record p { plain = x })) same
 
 pub same_room : (b : Board) (p q : Pass) → q.plain ≡ p.plain → has_room b.shape q ≡ has_room b.shape p
-same_room b p q same = ap (λ (x : Plain). has_room b.shape (record p { plain = x })) same
+same_room b p q same = ap (λ (x : PlainPart). has_room b.shape (record p { plain = x })) same
 
 -- what the pass stores expires at the deadline of its current segment
 pub until_is : (until : ℕ) (p : Pass) → StoresUntil until p → current_deadline p ≡ Some until

@@ -3,7 +3,7 @@ use Rattle.std.proofs.Common.{◌≡◌, ◌≢◌, ℕ, option_map, ◌+◌, Li
 use Rattle.std.proofs.lemmas.Option.{none-some, same_Some}
 use Rattle.segmodel.specs.Words.{bucket_of, owner}
 use Rattle.segcore.specs.Words.{Event}
-use Rattle.segbase.specs.declared.pass.Plain.{Plain}
+use Rattle.segbase.specs.declared.pass.PlainPart.{PlainPart}
 use Rattle.segbase.specs.Words.{AddsEvents, Board, deadline_in, number}
 use Rattle.segbase.specs.Words.{own_segment, OwnSegment, Pass, state_in, used_in}
 use Rattle.segbase.specs.Words.{with_own}
@@ -38,25 +38,25 @@ same_deadline (Some own) = refl
 module _ (into : ℕ) (p q : Pass) where
   pub uses_none : q.plain ≡ p.plain → memo q ≡ memo p → UsesRows into 0 p q
   uses_none plain same = record {
-    used = λ used is. ap (λ (x : Plain). used_in (own_segment x into)) plain ∙ (is ∙ ap Some (let e : used ≡ used + 0 = omega arith in e));
-    others = λ other apart. ap (λ (x : Plain). used_in (own_segment x other)) plain;
-    states = λ segment. ap (λ (x : Plain). state_in (own_segment x segment)) plain;
-    deadlines = λ segment. ap (λ (x : Plain). deadline_in (own_segment x segment)) plain;
-    current = ap (λ (x : Plain). x.current) plain;
-    locked = ap (λ (x : Plain). x.locked) plain;
-    holds = ap (λ (x : Plain). x.is_holding) plain;
+    used = λ used is. ap (λ (x : PlainPart). used_in (own_segment x into)) plain ∙ (is ∙ ap Some (let e : used ≡ used + 0 = omega arith in e));
+    others = λ other apart. ap (λ (x : PlainPart). used_in (own_segment x other)) plain;
+    states = λ segment. ap (λ (x : PlainPart). state_in (own_segment x segment)) plain;
+    deadlines = λ segment. ap (λ (x : PlainPart). deadline_in (own_segment x segment)) plain;
+    current = ap (λ (x : PlainPart). x.current) plain;
+    locked = ap (λ (x : PlainPart). x.locked) plain;
+    holds = ap (λ (x : PlainPart). x.is_holding) plain;
     memo = same;
   }
 
   pub uses_one : q.plain ≡ with_own into one_more p.plain → memo q ≡ memo p → UsesRows into 1 p q
   uses_one plain same = record {
-    used = λ used is. ap (λ (x : Plain). used_in (own_segment x into)) plain ∙ (ap used_in (own_here p.plain into one_more) ∙ used_more (own_segment p.plain into) used is);
-    others = λ other apart. ap (λ (x : Plain). used_in (own_segment x other)) plain ∙ ap used_in (own_apart p.plain into one_more other apart);
-    states = λ segment. ap (λ (x : Plain). state_in (own_segment x segment)) plain ∙ own_kept p.plain into one_more state_in same_state segment;
-    deadlines = λ segment. ap (λ (x : Plain). deadline_in (own_segment x segment)) plain ∙ own_kept p.plain into one_more deadline_in same_deadline segment;
-    current = ap (λ (x : Plain). x.current) plain;
-    locked = ap (λ (x : Plain). x.locked) plain;
-    holds = ap (λ (x : Plain). x.is_holding) plain;
+    used = λ used is. ap (λ (x : PlainPart). used_in (own_segment x into)) plain ∙ (ap used_in (own_here p.plain into one_more) ∙ used_more (own_segment p.plain into) used is);
+    others = λ other apart. ap (λ (x : PlainPart). used_in (own_segment x other)) plain ∙ ap used_in (own_apart p.plain into one_more other apart);
+    states = λ segment. ap (λ (x : PlainPart). state_in (own_segment x segment)) plain ∙ own_kept p.plain into one_more state_in same_state segment;
+    deadlines = λ segment. ap (λ (x : PlainPart). deadline_in (own_segment x segment)) plain ∙ own_kept p.plain into one_more deadline_in same_deadline segment;
+    current = ap (λ (x : PlainPart). x.current) plain;
+    locked = ap (λ (x : PlainPart). x.locked) plain;
+    holds = ap (λ (x : PlainPart). x.is_holding) plain;
     memo = same;
   }
 

@@ -12,7 +12,7 @@ use Rattle.segcore.specs.Words.{bounced, cached, row_after, RowGone}
 use Rattle.segcore.proofs.Counts.{count_both}
 use Rattle.segcore.proofs.Caches.{stands as standing_at, has_value}
 use Rattle.segcore.proofs.Standing.{coherent}
-use Rattle.segbase.specs.declared.pass.Plain.{Plain}
+use Rattle.segbase.specs.declared.pass.PlainPart.{PlainPart}
 use Rattle.segbase.specs.Words.{Board, count, current_of, mine, number, own_segment, Pass, seen}
 use Rattle.segbase.specs.Words.{state_in, state_of, trace, used_of, with_current, with_state}
 use Rattle.segbase.proofs.Known.{state_set, state_apart, used_kept, owner_stated, deadline_stated}
@@ -34,7 +34,7 @@ use Rattle.segevict.proofs.RowsOut.{goes_then, keeps_gone_then}
 
 -- ---- a change of the plain part alone
 
-module _ (b : Board) (p : Pass) (x : Plain) (quiet : IsQuiet b p) (same : owner_of x ≡ owner_of p.plain) where
+module _ (b : Board) (p : Pass) (x : PlainPart) (quiet : IsQuiet b p) (same : owner_of x ≡ owner_of p.plain) where
   pub plain_goes_on : x.locked ≡ p.plain.locked → x.is_holding ≡ p.plain.is_holding → KeepsSegments b (record p { plain = x }) → GoesOn b p (record p { plain = x })
   plain_goes_on locks holds segments = record {
     quiet = record {
@@ -206,7 +206,7 @@ module _ (b : Board) (segment row taken : ℕ) (p q : Pass) (in_use : state_of p
           by.0,
           stood_before b.shape segment by.0 p q r e.on.same e.on.steps stood,
           ⊎_elim
-              (λ locked. inl (sym (ap (λ (x : Plain). x.locked) e.plain) ∙ locked))
+              (λ locked. inl (sym (ap (λ (x : PlainPart). x.locked) e.plain) ∙ locked))
               (λ tried. let grew = bounced_grows p q (bucket_of b.shape by.0) e.on.same e.keeps.grew in inr (let t = tried in omega arith))
               by.2,
         )
@@ -254,7 +254,7 @@ module _ (b : Board) (segment row taken : ℕ) (p q : Pass) (in_use : state_of p
       few = λ s n is. k.few s n (sym (used_kept q.plain segment Evicted s) ∙ is);
       rows = λ s n i is lt. k.rows s n i (sym (used_kept q.plain segment Evicted s) ∙ is) lt;
       deadlines = λ s n is. k.deadlines s n (sym (deadline_stated q.plain segment Evicted s) ∙ is);
-      in_use = λ s is. state_apart q.plain segment Evicted s (λ x. over (ap (λ (y : Plain). y.current) (sym e.plain) ∙ (is ∙ ap Some x))) ∙ k.in_use s is;
+      in_use = λ s is. state_apart q.plain segment Evicted s (λ x. over (ap (λ (y : PlainPart). y.current) (sym e.plain) ∙ (is ∙ ap Some x))) ∙ k.in_use s is;
       unused = λ s n is other. ⊎_elim
           (λ x. subst (NoneStandsIn (after b.shape (seen q))) (sym x) none_stands)
           (λ apart. k.unused s n (sym (state_apart q.plain segment Evicted s apart) ∙ is) other)
@@ -289,7 +289,7 @@ module _ (b : Board) (segment row taken : ℕ) (p q : Pass) (in_use : state_of p
 -- what the segment's state is then
 pub emptied_state : (segment : ℕ) (p q : Pass) → state_of p segment ≡ Some InUse → q.plain ≡ with_state segment Evicted (ended segment p.plain) → state_of q segment ≡ Some Evicted
 emptied_state segment p q before plain =
-    ap (λ (x : Plain). state_in (own_segment x segment)) plain ∙ state_set (ended segment p.plain) segment Evicted (sym (state_there (own_segment p.plain segment)) ∙ ap is_some before)
+    ap (λ (x : PlainPart). state_in (own_segment x segment)) plain ∙ state_set (ended segment p.plain) segment Evicted (sym (state_there (own_segment p.plain segment)) ∙ ap is_some before)
 
 -- ---- from the whole call on
 

@@ -9,7 +9,7 @@ use Rattle.segmodel.specs.Words.{bucket_of, Cached, Entry, owner}
 use Rattle.segcore.specs.Words.{bounced, cached, row_after, RowGone}
 use Rattle.segcore.proofs.Caches.{has_value, stands as standing_at}
 use Rattle.segcore.proofs.Standing.{coherent}
-use Rattle.segbase.specs.declared.pass.Plain.{Plain}
+use Rattle.segbase.specs.declared.pass.PlainPart.{PlainPart}
 use Rattle.segbase.specs.Words.{Board, marked, mine, number, Pass, seen, state_of, TakesSteps}
 use Rattle.segbase.specs.Words.{trace, used_of}
 use Rattle.segbase.proofs.Moves.{moved_count, stays}
@@ -207,7 +207,7 @@ module _ (b : Board) (segment into cutoff row count : ℕ) (p q : Pass) (quiet :
           on = goes_then b p q r e.on k.on;
           answer = inr (
             moved_away r k.on.steps none within k.tries,
-            subst (λ (x : Plain). has_room b.shape (record q { plain = x }) ≡ false) (sym none.plain) k.answer.1,
+            subst (λ (x : PlainPart). has_room b.shape (record q { plain = x }) ≡ false) (sym none.plain) k.answer.1,
             (s.key, (row, had_at b segment row (λ n. cutoff ≤ n) q r s (marked r) (marked r) ([], refl) ([], refl))),
           );
           not_yours = ((λ other. absurd (not_so other)), (λ nobody. absurd (none-some InUse (sym nobody ∙ in_use))));
@@ -231,12 +231,12 @@ module _ (b : Board) (segment into cutoff row count : ℕ) (p q : Pass) (quiet :
           on = goes_then b p q r e.on k.on;
           answer = (
             moved_away r k.on.steps none within k.tries,
-            subst (λ (x : Plain). has_room b.shape (record q { plain = x }) ≡ true) (sym none.plain) a.3,
+            subst (λ (x : PlainPart). has_room b.shape (record q { plain = x }) ≡ true) (sym none.plain) a.3,
             (
               s.key,
               often_now b segment into cutoff row count p q r own e s.key (row, had_seen b segment row (λ n. cutoff ≤ n) q f r s a.2.steps),
               ⊎_elim
-                  (λ locked. inl (sym (ap (λ (x : Plain). x.locked) s.idles.plain ∙ e.uses.locked) ∙ locked.0))
+                  (λ locked. inl (sym (ap (λ (x : PlainPart). x.locked) s.idles.plain ∙ e.uses.locked) ∙ locked.0))
                   (λ tried.
                   let same = moved_count b [] q f (bounced bucket) s.idles.moved in
                   let grew = bounced_grows p q bucket e.on.same e.keeps.grew in let met = tried.tries in inr (omega arith))

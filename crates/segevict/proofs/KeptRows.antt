@@ -13,7 +13,7 @@ use Rattle.segcore.proofs.Coherent.{IsStanding}
 use Rattle.segcore.proofs.Exact.{content_at}
 use Rattle.segcore.proofs.Limits.{low_frequency, low_row, low_segment}
 use Rattle.segcore.proofs.Standing.{coherent}
-use Rattle.segbase.specs.declared.pass.Plain.{Plain}
+use Rattle.segbase.specs.declared.pass.PlainPart.{PlainPart}
 use Rattle.segbase.specs.Words.{AddsAtOnce, AddsEvents, Board, cell_at, count, current_of}
 use Rattle.segbase.specs.Words.{deadline_in, HasStep, IsPassOf, mine, number, own_segment, Pass}
 use Rattle.segbase.specs.Words.{position, TakesSteps, trace, used_of, with_own}
@@ -134,7 +134,7 @@ module _ (b : Board) (bucket : ℕ) (sought : Item) (into cutoff : ℕ) (p f : P
       seen_often = sees (λ n. cutoff ≤ n) often
 
       pub row_no_room : has_room b.shape f ≡ false → Kept kept.NoRoom f
-      row_no_room full = only_looked kept.NoRoom (λ none. none) (seen_often, subst (λ (y : Plain). has_room b.shape (record f { plain = y }) ≡ false) i.plain full)
+      row_no_room full = only_looked kept.NoRoom (λ none. none) (seen_often, subst (λ (y : PlainPart). has_room b.shape (record f { plain = y }) ≡ false) i.plain full)
 
       had : (q : Pass) → TakesSteps f q → WasOften b.shape sought.seg cutoff p q stored.key
       had q steps = (sought.row, had_seen b sought.seg sought.row (λ n. cutoff ≤ n) p f q seen_often steps)
@@ -168,7 +168,7 @@ module _ (b : Board) (bucket : ℕ) (sought : Item) (into cutoff : ℕ) (p f : P
             (λ tried. let same = tried.taken in let met = tried.tries in tries_one q busy.0.steps (omega arith) (omega arith) tried.others)
             busy.2;
         tried = looked IsBusy q busy.0 busy.2;
-        answer = (f, seen_often, busy.0, subst (λ (y : Plain). has_room b.shape (record f { plain = y }) ≡ true) i.plain room, busy.1, subst (λ k. IsBusy k f q) stored.home busy.2);
+        answer = (f, seen_often, busy.0, subst (λ (y : PlainPart). has_room b.shape (record f { plain = y }) ≡ true) i.plain room, busy.1, subst (λ k. IsBusy k f q) stored.home busy.2);
       }
 
       -- ---- under the bit
@@ -191,14 +191,14 @@ module _ (b : Board) (bucket : ℕ) (sought : Item) (into cutoff : ℕ) (p f : P
 
         pub target_q : IsKeepTarget sought.seg into p → IsKeepTarget sought.seg into q
         target_q t = let plain = took.plain ∙ i.plain in record {
-          current = ap (λ (y : Plain). y.current) plain ∙ t.current;
+          current = ap (λ (y : PlainPart). y.current) plain ∙ t.current;
           other = t.other;
-          deadlines = ap (λ (y : Plain). deadline_in (own_segment y sought.seg)) plain ∙ (t.deadlines ∙ sym (ap (λ (y : Plain). deadline_in (own_segment y into)) plain));
+          deadlines = ap (λ (y : PlainPart). deadline_in (own_segment y sought.seg)) plain ∙ (t.deadlines ∙ sym (ap (λ (y : PlainPart). deadline_in (own_segment y into)) plain));
         }
 
         pub next_q : (to : ℕ) → IsNextRow b into to f → IsNextRow b into to q
         next_q to next = record {
-          current = ap (λ (y : Plain). y.current) took.plain ∙ next.current;
+          current = ap (λ (y : PlainPart). y.current) took.plain ∙ next.current;
           used = same_used f q into took.plain ∙ next.used;
           fits = next.fits;
         }
@@ -213,7 +213,7 @@ module _ (b : Board) (bucket : ℕ) (sought : Item) (into cutoff : ℕ) (p f : P
 
           goes_s : GoesOn b f s
           goes_s = write_goes_on b bucket f q goes_f.quiet begins r s own added false m elsewhere still adds freed free (same' ∙ (same ∙ took.memo))
-              (ap (λ (y : Plain). y.locked) plain' ∙ (locks ∙ ap (λ (y : Plain). y.locked) took.plain)) (ap (λ (y : Plain). y.is_holding) plain' ∙ (holds ∙ ap (λ (y : Plain). y.is_holding) took.plain)) segments_s
+              (ap (λ (y : PlainPart). y.locked) plain' ∙ (locks ∙ ap (λ (y : PlainPart). y.locked) took.plain)) (ap (λ (y : PlainPart). y.is_holding) plain' ∙ (holds ∙ ap (λ (y : PlainPart). y.is_holding) took.plain)) segments_s
 
           events_f : AddsEvents b (under_bit (number f) bucket begins.tries own) f s
           events_f = moved_then b took_by (Freed (number f) bucket false ∷ own) f q s taking
@@ -238,15 +238,15 @@ module _ (b : Board) (bucket : ℕ) (sought : Item) (into cutoff : ℕ) (p f : P
         row_went room to r s t freed free plain' same' =
             let m = t.moves.0 in let plain = t.moves.1 in
             let gone = gone_over b (Freed (number r) bucket false ∷ []) r s sought.seg sought.row freed.moved (tt, tt) (stored_q.own ∙ sym m.same) t.gone in
-            let room_p : has_room b.shape p ≡ true = subst (λ (y : Plain). has_room b.shape (record f { plain = y }) ≡ true) i.plain room in
-            done r s [] [] m (λ other apart. tt) tt (λ h. refl) tt tt t.segments t.memo (ap (λ (y : Plain). y.locked) plain) (ap (λ (y : Plain). y.is_holding) plain) freed free plain' same' kept.Left
+            let room_p : has_room b.shape p ≡ true = subst (λ (y : PlainPart). has_room b.shape (record f { plain = y }) ≡ true) i.plain room in
+            done r s [] [] m (λ other apart. tt) tt (λ h. refl) tt tt t.segments t.memo (ap (λ (y : PlainPart). y.locked) plain) (ap (λ (y : PlainPart). y.is_holding) plain) freed free plain' same' kept.Left
             (λ bit. inr (bit, room_p, unnamed b.shape (trace s) sought.seg sought.row freed.moved.pass.lawful gone))
             (inr (inr (
               f,
               seen_often,
               begins.tries,
               subst (λ k. AddsEvents b (under_bit (number f) k begins.tries []) f s) stored.home
-                  (events_f r s [] [] m (λ other apart. tt) tt (λ h. refl) tt tt t.segments t.memo (ap (λ (y : Plain). y.locked) plain) (ap (λ (y : Plain). y.is_holding) plain) freed free plain' same'),
+                  (events_f r s [] [] m (λ other apart. tt) tt (λ h. refl) tt tt t.segments t.memo (ap (λ (y : PlainPart). y.locked) plain) (ap (λ (y : PlainPart). y.is_holding) plain) freed free plain' same'),
               record {
                 entries = write_adds b bucket f q goes_f.quiet begins r s [] [] false m (λ other apart. tt) tt (λ h. refl) freed free ∙ (does_nothing b p f quiet i.moved i.plain i.memo).entries;
                 plain = plain' ∙ (plain ∙ (took.plain ∙ i.plain));
@@ -295,8 +295,8 @@ module _ (b : Board) (bucket : ℕ) (sought : Item) (into cutoff : ℕ) (p f : P
               let still : AreStill own = (tt, fills_still (number f) into to written.0 written.1) in
               let undrawn : AreUndrawn own = (tt, fills_undrawn (number f) into to written.0 written.1) in
               let none : AreNoTries own = (tt, fills_untried (number f) into to written.0 written.1) in
-              let locks : r.plain.locked ≡ q.plain.locked = ap (λ (y : Plain). y.locked) plain in
-              let holds : r.plain.is_holding ≡ q.plain.is_holding = ap (λ (y : Plain). y.is_holding) plain in
+              let locks : r.plain.locked ≡ q.plain.locked = ap (λ (y : PlainPart). y.locked) plain in
+              let holds : r.plain.is_holding ≡ q.plain.is_holding = ap (λ (y : PlainPart). y.is_holding) plain in
               let old = (does_nothing b p f quiet i.moved i.plain i.memo).entries in
               done r s own added m elsewhere still adds undrawn none t.segments t.memo locks holds freed free plain' same' kept.Moved (λ bit. bit) (
                 f,
@@ -328,7 +328,7 @@ target_place sought segment into p same target = subst (λ s. IsKeepTarget s int
 -- the row that the pass stores into next is one of the current segment, which others don't change
 pub next_here : (b : Board) (segment into : ℕ) (p f : Pass) → f.plain ≡ p.plain → IsKeepTarget segment into p → (s row : ℕ) → (current_of f ≡ Some s) × (used_of f s ≡ Some row) × (row < b.shape.rows) → IsNextRow b into row f
 next_here b segment into p f plain target s row next =
-    let same : s ≡ into = same_Some s into (sym next.0 ∙ (ap (λ (y : Plain). y.current) plain ∙ target.current)) in record {
+    let same : s ≡ into = same_Some s into (sym next.0 ∙ (ap (λ (y : PlainPart). y.current) plain ∙ target.current)) in record {
       current = next.0 ∙ ap Some same;
       used = ap (used_of f) (sym same) ∙ next.1;
       fits = next.2;

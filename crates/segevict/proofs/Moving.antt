@@ -12,7 +12,7 @@ use Rattle.segcore.proofs.Caches.{stands, stands_in}
 use Rattle.segcore.proofs.Coherent.{IsStanding}
 use Rattle.segcore.proofs.Quiet.{quiet_row}
 use Rattle.segcore.proofs.Standing.{coherent}
-use Rattle.segbase.specs.declared.pass.Plain.{Plain}
+use Rattle.segbase.specs.declared.pass.PlainPart.{PlainPart}
 use Rattle.segbase.specs.Words.{AddsEvents, Board, deadline_of, home_bucket, number, own_segment, OwnSegment}
 use Rattle.segbase.specs.Words.{Pass, Place, position, trace, used_in, used_of, deadline_in, with_own, with_used}
 use Rattle.segbase.proofs.Known.{counted, own_alike, owner_counted}
@@ -44,7 +44,7 @@ abbrev pub slot_at : Board → Place → Pass → Slot
 slot_at b place p = slot_of ((bucket_after b.shape (trace p) (home_bucket b.shape (trace p) place)).items (position b.shape (trace p) place))
 
 -- one row more is used where so many were
-one_used : (segment row : ℕ) (x : Plain) → used_in (own_segment x segment) ≡ Some row → with_used segment (row + 1) x ≡ with_own segment one_more x
+one_used : (segment row : ℕ) (x : PlainPart) → used_in (own_segment x segment) ≡ Some row → with_used segment (row + 1) x ≡ with_own segment one_more x
 one_used segment row x used = own_alike x segment (counted (row + 1)) one_more (same (own_segment x segment) used)
   where
     same : (o : Option OwnSegment) → used_in o ≡ Some row → option_map (counted (row + 1)) o ≡ option_map one_more o
@@ -178,7 +178,7 @@ module _ (b : Board) (bucket : ℕ) (sought : Item) (into to : ℕ) (p f : Pass)
           own.2,
           target.other,
           same_deadlines b c sought.seg into to segments_c used_c
-              (ap (λ (x : Plain). deadline_in (own_segment x sought.seg)) (plain ∙ i.plain) ∙ (target.deadlines ∙ sym (ap (λ (x : Plain). deadline_in (own_segment x into)) (plain ∙ i.plain)))),
+              (ap (λ (x : PlainPart). deadline_in (own_segment x sought.seg)) (plain ∙ i.plain) ∙ (target.deadlines ∙ sym (ap (λ (x : PlainPart). deadline_in (own_segment x into)) (plain ∙ i.plain)))),
         );
         suits = (own, (st.value, standing_c, copied), subst (λ k. (bucket_after b.shape (trace c) k).items at_c ≡ item named) stored_f.home here);
       }
@@ -237,6 +237,6 @@ module _ (b : Board) (bucket : ℕ) (sought : Item) (into to : ℕ) (p f : Pass)
             unwritten = ap (λ u. u.written) bucket_now ∙ clean_c.unwritten;
             undrawn = ap (λ u. u.spare) bucket_now ∙ clean_c.undrawn;
           };
-          segments = keeps_named b e c r into to (refl, refl) done.did done.plain (ap (λ (x : Plain). x.current) (plain ∙ i.plain) ∙ next.current) used_c next.fits m.pass segments_c;
+          segments = keeps_named b e c r into to (refl, refl) done.did done.plain (ap (λ (x : PlainPart). x.current) (plain ∙ i.plain) ∙ next.current) used_c next.fits m.pass segments_c;
           memo = done.memo ∙ (same ∙ i.memo);
         }

@@ -5,7 +5,7 @@ use Rattle.std.proofs.lemmas.Option.{none-some}
 use Rattle.segmodel.specs.declared.answer.SegState.TheVariants.{InUse}
 use Rattle.segmodel.specs.Words.{bucket_of}
 use Rattle.segcore.specs.Words.{bounced}
-use Rattle.segbase.specs.declared.pass.Plain.{Plain}
+use Rattle.segbase.specs.declared.pass.PlainPart.{PlainPart}
 use Rattle.segbase.specs.Words.{Board, count, marked, Pass, state_of, trace}
 use Rattle.segbase.proofs.Moves.{moved_count}
 use Rattle.segstore.specs.Words.{ChangesNothing, has_room, IsQuiet, TakesNoBit}
@@ -44,7 +44,7 @@ module _ (b : Board) (segment row into cutoff : ℕ) (p r : Pass) (quiet : IsQui
         into,
         target,
         none,
-        subst (λ (x : Plain). has_room b.shape (record p { plain = x }) ≡ false) (sym none.plain) k.answer.1,
+        subst (λ (x : PlainPart). has_room b.shape (record p { plain = x }) ≡ false) (sym none.plain) k.answer.1,
         (s.key, had_at b segment row (λ n. cutoff ≤ n) p r s (marked r) (marked r) ([], refl) ([], refl)),
         s.looks,
       )
@@ -55,12 +55,12 @@ module _ (b : Board) (segment row into cutoff : ℕ) (p r : Pass) (quiet : IsQui
         into,
         target,
         none,
-        subst (λ (x : Plain). has_room b.shape (record p { plain = x }) ≡ true) (sym none.plain) a.3,
+        subst (λ (x : PlainPart). has_room b.shape (record p { plain = x }) ≡ true) (sym none.plain) a.3,
         (
           s.key,
           had_seen b segment row (λ n. cutoff ≤ n) p f r s a.2.steps,
           ⊎_elim
-              (λ locked. inl (sym (ap (λ (x : Plain). x.locked) s.idles.plain) ∙ locked.0))
+              (λ locked. inl (sym (ap (λ (x : PlainPart). x.locked) s.idles.plain) ∙ locked.0))
               (λ tried. let same : count (bounced bucket) f ≡ count (bounced bucket) p = moved_count b [] p f (bounced bucket) s.idles.moved in let met = tried.tries in inr (omega arith))
               a.5,
         ),

@@ -11,7 +11,7 @@ use Rattle.segcore.specs.Words.{taken}
 use Rattle.segcore.specs.declared.event.Leaving.TheVariants.{Evicts}
 use Rattle.segcore.proofs.Orderly.{linked_marked}
 use Rattle.segcore.proofs.Moments.{begins_on, seen_begins}
-use Rattle.segbase.specs.declared.pass.Plain.{Plain}
+use Rattle.segbase.specs.declared.pass.PlainPart.{PlainPart}
 use Rattle.segbase.specs.Words.{AddsAtOnce, AddsEvents, Board, count, HasStep, mine, number, Pass}
 use Rattle.segbase.specs.Words.{seen, TakesSteps, trace}
 use Rattle.segbase.proofs.Moves.{moved_on, moved_count}
@@ -137,7 +137,7 @@ module _ (b : Board) (bucket : ℕ) (sought : Item) (p f : Pass) (quiet : IsQuie
         stored.key,
         stood_here target q n busy.0.seen busy.0.steps,
         ⊎_elim
-            (λ own. inl (sym (ap (λ (x : Plain). x.locked) i.plain) ∙ (own.0 ∙ ap Some stored.home)))
+            (λ own. inl (sym (ap (λ (x : PlainPart). x.locked) i.plain) ∙ (own.0 ∙ ap Some stored.home)))
             (λ tried.
             let same : count (bounced bucket) f ≡ count (bounced bucket) p = moved_count b [] p f (bounced bucket) i.moved in
             inr (subst (λ k. count (bounced k) p + 64 ≤ count (bounced k) q) stored.home (let e = tried.tries in omega arith)))
@@ -179,7 +179,7 @@ module _ (b : Board) (bucket : ℕ) (sought : Item) (p f : Pass) (quiet : IsQuie
 
       goes_all : GoesOn b p s
       goes_all = goes_then b p f s goes_looking (write_goes_on b bucket f q quiet_looking begins r s own added false m elsewhere still adds freed free
-          (same' ∙ (same ∙ took.memo)) (ap (λ (x : Plain). x.locked) (plain' ∙ (plain ∙ took.plain))) (ap (λ (x : Plain). x.is_holding) (plain' ∙ (plain ∙ took.plain))) keeps_all)
+          (same' ∙ (same ∙ took.memo)) (ap (λ (x : PlainPart). x.locked) (plain' ∙ (plain ∙ took.plain))) (ap (λ (x : PlainPart). x.is_holding) (plain' ∙ (plain ∙ took.plain))) keeps_all)
 
       undrawn_all : AreUndrawn own → DrawsNothing p s
       undrawn_all none = draws_none_then p f s undrawn_looking (write_undrawn b bucket f q quiet_looking begins r s own added false m elsewhere still adds freed free none)
@@ -187,7 +187,7 @@ module _ (b : Board) (bucket : ℕ) (sought : Item) (p f : Pass) (quiet : IsQuie
       tries_all : AreNoTries own → (target : Target) → IsNamedAt b bucket sought target f → TriesFor b.shape (StoodAtRow b.shape sought.seg sought.row p s) 1 p s
       tries_all none target n =
           let on : GoesOn b f s = write_goes_on b bucket f q quiet_looking begins r s own added false m elsewhere still adds freed free
-          (same' ∙ (same ∙ took.memo)) (ap (λ (x : Plain). x.locked) (plain' ∙ (plain ∙ took.plain))) (ap (λ (x : Plain). x.is_holding) (plain' ∙ (plain ∙ took.plain))) keeps_all in
+          (same' ∙ (same ∙ took.memo)) (ap (λ (x : PlainPart). x.locked) (plain' ∙ (plain ∙ took.plain))) (ap (λ (x : PlainPart). x.is_holding) (plain' ∙ (plain ∙ took.plain))) keeps_all in
           let takes = write_takes b bucket f q quiet_looking begins r s own added false m elsewhere still adds freed free none in
           let one = takes.taken in let met = takes.tries in tries_one target s n on.seen on.steps (omega arith) (omega arith) takes.others
 

@@ -7,7 +7,7 @@ use Rattle.segmodel.specs.declared.answer.EvictAnswer.TheVariants as evict
 use Rattle.segmodel.specs.declared.answer.SegState.TheVariants.{InUse, Evicted}
 use Rattle.segmodel.specs.Words.{after, but_for, Entry, EvictAnswer, NoneStandsIn}
 use Rattle.segcore.specs.Words.{linked_in}
-use Rattle.segbase.specs.declared.pass.Plain.{Plain}
+use Rattle.segbase.specs.declared.pass.PlainPart.{PlainPart}
 use Rattle.segbase.specs.Words.{Board, marked, mine, number, Pass, seen, state_of}
 use Rattle.segbase.specs.Words.{used_of, with_current, with_state}
 use Rattle.segstore.specs.Words.{DrawsNothing, GoesOn, memo, ReadsNothing}
@@ -31,7 +31,7 @@ pub record TakesOut (segment count : ℕ) (p q : Pass) : Type 0 where
   pub memo : memo q ≡ memo p
 
 -- nothing is stored in the segment any more
-abbrev pub ended : ℕ → Plain → Plain
+abbrev pub ended : ℕ → PlainPart → PlainPart
 ended segment plain = with_current (but_for segment plain.current) plain
 
 -- An own segment in use is emptied, or stays in use with what couldn't be taken out;

@@ -8,7 +8,7 @@ use Rattle.segmodel.specs.declared.answer.SegState.TheVariants.{InUse, Evicted}
 use Rattle.segmodel.specs.declared.entry.Entry.TheVariants as entry
 use Rattle.segcore.specs.declared.event.Event.TheVariants.{Refilled}
 use Rattle.segcore.specs.Words.{by, Event, inside, NoneRefills}
-use Rattle.segbase.specs.declared.pass.Plain.{Plain}
+use Rattle.segbase.specs.declared.pass.PlainPart.{PlainPart}
 use Rattle.segbase.specs.Words.{AddsEvents, Board, holding, mine, number, own_of, own_segment, Pass}
 use Rattle.segbase.specs.Words.{state_in, state_of, trace, used_in, used_of}
 use Rattle.segbase.proofs.Moves.{moved_inside, moved_mine}
@@ -30,8 +30,8 @@ fills_settles : (b : Board) (s d : ℕ) (p q : Pass) → FillsAnew b s d p q →
 fills_settles b s d p q f segments = record {
   moved = f.moved;
   memo = f.memo;
-  locked_of = ap (λ (x : Plain). x.locked) f.plain;
-  holding = ap (λ (x : Plain). x.is_holding) f.plain;
+  locked_of = ap (λ (x : PlainPart). x.locked) f.plain;
+  holding = ap (λ (x : PlainPart). x.is_holding) f.plain;
   segments = segments;
   bits = λ bucket. bit_before b (Refilled (number p) s d ∷ []) p q bucket f.moved (refl, tt);
   untouched = λ lock is. (refl, tt);
@@ -84,16 +84,16 @@ module _ (segment deadline : ℕ) (p q : Pass) (is : Refills segment deadline p 
   own_before = sym (state_there (own_segment p.plain segment)) ∙ is.own
 
   pub refills_state : state_of q segment ≡ Some InUse
-  refills_state = ap (λ (x : Plain). state_in (own_segment x segment)) is.plain ∙ refilled_state p.plain segment deadline own_before
+  refills_state = ap (λ (x : PlainPart). state_in (own_segment x segment)) is.plain ∙ refilled_state p.plain segment deadline own_before
 
   pub refills_used : used_of q segment ≡ Some 0
-  refills_used = ap (λ (x : Plain). used_in (own_segment x segment)) is.plain ∙ refilled_used p.plain segment deadline own_before
+  refills_used = ap (λ (x : PlainPart). used_in (own_segment x segment)) is.plain ∙ refilled_used p.plain segment deadline own_before
 
   pub other_states : (s : ℕ) → s ≢ segment → state_of q s ≡ state_of p s
-  other_states s ne = ap (λ (x : Plain). state_in (own_segment x s)) is.plain ∙ others_state p.plain segment deadline s ne
+  other_states s ne = ap (λ (x : PlainPart). state_in (own_segment x s)) is.plain ∙ others_state p.plain segment deadline s ne
 
   pub other_used : (s : ℕ) → s ≢ segment → used_of q s ≡ used_of p s
-  other_used s ne = ap (λ (x : Plain). used_in (own_segment x s)) is.plain ∙ others_used p.plain segment deadline s ne
+  other_used s ne = ap (λ (x : PlainPart). used_in (own_segment x s)) is.plain ∙ others_used p.plain segment deadline s ne
 
 -- ---- a segment in which the pass holds an item
 

@@ -21,7 +21,7 @@ use Rattle.segmodel.specs.History as history
 use Rattle.segmodel.proofs.Written.{first_owner}
 use Rattle.segcore.specs.Words.{entries, Mark}
 use Rattle.segcore.proofs.Marked.{entries_marked}
-use Rattle.segbase.specs.declared.pass.Plain.{Plain}
+use Rattle.segbase.specs.declared.pass.PlainPart.{PlainPart}
 use Rattle.segbase.specs.Words.{Board, holding, locked_of, marked, mine, number, Pass, seen, state_of, trace}
 use Rattle.segbase.specs.Words.{used_of}
 use Rattle.segbase.proofs.Alone.{bounced_alone, glanced_alone}
@@ -239,7 +239,7 @@ evicted_state b segment count p q (inr none) in_use = none.0 (ap (λ x. state_of
 -- a segment that was refilled has room
 room_then : (b : Board) (segment deadline : ℕ) (p q : Pass) → 1 ≤ b.shape.rows → Refills segment deadline p q → has_room b.shape q ≡ true
 room_then b segment deadline p q rows refills =
-    ap (λ now. is_below b.shape.rows (option_and_then (used_of q) now)) (ap (λ (x : Plain). x.current) refills.plain) ∙ (ap (is_below b.shape.rows) (refills_used segment deadline p q refills) ∙ lt-ltb 0 b.shape.rows rows)
+    ap (λ now. is_below b.shape.rows (option_and_then (used_of q) now)) (ap (λ (x : PlainPart). x.current) refills.plain) ∙ (ap (is_below b.shape.rows) (refills_used segment deadline p q refills) ∙ lt-ltb 0 b.shape.rows rows)
 
 abbrev pub is_refilled : RefillAnswer → Bool
 is_refilled refill.Refilled = true

@@ -23,8 +23,8 @@ use Rattle.segmodel.specs.Serving.{is_last_at, is_last_of, is_out_of_rows, is_ow
 use Rattle.segmodel.specs.Laws.{kept, Adds, IsMoveBetween}
 use Rattle.segmodel.specs.declared.segment.Segment.{Segment}
 use Rattle.segmodel.specs.Segments.{filling_of}
-use Rattle.segmodel.specs.PlainCache.{filling_in, is_used_up, state_of}
-use Rattle.segmodel.specs.declared.plain_cache.PlainCache.{PlainCache}
+use Rattle.segmodel.specs.Plain.{filling_in, is_used_up, state_of}
+use Rattle.segmodel.specs.declared.plain.Plain.{Plain}
 use Rattle.segmodel.specs.declared.answer.Command.TheVariants.{Keep}
 use Rattle.segmodel.specs.History.{after, Follows, IsLegal}
 use Rattle.segmodel.specs.declared.answer.KeepAnswer.TheVariants as keep
@@ -265,7 +265,7 @@ module _ (shape : Shape) (from to cutoff count : ℕ) (state : State) (keys : Li
   moves is room free = split ∙ rw (is, room, free) refl
 
 -- the same of the plain cache, whose segment is as it was when the keep began
-module _ (old now : PlainCache) (segment to cutoff count row : ℕ) (shape : now.shape ≡ old.shape) (current : now.current ≡ Some to)
+module _ (old now : Plain) (segment to cutoff count row : ℕ) (shape : now.shape ≡ old.shape) (current : now.current ≡ Some to)
     (same : filling_in now segment ≡ filling_in old segment) (within : row < length (filling_in old segment).keys) (last : Bool) (is_last : last ≡ is_last_at (state_of now) segment row)
     (frequency : ℕ) (has : frequency ≡ get_or (filling_in now segment).frequencies row 0) where
   abbrev keys : List (List ℕ)
@@ -321,7 +321,7 @@ module _ (old now : PlainCache) (segment to cutoff count row : ℕ) (shape : now
       ∙ (λ i. rows_then (count + 1) (moved_to ((ap (λ (f : Filling). get_or f.keys row []) (sym same) ∙ sym found) i) (frequency_is i) to (state_of now)))
 
 -- the frequency of a row, where the segment is found as it was
-pub frequency_there : (now old : PlainCache) (segment row : ℕ) (found : Segment) (frequency : ℕ) → slice_get now.segments.items segment ≡ Some found → filling_in now segment ≡ filling_in old segment
+pub frequency_there : (now old : Plain) (segment row : ℕ) (found : Segment) (frequency : ℕ) → slice_get now.segments.items segment ≡ Some found → filling_in now segment ≡ filling_in old segment
     → row < length (filling_in old segment).keys → frequency ≡ get_or found.frequencies.items row frequency → frequency ≡ get_or (filling_in now segment).frequencies row 0
 frequency_there now old segment row found frequency was same within at =
     let is : filling_in now segment ≡ filling_of (Some found) = ap filling_of was in
@@ -331,7 +331,7 @@ frequency_there now old segment row found frequency was same within at =
     at ∙ (get_or_default found.frequencies.items row frequency 0 (omega arith) ∙ ap (λ (f : Filling). get_or f.frequencies row 0) (sym is))
 
 -- and its key
-pub key_there : (now old : PlainCache) (segment row : ℕ) (found : Segment) (key : List ℕ) → slice_get now.segments.items segment ≡ Some found → filling_in now segment ≡ filling_in old segment
+pub key_there : (now old : Plain) (segment row : ℕ) (found : Segment) (key : List ℕ) → slice_get now.segments.items segment ≡ Some found → filling_in now segment ≡ filling_in old segment
     → row < length (filling_in old segment).keys → key ≡ get_or found.keys.items row key → key ≡ get_or (filling_in now segment).keys row []
 key_there now old segment row found key was same within at =
     let is : filling_in now segment ≡ filling_of (Some found) = ap filling_of was in
@@ -340,7 +340,7 @@ key_there now old segment row found key was same within at =
     at ∙ (get_or_default found.keys.items row key [] (omega arith) ∙ ap (λ (f : Filling). get_or f.keys row []) (sym is))
 
 -- the key of the row stands in the segment
-pub row_stands : (now : PlainCache) (segment row : ℕ) (last : Bool) → last ≡ is_last_at (state_of now) segment row → last ≡ true
+pub row_stands : (now : Plain) (segment row : ℕ) (last : Bool) → last ≡ is_last_at (state_of now) segment row → last ≡ true
     → (key : List ℕ) → key ≡ get_or (filling_in now segment).keys row [] → IsSome (standing (state_of now).cache key)
 row_stands now segment row last is_last is key found =
     let stands : (stands_in segment (standing (state_of now).cache (get_or (filling_in now segment).keys row [])) && not (is_among (drop (row + 1) (filling_in now segment).keys) (get_or (filling_in now segment).keys row []))) ≡ true =

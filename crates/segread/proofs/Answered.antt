@@ -8,7 +8,7 @@ use Rattle.segcore.specs.declared.event.Event.TheVariants.{Bumped}
 use Rattle.segcore.specs.Event as event
 use Rattle.segcore.specs.Words.{Event, IsLawful, KeyGone, WasGone}
 use Rattle.segcore.proofs.Moments.{seen_begins}
-use Rattle.segbase.specs.declared.pass.Plain.{Plain}
+use Rattle.segbase.specs.declared.pass.PlainPart.{PlainPart}
 use Rattle.segbase.specs.Words.{AddsAtOnce, AddsEvents, Board, locked_of, number, Pass}
 use Rattle.segbase.specs.Words.{Place, seen, sight, trace}
 use Rattle.segbase.proofs.Moves.{moved_inside}
@@ -113,7 +113,7 @@ module _ (b : Board) (key : List ℕ) (p m q : Pass) (l : LooksFirst b p m) (i :
   gets_answer now (gets.Found value version) x = x
   gets_answer now gets.Miss x = x
   gets_answer now gets.Busy (inl x) = inl (disturbed_from now x)
-  gets_answer now gets.Busy (inr x) = inr (ap (λ (y : Plain). y.locked) (sym l.look.plain) ∙ x.0, x.1)
+  gets_answer now gets.Busy (inr x) = inr (ap (λ (y : PlainPart). y.locked) (sym l.look.plain) ∙ x.0, x.1)
 
   pub reads_key : (draw now : ℕ) (told : GetAnswer) → IsQuiet b p → TriesFew m q → GlancesNothing m q → GetRaisesFrom b.shape key draw told m q → IsGetAnswer b.shape key now told (seen m) (seen q) → ReadsKey b key draw now told p q
   reads_key draw now told quiet few unset raised answer = let on = read_on b p q quiet whole.reads whole.plain whole.memo in record {

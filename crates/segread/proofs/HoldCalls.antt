@@ -13,7 +13,7 @@ use Rattle.segcore.specs.Words.{row_after, View}
 use Rattle.segcore.specs.declared.event.Leaving.TheVariants.{Deletes, Evicts}
 use Rattle.segcore.proofs.Entered.{no_refill}
 use Rattle.segcore.proofs.Moments.{begins_on, seen_begins}
-use Rattle.segbase.specs.declared.pass.Plain.{Plain}
+use Rattle.segbase.specs.declared.pass.PlainPart.{PlainPart}
 use Rattle.segbase.specs.Words.{AddsAtOnce, AddsEvents, Board, HasHeld, Held, holding}
 use Rattle.segbase.specs.Words.{is_holding_of, IsMemo, IsPassOf, Locked, locked, locked_of, Memo}
 use Rattle.segbase.specs.Words.{mine, number, OnlyReads, Pass, Place, seen, StartsAt, trace, view}
@@ -107,7 +107,7 @@ module _ (b : Board) (own : List Event) (held : Option Held) (p r q : Pass) (qui
   sets_hold = record { plain = sets.plain ∙ ap (with_holding (is_some held)) plain; memo = sets.memo ∙ ap (λ (m : Memo). record m { holding = held }) same }
 
   locked_stays : locked_of q ≡ locked_of p
-  locked_stays = ap (λ (x : Plain). x.locked) sets_hold.plain
+  locked_stays = ap (λ (x : PlainPart). x.locked) sets_hold.plain
 
   holding_now : holding q ≡ held
   holding_now = ap (λ (m : Memo). m.holding) sets_hold.memo
@@ -131,7 +131,7 @@ module _ (b : Board) (own : List Event) (held : Option Held) (p r q : Pass) (qui
     locks = locked_stays ∙ (quiet.locks ∙ ap (λ (m : Memo). option_map (λ (lock : Locked). lock.bucket) m.locked) (sym sets_hold.memo));
     bits = λ bucket has. locked_stays ∙ quiet.bits bucket (bit_before b own p q bucket moved_to (reads_none b.shape bucket own only) has);
     lock = lock_stays;
-    holds = ap (λ (x : Plain). x.is_holding) sets_hold.plain ∙ ap is_some (sym holding_now);
+    holds = ap (λ (x : PlainPart). x.is_holding) sets_hold.plain ∙ ap is_some (sym holding_now);
     inside = λ s. ap (λ n. inside (trace q) n s) moved_to.same ∙ (readings s ∙ ap (λ o. cond (is_held_in o s) 1 0) (sym holding_now));
     hold = λ x here. subst (λ (v : View). IsHold b.shape v.trace x) (sym view_is) (hold x (sym holding_now ∙ here));
   })

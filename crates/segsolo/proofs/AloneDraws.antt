@@ -7,7 +7,7 @@ use Rattle.segmodel.specs.declared.answer.Command.{Command}
 use Rattle.segmodel.specs.declared.answer.Command.TheVariants as command
 use Rattle.segmodel.specs.Words.{after, after_hit, Answer, Cached, Filling, GetAnswer, GetsAnswer, is_locked, IsSound, present, raised_in, Serves, State}
 use Rattle.segbase.specs.Words.{Board, Memo, Pass, seen, state_in, own_segment}
-use Rattle.segbase.specs.declared.pass.Plain.{Plain}
+use Rattle.segbase.specs.declared.pass.PlainPart.{PlainPart}
 use Rattle.segindex.proofs.Since.{get_since, gets_since}
 use Rattle.segstore.specs.Words.{ChangesNothing, DrawsNothing, GoesOn}
 use Rattle.segread.specs.Words.{ReadsKey, ReadsVersion}
@@ -65,9 +65,9 @@ module _ (b : Board) (p q : Pass) (was : IsAlone b p) (on : GoesOn b p q) (undra
 
   at_frequencies : state_at b.shape q ≡ with_frequencies (frequencies_in q) (state_at b.shape p)
   at_frequencies = let widths = same_widths b p q was on undrawn in
-      at_state b.shape q (with_frequencies (frequencies_in q) (state_at b.shape p)) (ap (after b.shape) same) (λ segment. ap (λ (x : Plain). or_empty (state_in (own_segment x segment))) nothing.plain)
-      (λ segment. ap (λ h. keys_stored_in h segment) same) (λ segment. refl) (ap (λ (x : Plain). x.current) nothing.plain) widths.wide widths.drawn
-      (ap (λ (m : Memo). option_map item_of m.holding) nothing.memo) (ap (λ (x : Plain). x.locked) nothing.plain)
+      at_state b.shape q (with_frequencies (frequencies_in q) (state_at b.shape p)) (ap (after b.shape) same) (λ segment. ap (λ (x : PlainPart). or_empty (state_in (own_segment x segment))) nothing.plain)
+      (λ segment. ap (λ h. keys_stored_in h segment) same) (λ segment. refl) (ap (λ (x : PlainPart). x.current) nothing.plain) widths.wide widths.drawn
+      (ap (λ (m : Memo). option_map item_of m.holding) nothing.memo) (ap (λ (x : PlainPart). x.locked) nothing.plain)
 
   still_alone : IsAlone b q
   still_alone = record {

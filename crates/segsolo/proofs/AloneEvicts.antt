@@ -18,7 +18,7 @@ use Rattle.segmodel.proofs.Counts.{count-split, both, and_true}
 use Rattle.segmodel.proofs.Ordered.{sorted-after}
 use Rattle.segmodel.proofs.ServingKeeps.{found_passes}
 use Rattle.segcore.proofs.Standing.{legal}
-use Rattle.segbase.specs.declared.pass.Plain.{Plain}
+use Rattle.segbase.specs.declared.pass.PlainPart.{PlainPart}
 use Rattle.segbase.specs.Words.{Board, Locked, locked, locked_of, Memo, number, own_segment, Pass}
 use Rattle.segbase.specs.Words.{seen, state_in, state_of, trace, used_in, with_state}
 use Rattle.segbase.proofs.Alone.{bounced_alone}
@@ -50,7 +50,7 @@ found_there None segment none = absurd none
 found_there (Some item) segment there = (item, refl, there)
 
 -- what an evict leaves of the plain part, whatever becomes of the segment's state
-abbrev rest_of : Plain → (ℕ → Option ℕ) × Option ℕ × Option ℕ
+abbrev rest_of : PlainPart → (ℕ → Option ℕ) × Option ℕ × Option ℕ
 rest_of x = ((λ s. used_in (own_segment x s)), x.current, x.locked)
 
 rest_emptied : (p q : Pass) (segment : ℕ) → q.plain ≡ with_state segment Evicted (ended segment p.plain) → rest_of q.plain ≡ rest_of (ended segment p.plain)
@@ -139,7 +139,7 @@ module _ (b : Board) (p q : Pass) (segment count : ℕ) (was : IsAlone b p) (on 
     state_then : (s : ℕ) → or_empty (state_of q s) ≡ (with_at (state_at b.shape p).filling segment emptied s).state
     state_then = by_segment (λ s. or_empty (state_of q s) ≡ (with_at (state_at b.shape p).filling segment emptied s).state) segment
         (ap or_empty (emptied_state segment p q before now) ∙ sym (ap (λ (f : Filling). f.state) (with_at-same (state_at b.shape p).filling segment segment emptied refl)))
-        (λ s ne. ap (λ (x : Plain). or_empty (state_in (own_segment x s))) now ∙ (ap or_empty (state_apart (ended segment p.plain) segment Evicted s (λ e. ne (sym e))) ∙ sym (ap (λ (f : Filling). f.state) (with_at-other (state_at b.shape p).filling segment s emptied ne))))
+        (λ s ne. ap (λ (x : PlainPart). or_empty (state_in (own_segment x s))) now ∙ (ap or_empty (state_apart (ended segment p.plain) segment Evicted s (λ e. ne (sym e))) ∙ sym (ap (λ (f : Filling). f.state) (with_at-other (state_at b.shape p).filling segment s emptied ne))))
 
     same_keys : (s : ℕ) → keys_stored_in (seen p) s ≡ (with_at (state_at b.shape p).filling segment emptied s).keys
     same_keys s = by (eqb segment s) (eqb-true segment s)
@@ -175,7 +175,7 @@ module _ (b : Board) (p q : Pass) (segment count : ℕ) (was : IsAlone b p) (on 
         (λ may. (both (is_in segment (key, item) && not (is_locked b.shape (state_at b.shape p) key)) (is_evicted takes.evictions key) may).1)
 
     state_still : (s : ℕ) → or_empty (state_of q s) ≡ or_empty (state_of p s)
-    state_still s = ap (λ (x : Plain). or_empty (state_in (own_segment x s))) now
+    state_still s = ap (λ (x : PlainPart). or_empty (state_in (own_segment x s))) now
 
     -- the bucket that was in the way is the one that the pass has locked
     has_locked : locked_of p ≡ Some (bucket_of b.shape barred.0)

@@ -14,7 +14,7 @@ use Rattle.segcore.specs.Words.{cached, entries, Event, frequency_in, last_at, M
 use Rattle.segcore.specs.Words.{raised as pass_raised, slot}
 use Rattle.segcore.proofs.Marked.{entries_marked}
 use Rattle.segcore.proofs.Moments.{marked_begins, seen_begins}
-use Rattle.segbase.specs.declared.pass.Plain.{Plain}
+use Rattle.segbase.specs.declared.pass.PlainPart.{PlainPart}
 use Rattle.segbase.specs.Words.{Board, count, marked, Memo, number, own_segment, Pass, seen}
 use Rattle.segbase.specs.Words.{state_in, state_of, trace}
 use Rattle.segstore.specs.Words.{ChangesNothing, DrawsNothing, GoesOn, RaisesNothing}
@@ -201,7 +201,7 @@ module _ (b : Board) (p q : Pass) (was : IsAlone b p) (on : GoesOn b p q) (nothi
     new = with_at old item.segment (raised_in key (old item.segment))
 
     states_then : (s : ℕ) → or_empty (state_of q s) ≡ (new s).state
-    states_then s = ap (λ (x : Plain). or_empty (state_in (own_segment x s))) nothing.plain ∙ by (eqb item.segment s) (eqb-true item.segment s)
+    states_then s = ap (λ (x : PlainPart). or_empty (state_in (own_segment x s))) nothing.plain ∙ by (eqb item.segment s) (eqb-true item.segment s)
       where
         by : (here : Bool) → (here ≡ true → item.segment ≡ s) → (old s).state ≡ (cond here (raised_in key (old item.segment)) (old s)).state
         by true is = ap (λ s. (old s).state) (sym (is refl))
@@ -234,8 +234,8 @@ module _ (b : Board) (p q : Pass) (was : IsAlone b p) (on : GoesOn b p q) (nothi
 
     at_hit : state_at b.shape q ≡ record (state_at b.shape p) { filling = new }
     at_hit = let widths = same_widths b p q was on undrawn in
-        at_state b.shape q (record (state_at b.shape p) { filling = new }) (ap (after b.shape) same) states_then keys_then frequencies_then (ap (λ (x : Plain). x.current) nothing.plain) widths.wide widths.drawn
-        (ap (λ (m : Memo). option_map item_of m.holding) nothing.memo) (ap (λ (x : Plain). x.locked) nothing.plain)
+        at_state b.shape q (record (state_at b.shape p) { filling = new }) (ap (after b.shape) same) states_then keys_then frequencies_then (ap (λ (x : PlainPart). x.current) nothing.plain) widths.wide widths.drawn
+        (ap (λ (m : Memo). option_map item_of m.holding) nothing.memo) (ap (λ (x : PlainPart). x.locked) nothing.plain)
 
 -- a hit leaves the state that the model's hit leaves
 pub hit_leaves : (b : Board) (p q : Pass) (key value : List ℕ) (now : ℕ) → IsAlone b p → GoesOn b p q → DrawsNothing p q → ChangesNothing p q → RaisesOne b.shape key value 0 p q

@@ -11,7 +11,7 @@ use Rattle.segmodel.specs.Words.{bucket_of, Filling, is_in_use, is_locked, is_ou
 use Rattle.segmodel.proofs.Keeping.{blocks, ends, moves as moves_on, passes}
 use Rattle.segcore.specs.Words.{bounced, frequency_in}
 use Rattle.segbase.specs.Passes as passes
-use Rattle.segbase.specs.declared.pass.Plain.{Plain}
+use Rattle.segbase.specs.declared.pass.PlainPart.{PlainPart}
 use Rattle.segbase.specs.Words.{Board, current_of, deadline_in, deadline_of, locked_of, marked, own_segment, Pass, seen, state_of}
 use Rattle.segbase.proofs.Alone.{bounced_alone}
 use Rattle.segstore.specs.Words.{ChangesNothing, DrawsNothing, GoesOn, has_room, RaisesNothing, ReadsNothing}
@@ -63,9 +63,9 @@ module _ (b : Board) (segment into cutoff row count : ℕ) (p q : Pass) (was : I
 
   target_still : ChangesNothing p q → IsKeepTarget segment into q
   target_still nothing = record {
-    current = ap (λ (x : Plain). x.current) nothing.plain ∙ target.current;
+    current = ap (λ (x : PlainPart). x.current) nothing.plain ∙ target.current;
     other = target.other;
-    deadlines = ap (λ (x : Plain). deadline_in (own_segment x segment)) nothing.plain ∙ (target.deadlines ∙ sym (ap (λ (x : Plain). deadline_in (own_segment x into)) nothing.plain));
+    deadlines = ap (λ (x : PlainPart). deadline_in (own_segment x segment)) nothing.plain ∙ (target.deadlines ∙ sym (ap (λ (x : PlainPart). deadline_in (own_segment x into)) nothing.plain));
   }
 
   passed : is_to_move segment cutoff row (state_at b.shape p) ≡ false → ChangesNothing p q → StaysAlone b p q → GoesOnTo b segment into cutoff row count count p q
@@ -117,7 +117,7 @@ module _ (b : Board) (segment into cutoff row count : ℕ) (p q : Pass) (was : I
           → HadFrequency b.shape segment row (λ frequency. cutoff ≤ frequency) (marked q) (marked q) owner → EndsAt b segment into cutoff row count (keep.NoRoom count) p q
       ended undrawn unraised on nothing full owner had =
           let same = stays b p q was on undrawn unraised nothing in
-          let full_then : has_room b.shape p ≡ false = subst (λ (x : Plain). has_room b.shape (record p { plain = x }) ≡ false) nothing.plain full in record {
+          let full_then : has_room b.shape p ≡ false = subst (λ (x : PlainPart). has_room b.shape (record p { plain = x }) ≡ false) nothing.plain full in record {
             alone = same.alone;
             end = ends b.shape segment into cutoff count (state_at b.shape p) keys frequencies row within long (often b segment cutoff row p was within owner (names_now b segment cutoff row p was within q on unraised nothing owner had)) (out_is ∙ ap not full_then)
                 ∙ ap (λ s. (keep.NoRoom count, s)) (sym same.state);
@@ -130,7 +130,7 @@ module _ (b : Board) (segment into cutoff row count : ℕ) (p q : Pass) (was : I
       let unraised = unraised_in is.costs.reads_nothing in
       let names = names_then b segment cutoff row p was within q is.on unraised nothing (λ frequency. cutoff ≤ frequency) owner is.answer.4.1 in
       let same = stays b p q was is.on is.costs.draws_nothing unraised nothing in
-      let room : has_room b.shape p ≡ true = subst (λ (x : Plain). has_room b.shape (record p { plain = x }) ≡ true) nothing.plain is.answer.3 in record {
+      let room : has_room b.shape p ≡ true = subst (λ (x : PlainPart). has_room b.shape (record p { plain = x }) ≡ true) nothing.plain is.answer.3 in record {
         alone = same.alone;
         end = blocks b.shape segment into cutoff count (state_at b.shape p) keys frequencies row within long (often b segment cutoff row p was within owner names) (out_is ∙ ap not room)
             (ap (is_locked b.shape (state_at b.shape p)) (last_row b segment cutoff row p was within (λ frequency. cutoff ≤ frequency) owner names).0 ∙ locked_here b.shape p owner (own_lock owner is.answer.4.2))

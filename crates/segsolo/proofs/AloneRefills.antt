@@ -10,7 +10,7 @@ use Rattle.segmodel.specs.declared.answer.Answer.TheVariants as answer
 use Rattle.segmodel.specs.declared.answer.Command.TheVariants as command
 use Rattle.segmodel.specs.Words.{after, after_refill, Filling, is_held, is_own, refill_answer}
 use Rattle.segmodel.specs.Words.{RefillAnswer, SegState, with_at}
-use Rattle.segbase.specs.declared.pass.Plain.{Plain}
+use Rattle.segbase.specs.declared.pass.PlainPart.{PlainPart}
 use Rattle.segcore.specs.Words.{frequency_in}
 use Rattle.segbase.specs.Words.{Board, Held, holding, marked, Memo, number, Pass, seen, state_of, trace}
 use Rattle.segbase.specs.Words.{used_of}
@@ -113,7 +113,7 @@ module _ (b : Board) (p q : Pass) (segment deadline : ℕ) (was : IsAlone b p) (
     at_refilled =
         let widths = same_widths b p q was on undrawn in
         at_state b.shape q (after_refill segment deadline refill.Refilled (state_at b.shape p))
-        (ap (after b.shape) more) state_then keys_then frequencies_then (ap (λ (x : Plain). x.current) refills.plain) widths.wide widths.drawn (ap (λ (m : Memo). option_map item_of m.holding) refills.memo) (ap (λ (x : Plain). x.locked) refills.plain)
+        (ap (after b.shape) more) state_then keys_then frequencies_then (ap (λ (x : PlainPart). x.current) refills.plain) widths.wide widths.drawn (ap (λ (m : Memo). option_map item_of m.holding) refills.memo) (ap (λ (x : PlainPart). x.locked) refills.plain)
 
     counts : CountsRows q
     counts s count is = by_segment (λ s. used_of q s ≡ Some count → count ≡ length (with_at (state_at b.shape p).filling segment begun s).keys) segment

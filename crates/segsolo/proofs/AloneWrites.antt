@@ -21,7 +21,7 @@ use Rattle.segmodel.proofs.Stores as stores
 use Rattle.segcore.specs.Mark.{last_at, same_key}
 use Rattle.segcore.specs.Words.{cached, drew, slot}
 use Rattle.segcore.proofs.Keys.{same_true}
-use Rattle.segbase.specs.declared.pass.Plain.{Plain}
+use Rattle.segbase.specs.declared.pass.PlainPart.{PlainPart}
 use Rattle.segbase.specs.Words.{Board, count, marked, Memo, number, Pass, seen, used_of}
 use Rattle.segstore.specs.Words.{AddsEntry, ChangesNothing, DrawsNothing, GoesOn, has_room}
 use Rattle.segstore.specs.Words.{RaisesNothing}
@@ -113,8 +113,8 @@ module _ (b : Board) (p q : Pass) (request : Request) (segment : ℕ) (was : IsA
         width = (longer (lacks_word b.shape (state_at b.shape p) request)).width;
         drawn = (longer (lacks_word b.shape (state_at b.shape p) request)).drawn;
       })
-      (ap (after b.shape) more) (state_then b p q (key_of request) 1 segment was stored_so used row_used) (keys_then b p q (key_of request) 1 segment was stored_so used row_used) frequencies (ap (λ (x : Plain). x.current) uses.plain) grows.wide grows.drawn
-      (ap (λ (m : Memo). option_map item_of m.holding) uses.memo) (ap (λ (x : Plain). x.locked) uses.plain)
+      (ap (after b.shape) more) (state_then b p q (key_of request) 1 segment was stored_so used row_used) (keys_then b p q (key_of request) 1 segment was stored_so used row_used) frequencies (ap (λ (x : PlainPart). x.current) uses.plain) grows.wide grows.drawn
+      (ap (λ (m : Memo). option_map item_of m.holding) uses.memo) (ap (λ (x : PlainPart). x.locked) uses.plain)
       ∙ (placed_alike (lacks_word b.shape (state_at b.shape p) request) ∙ sym (ap (λ current. stored b.shape request current (state_at b.shape p)) uses.current))
 
 -- ---- any request to store

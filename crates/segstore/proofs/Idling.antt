@@ -4,7 +4,7 @@ use Rattle.std.proofs.lemmas.Option.{none-some}
 use Rattle.segmodel.specs.History as history
 use Rattle.segcore.specs.Event as event
 use Rattle.segcore.specs.Words.{bounced, count, Event, NoneAt, taken}
-use Rattle.segbase.specs.declared.pass.Plain.{Plain}
+use Rattle.segbase.specs.declared.pass.PlainPart.{PlainPart}
 use Rattle.segbase.specs.Words.{AddsEvents, Board, locked_of, Memo, number, Pass, trace}
 use Rattle.segbase.proofs.Moves.{stays, moved_mine, moved_count}
 use Rattle.segstore.proofs.Keeping.{AreCalm, keeps_plain}
@@ -28,11 +28,11 @@ pub record IsIdle (b : Board) (own : List Event) (p : Pass) : Type 0 where
 module _ (b : Board) (own : List Event) (p q : Pass) (quiet : IsQuiet b p) (m : AddsEvents b own p q) (idles : IsIdle b own p) (plain : q.plain ≡ p.plain) (same : memo q ≡ memo p) where
   pub quiet_idle : IsQuiet b q
   quiet_idle =
-      let there = settles_still b own p q m idles.still (ap (λ (x : Memo). x.holding) same) (ap (λ (x : Plain). x.is_holding) plain) in
+      let there = settles_still b own p q m idles.still (ap (λ (x : Memo). x.holding) same) (ap (λ (x : PlainPart). x.is_holding) plain) in
       quiet_again b own p q quiet (record {
         moved = m;
         memo = same;
-        locked_of = ap (λ (x : Plain). x.locked) plain;
+        locked_of = ap (λ (x : PlainPart). x.locked) plain;
         holding = there.plain;
         segments = keeps_plain b own p q m idles.calm plain quiet.segments;
         bits = λ bucket. bit_before b own p q bucket m (idles.nowhere bucket);

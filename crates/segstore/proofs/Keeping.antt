@@ -16,7 +16,7 @@ use Rattle.segcore.proofs.Quiet.{quiet_row}
 use Rattle.segcore.proofs.Quiet.{own_deadline}
 use Rattle.segcore.proofs.Deadlines.{deadline_seen}
 use Rattle.segcore.proofs.Readers.{still_empty, empty_stays}
-use Rattle.segbase.specs.declared.pass.Plain.{Plain}
+use Rattle.segbase.specs.declared.pass.PlainPart.{PlainPart}
 use Rattle.segbase.specs.Words.{AddsAtOnce, AddsEvents, Board, current_of, IsPassOf, number, own_of, deadline_of, deadline_in}
 use Rattle.segbase.specs.Words.{own_segment, OwnSegment, Pass, seen, state_in, state_of, trace}
 use Rattle.segbase.specs.Words.{used_in, used_of, with_state, with_used}
@@ -52,16 +52,16 @@ knows_deadline p s state there = by (own_segment p.plain s) there
 
 -- with an equal plain part it knows the same of its segments
 pub same_states : (p q : Pass) (s : ℕ) → q.plain ≡ p.plain → state_of q s ≡ state_of p s
-same_states p q s same = ap (λ (x : Plain). state_in (own_segment x s)) same
+same_states p q s same = ap (λ (x : PlainPart). state_in (own_segment x s)) same
 
 pub same_used : (p q : Pass) (s : ℕ) → q.plain ≡ p.plain → used_of q s ≡ used_of p s
-same_used p q s same = ap (λ (x : Plain). used_in (own_segment x s)) same
+same_used p q s same = ap (λ (x : PlainPart). used_in (own_segment x s)) same
 
 pub same_deadlines : (p q : Pass) (s : ℕ) → q.plain ≡ p.plain → deadline_of q s ≡ deadline_of p s
-same_deadlines p q s same = ap (λ (x : Plain). deadline_in (own_segment x s)) same
+same_deadlines p q s same = ap (λ (x : PlainPart). deadline_in (own_segment x s)) same
 
 -- what it knows of them, and the current one
-abbrev pub stored_in : Plain → (ℕ → Option OwnSegment) × Option ℕ
+abbrev pub stored_in : PlainPart → (ℕ → Option OwnSegment) × Option ℕ
 stored_in x = (own_segment x, x.current)
 
 pub in_table : (b : Board) (p : Pass) (s : ℕ) → IsPassOf b p → owner b.shape s ≡ number p → IsSegment b.shape s
@@ -283,7 +283,7 @@ keeps_named b e p r segment row at d same current used lt is k =
           same_cached b.shape (trace p) (trace r) s (ap (λ h. segment_of.deadline_of h s) d.now
           ∙ (named_deadline e (d.others ++ trace p) segment row s at ∙ others_deadline b _ p r s d (owns_lasting b p s n is before)))
           ∙ k.deadlines s n before;
-      in_use = λ s is'. states s ∙ k.in_use s (sym (ap (λ (x : Plain). x.current) same) ∙ is');
+      in_use = λ s is'. states s ∙ k.in_use s (sym (ap (λ (x : PlainPart). x.current) same) ∙ is');
       unused = λ s state is' not.
           let before : state_of p s ≡ Some state = sym (states s) ∙ is' in
           let other : segment ≢ s = λ e. not (same_Some state InUse (sym before ∙ (ap (state_of p) (sym e) ∙ k.in_use segment current))) in
@@ -291,8 +291,8 @@ keeps_named b e p r segment row at d same current used lt is k =
     }
 
 -- what is known of the segments after a refilling
-module _ (x : Plain) (segment deadline : ℕ) where
-  abbrev emptied : Plain
+module _ (x : PlainPart) (segment deadline : ℕ) where
+  abbrev emptied : PlainPart
   emptied = with_used segment 0 (with_state segment InUse x)
 
   pub refilled_owner : owner_of (refilled segment deadline x) ≡ owner_of x

@@ -11,7 +11,7 @@ use Rattle.segcore.proofs.Moments.{seen_begins}
 use Rattle.segbase.specs.Words.{AddsAtOnce, AddsEvents, Board, HasLocked, IsMemo, IsPassOf, Locked}
 use Rattle.segbase.specs.Words.{locked, locked_of, Memo, number, Pass, seen, trace, view}
 use Rattle.segbase.specs.Words.{with_locked}
-use Rattle.segbase.specs.declared.pass.Plain.{Plain}
+use Rattle.segbase.specs.declared.pass.PlainPart.{PlainPart}
 use Rattle.segbase.proofs.Moves.{moved_mine}
 use Rattle.segbase.proofs.Owned.{still_pass}
 use Rattle.segstore.specs.Segments.{KeepsSegments}
@@ -61,7 +61,7 @@ module _ (b : Board) (own : List Event) (p r q : Pass) (bucket : Option ℕ) (qu
   keeps_on calm = keeps b own p q moved_to calm (ap stored_in sets_lock.plain) quiet.segments
 
   pub in_segments : AreStill own → SettlesIn own p q
-  in_segments still = settles_still b own p q moved_to still (ap (λ (m : Memo). m.holding) sets_lock.memo) (ap (λ (x : Plain). x.is_holding) sets_lock.plain)
+  in_segments still = settles_still b own p q moved_to still (ap (λ (m : Memo). m.holding) sets_lock.memo) (ap (λ (x : PlainPart). x.is_holding) sets_lock.plain)
 
 -- ---- a lock
 
@@ -81,7 +81,7 @@ module _ (b : Board) (p r q : Pass) (bucket : ℕ) (quiet : IsQuiet b p) (free :
   locked_move = moved_to b took_own p r q (Some bucket) quiet took.2 plain same is view_is sets
 
   only_bit : (other : ℕ) → HasBit b.shape (trace q) (number q) other → locked_of q ≡ Some other
-  only_bit other bit = ap (λ (x : Plain). x.locked) sets.plain ∙ ⊎_elim
+  only_bit other bit = ap (λ (x : PlainPart). x.locked) sets.plain ∙ ⊎_elim
       (λ e. ap Some e)
       (λ apart. absurd (none-some other (sym free ∙ quiet.bits other (bit_before b took_own p q other locked_move (took_elsewhere b (number p) bucket took.0 other apart) bit))))
       (cases_eq bucket other)
@@ -95,7 +95,7 @@ module _ (b : Board) (p r q : Pass) (bucket : ℕ) (quiet : IsQuiet b p) (free :
   quiet_locked = let stay = in_segments b took_own p r q (Some bucket) quiet took.2 plain same is view_is sets (tt, bounces_still (number p) bucket took.0) in record {
     pass = is;
     segments = keeps_on b took_own p r q (Some bucket) quiet took.2 plain same is view_is sets (tt, bounces_calm (number p) bucket took.0);
-    locks = ap (λ (x : Plain). x.locked) sets.plain ∙ sym (ap (λ (m : Memo). option_map (λ (lock : Locked). lock.bucket) m.locked) sets.memo);
+    locks = ap (λ (x : PlainPart). x.locked) sets.plain ∙ sym (ap (λ (m : Memo). option_map (λ (lock : Locked). lock.bucket) m.locked) sets.memo);
     bits = only_bit;
     lock = λ lock here. subst (IsLock b.shape (trace q) (number q)) (same_Some (lock_now q bucket) lock (sym (ap (λ (m : Memo). m.locked) sets.memo) ∙ here)) new_lock;
     holds = holds_again b took_own p q quiet locked_move stay;
@@ -138,7 +138,7 @@ module _ (b : Board) (p r q : Pass) (bucket : ℕ) (quiet : IsQuiet b p) (had : 
   quiet_unlocked = let stay = in_segments b freed_own p r q None quiet did.moved plain same is view_is sets (tt, tt) in record {
     pass = is;
     segments = keeps_on b freed_own p r q None quiet did.moved plain same is view_is sets (tt, tt);
-    locks = ap (λ (x : Plain). x.locked) sets.plain ∙ sym (ap (λ (m : Memo). option_map (λ (lock : Locked). lock.bucket) m.locked) sets.memo);
+    locks = ap (λ (x : PlainPart). x.locked) sets.plain ∙ sym (ap (λ (m : Memo). option_map (λ (lock : Locked). lock.bucket) m.locked) sets.memo);
     bits = λ other bit. absurd (no_bit other bit);
     lock = λ lock here. absurd (none-some lock (sym (ap (λ (m : Memo). m.locked) sets.memo) ∙ here));
     holds = holds_again b freed_own p q quiet unlocked_move stay;

@@ -6,7 +6,7 @@ use Rattle.segword.specs.Words.{Shape}
 use Rattle.segcore.specs.declared.event.Event.TheVariants.{Glanced, Bumped, Entered, Left}
 use Rattle.segcore.specs.Words.{bucket_after, Event, HasBit, inside, NoneAt}
 use Rattle.segcore.proofs.Moments.{marked_begins}
-use Rattle.segbase.specs.declared.pass.Plain.{Plain}
+use Rattle.segbase.specs.declared.pass.PlainPart.{PlainPart}
 use Rattle.segbase.specs.Words.{AddsEvents, Board, Held, holding, is_holding_of, IsReaderEvent}
 use Rattle.segbase.specs.Words.{Locked, locked, locked_of, Memo, number, OnlyReads, Pass, Reads}
 use Rattle.segbase.specs.Words.{sight, StaysIn, trace}
@@ -139,8 +139,8 @@ pub reads_settles : (b : Board) (p q : Pass) (reads : Reads b p q) → q.plain �
 reads_settles b p q reads plain memo segments = record {
   moved = reads.moved;
   memo = memo;
-  locked_of = ap (λ (x : Plain). x.locked) plain;
-  holding = ap (λ (x : Plain). x.is_holding) plain;
+  locked_of = ap (λ (x : PlainPart). x.locked) plain;
+  holding = ap (λ (x : PlainPart). x.is_holding) plain;
   segments = segments;
   bits = λ bucket. bit_before b reads.own p q bucket reads.moved (reads_none b.shape bucket reads.own reads.only);
   untouched = λ lock is. reads_none b.shape lock.bucket reads.own reads.only;

@@ -5,7 +5,7 @@ use Rattle.segmodel.specs.declared.answer.RefillAnswer.TheVariants.{Refilled, No
 use Rattle.segmodel.specs.declared.answer.SegState.TheVariants.{InUse}
 use Rattle.segcore.specs.declared.event.Event.TheVariants as event
 use Rattle.segcore.specs.Words.{Event, inside}
-use Rattle.segbase.specs.declared.pass.Plain.{Plain}
+use Rattle.segbase.specs.declared.pass.PlainPart.{PlainPart}
 use Rattle.segbase.specs.Words.{AddsEvents, Board, HasStep, looks, number, Pass, sight, state_of}
 use Rattle.segbase.specs.Words.{trace}
 use Rattle.segbase.specs.Words.{with_current, with_deadline, with_state, with_used}
@@ -21,7 +21,7 @@ abbrev pub TakesOneStep : Pass → Pass → Type 0
 TakesOneStep p q = (start : List Event) × (looks q ≡ start ∷ looks p)
 
 -- the segment is in use and current, with no row used and with this deadline; the rest is as it was
-abbrev pub refilled : ℕ → ℕ → Plain → Plain
+abbrev pub refilled : ℕ → ℕ → PlainPart → PlainPart
 refilled segment deadline plain =
     with_current (Some segment)
     (with_deadline segment deadline (with_used segment 0 (with_state segment InUse plain)))

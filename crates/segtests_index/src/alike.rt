@@ -5,7 +5,7 @@ use crate::same::{check_that, same};
 use rand_core::utils::NextWord;
 use rand_pcg::Lcg64Xsh32;
 use segmodel::{
-    Answer, Command, DeleteAnswer, EvictAnswer, GetAnswer, GetsAnswer, KeepAnswer, PlainCache,
+    Answer, Command, DeleteAnswer, EvictAnswer, GetAnswer, GetsAnswer, KeepAnswer, Plain,
     RefillAnswer, Request, Shelf, WriteAnswer, run,
 };
 use segsolo::Solo;
@@ -61,7 +61,7 @@ const FULL_OF_EXPIRED: Load = Load {
 };
 
 // A plain cache and an index, both of this shape.
-fn both<R: AllocGlobal + Abort>(rt: &R, load: Load) -> (PlainCache, Solo) {
+fn both<R: AllocGlobal + Abort>(rt: &R, load: Load) -> (Plain, Solo) {
     let shape = Shape {
         buckets: load.buckets,
         overflow: load.overflow,
@@ -71,7 +71,7 @@ fn both<R: AllocGlobal + Abort>(rt: &R, load: Load) -> (PlainCache, Solo) {
         first_version: FIRST_VERSION,
     };
     shape.check().expect(rt, "a shape");
-    let plain = PlainCache::new(rt.alloc(), &shape).expect(rt, "memory");
+    let plain = Plain::new(rt.alloc(), &shape).expect(rt, "memory");
     let solo = Solo::new(rt.alloc(), shape).expect(rt, "memory");
     (plain, solo)
 }
@@ -201,7 +201,7 @@ impl Came {
 // Serves a command by both caches, and returns what both answer.
 fn serve_both(
     rt: &impl Abort,
-    plain: &mut PlainCache,
+    plain: &mut Plain,
     solo: &mut Solo,
     command: &Command,
 ) -> Answer {

@@ -6,7 +6,7 @@ use crate::hoard::{RUNS, STEP, check_refused, hoard, leave};
 use crate::memory_tables::{LONGEST_CHAIN, MOVED_ITEMS, TWO_SEGMENTS, Table};
 use crate::rows::Row;
 use crate::same::{check_that, same};
-use segmodel::{Answer, Command, PlainCache, PlainFault, Shelf, run};
+use segmodel::{Answer, Command, Plain, PlainFault, Shelf, run};
 use segword::{Key, Shape};
 use std::alloc::AllocGlobal;
 use std::process::Abort;
@@ -14,14 +14,14 @@ use std::process::Abort;
 // The keys of the tables.
 const KEYS: &[u8] = b"abcdefghijklmnopqrstuvwxyz";
 
-fn plain<R: AllocGlobal + Abort>(rt: &R, shape: &Shape) -> PlainCache {
+fn plain<R: AllocGlobal + Abort>(rt: &R, shape: &Shape) -> Plain {
     shape.check().expect(rt, "a shape");
     assert!(rt; shape.passes == 1);
-    PlainCache::new(rt.alloc(), shape).expect(rt, "memory")
+    Plain::new(rt.alloc(), shape).expect(rt, "memory")
 }
 
 // What each key of the tables reads, with its version.
-fn content<R: AllocGlobal + Abort>(rt: &R, plain: &mut PlainCache) -> Vec<Answer> {
+fn content<R: AllocGlobal + Abort>(rt: &R, plain: &mut Plain) -> Vec<Answer> {
     let mut content = Vec::new(rt.alloc());
     for byte in KEYS {
         let key = Key::new(&[*byte]).expect(rt, "a key");
@@ -32,12 +32,12 @@ fn content<R: AllocGlobal + Abort>(rt: &R, plain: &mut PlainCache) -> Vec<Answer
 }
 
 // Serves a command. This function has no contract, so that the proof of a test needn't read the cache's.
-fn serve(plain: &mut PlainCache, command: &Command) -> Result<Answer, PlainFault> {
+fn serve(plain: &mut Plain, command: &Command) -> Result<Answer, PlainFault> {
     plain.serve(command)
 }
 
 // A plain cache that has served these rows.
-fn after<R: AllocGlobal + Abort>(rt: &R, shape: &Shape, rows: &[Row<'_>]) -> PlainCache {
+fn after<R: AllocGlobal + Abort>(rt: &R, shape: &Shape, rows: &[Row<'_>]) -> Plain {
     let mut plain = plain(rt, shape);
     for &(text, _) in rows {
         let command = command_of(text).expect(rt, "a command");
@@ -106,7 +106,7 @@ fn commands_of<R: AllocGlobal + Abort>(rt: &R, rows: &[Row<'_>]) -> Vec<Command>
 
 // Runs commands. This function has no contract either.
 fn run_all(
-    plain: &mut PlainCache,
+    plain: &mut Plain,
     commands: &[Command],
     answers: &mut Vec<Answer>,
 ) -> Result<(), PlainFault> {

@@ -137,14 +137,14 @@ fn keys_of(solo: &mut Solo, mut workload: Workload, commands: u32) -> u32 {
 
 // What a plain loop comes to.
 #[derive(Clone, Copy)]
-struct Plain {
+struct PlainRun {
     counts: [u32; PLACES],
     recycled: Recycled,
     keys: u32,
 }
 
 // What a plain loop counts over the commands of pass 0 of so many keys, and how many of these stand then.
-fn plain_loop(alloc: Global, shape: Shape, plan: Plan) -> Option<Plain>
+fn plain_loop(alloc: Global, shape: Shape, plan: Plan) -> Option<PlainRun>
     requires one_pass { shape.passes ≡ 1 }
     requires some { (1 ≤ shape.segments_each) × (shape.segments_each < 2 ^ 32) }
 {
@@ -164,7 +164,7 @@ fn plain_loop(alloc: Global, shape: Shape, plan: Plan) -> Option<Plain>
         counts[place] = counts[place].saturating_add(1);
     }
     let again = Workload::with_keys(plan.seed, 0, plan.keys.get());
-    Some(Plain {
+    Some(PlainRun {
         counts,
         recycled,
         keys: keys_of(&mut solo, again, plan.commands),
@@ -216,7 +216,7 @@ pub fn plan_of(rt: &impl Abort, commands: u32, keys: u32) -> Plan {
 }
 
 // Checks that the totals of one pass are what a plain loop came to, and that no command was busy.
-fn check_counts(rt: &impl Abort, totals: &Totals, plain: &Plain, commands: u32) {
+fn check_counts(rt: &impl Abort, totals: &Totals, plain: &PlainRun, commands: u32) {
     same(rt, &(totals.keys, totals.passes.len()), &(plain.keys, 1));
     for pass in totals.passes.iter() {
         same(

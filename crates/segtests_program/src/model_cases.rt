@@ -2,14 +2,14 @@
 //! A case is a script's line without its pass, and its reply, such as `set a 1 @0 = STORED`.
 //! Several keys before it stand in turn for the key `*` in it, as in `a b c: set * 1 @0 = STORED`.
 use arrayvec::ArrayVec;
-use segmodel::{Answer, Command, Outcome, PlainCache, Shelf, Turn};
+use segmodel::{Answer, Command, Outcome, Plain, Shelf, Turn};
 use segscript::{Reply, read_line, reply_of};
 use segword::Shape;
 use std::alloc::AllocGlobal;
 use std::process::Abort;
 
 /// A cache, by its buckets, overflow buckets, segments, rows and first version.
-pub fn plain<R: AllocGlobal + Abort>(rt: &R, numbers: [u32; 5]) -> PlainCache {
+pub fn plain<R: AllocGlobal + Abort>(rt: &R, numbers: [u32; 5]) -> Plain {
     let [buckets, overflow, segments_each, rows, first_version] = numbers;
     let shape = Shape {
         buckets,
@@ -20,7 +20,7 @@ pub fn plain<R: AllocGlobal + Abort>(rt: &R, numbers: [u32; 5]) -> PlainCache {
         first_version,
     };
     shape.check().expect(rt, "a shape");
-    PlainCache::new(rt.alloc(), &shape).expect(rt, "memory for a cache")
+    Plain::new(rt.alloc(), &shape).expect(rt, "memory for a cache")
 }
 
 /// The command of a text, in which `*` stands for the key `each`.
@@ -46,7 +46,7 @@ pub fn reply(answer: Answer) -> Reply {
 }
 
 // Checks that the cache returns for each command of the case what the case wants.
-fn check_case(rt: &impl Abort, plain: &mut PlainCache, case: &str) {
+fn check_case(rt: &impl Abort, plain: &mut Plain, case: &str) {
     let (keys, case) = case.split_once(": ").unwrap_or(("*", case));
     let (asked, told) = case.split_once(" = ").expect(rt, "a case");
     for each in keys.split(' ') {
@@ -62,7 +62,7 @@ pub fn check<R: AllocGlobal + Abort>(rt: &R, numbers: [u32; 5], cases: &[&str]) 
 }
 
 /// Checks that the cache returns for each command what the cases want.
-pub fn check_cases(rt: &impl Abort, plain: &mut PlainCache, cases: &[&str]) {
+pub fn check_cases(rt: &impl Abort, plain: &mut Plain, cases: &[&str]) {
     for case in cases {
         check_case(rt, plain, case);
     }

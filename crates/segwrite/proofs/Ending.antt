@@ -6,7 +6,7 @@ use Rattle.segmodel.specs.Words.{Entry, pass_of}
 use Rattle.segcore.specs.declared.event.Event.TheVariants.{Freed}
 use Rattle.segcore.specs.Words.{bucket_at, entry_of, Event, is, NoneAt, with_entry}
 use Rattle.segcore.specs.Event as event
-use Rattle.segbase.specs.declared.pass.Plain.{Plain}
+use Rattle.segbase.specs.declared.pass.PlainPart.{PlainPart}
 use Rattle.segbase.specs.Words.{AddsEvents, Board, mine, number, Pass}
 use Rattle.segbase.proofs.Moves.{moved_then}
 use Rattle.segstore.specs.Words.{AddsEntry, DrawsNothing, GoesOn, Idles, IsQuiet, memo, TakesOneBit}
@@ -52,7 +52,7 @@ module _ (b : Board) (bucket : ℕ) (counted : Bool) (act : ℕ → Event) (entr
 
   pub entered_on : GoesOn b p s
   entered_on = ends_on b bucket p q quiet took s (act n ∷ []) (entry n ∷ []) counted moved elsewhere (is_entry.still n, tt) adds gives.free memo_back
-      (ap (λ (x : Plain). x.locked) plain_back) (ap (λ (x : Plain). x.is_holding) plain_back)
+      (ap (λ (x : PlainPart). x.locked) plain_back) (ap (λ (x : PlainPart). x.is_holding) plain_back)
       (keeps_plain b (Freed (number f) bucket counted ∷ act (number f) ∷ []) f s gives.moved (tt, (is_entry.calm (number f), tt)) gives.plain (found_keeps b bucket p q f quiet took idles))
 
   pub entered : AddsEntry (entry n) p s

@@ -12,7 +12,7 @@ use Rattle.segcore.specs.Words.{bucket_after, count, drew, Event, May, NoneAt, r
 use Rattle.segcore.proofs.KeyCounts.{wide}
 use Rattle.segcore.proofs.Orderly.{all_drawn_marked}
 use Rattle.segcore.proofs.Moments.{begins_on, marked_begins}
-use Rattle.segbase.specs.declared.pass.Plain.{Plain}
+use Rattle.segbase.specs.declared.pass.PlainPart.{PlainPart}
 use Rattle.segbase.specs.Words.{AddsAtOnce, AddsEvents, Board, IsPassOf, marked, number, Pass}
 use Rattle.segbase.specs.Words.{SinceFirst, trace, with_own}
 use Rattle.segcore.specs.Mark as mark
@@ -80,7 +80,7 @@ module _ (b : Board) (key : List ℕ) (p q f s : Pass) (quiet : IsQuiet b p) {in
 
   pub full_goes_on : GoesOn b p s
   full_goes_on = write_goes_on b k p q quiet took f s [] [] false idles.moved (λ other apart. tt) tt (λ h. refl) freed free memo_back
-      (ap (λ (x : Plain). x.locked) plain_back) (ap (λ (x : Plain). x.is_holding) plain_back)
+      (ap (λ (x : PlainPart). x.locked) plain_back) (ap (λ (x : PlainPart). x.is_holding) plain_back)
       (keeps_plain b (Freed (number f) k false ∷ []) f s freed.moved (tt, tt) plain (found_keeps b k p q f quiet took idles))
 
   pub full_undrawn : DrawsNothing p s
@@ -116,7 +116,7 @@ module _ (b : Board) (key : List ℕ) (p q f s : Pass) (quiet : IsQuiet b p) {in
 
 uses_around : (segment : ℕ) (p f r s : Pass) → UsesRow segment f r → f.plain ≡ p.plain → s.plain ≡ r.plain → memo f ≡ memo p → memo s ≡ memo r → UsesRow segment p s
 uses_around segment p f r s u before behind m n = record {
-  current = ap (λ (x : Plain). x.current) (sym before) ∙ u.current;
+  current = ap (λ (x : PlainPart). x.current) (sym before) ∙ u.current;
   plain = behind ∙ (u.plain ∙ ap (with_own segment one_more) before);
   memo = n ∙ (u.memo ∙ m);
 }
@@ -153,7 +153,7 @@ module _ (b : Board) (request : Request) (segment row : ℕ) (p q f r s : Pass) 
 
   pub stored_goes_on : GoesOn b p s
   stored_goes_on = write_goes_on b home p q quiet took r s own (entry ∷ []) true moved elsewhere still adds freed free
-      uses_all.memo (ap (λ (x : Plain). x.locked) uses_all.plain) (ap (λ (x : Plain). x.is_holding) uses_all.plain) (keeps_plain b (Freed (number r) home true ∷ []) r s freed.moved (tt, tt) plain keeps)
+      uses_all.memo (ap (λ (x : PlainPart). x.locked) uses_all.plain) (ap (λ (x : PlainPart). x.is_holding) uses_all.plain) (keeps_plain b (Freed (number r) home true ∷ []) r s freed.moved (tt, tt) plain keeps)
 
   pub stored_answer : AddsEntry (Wrote (number p) request Stored (Some segment)) p s × UsesRow segment p s
   stored_answer =

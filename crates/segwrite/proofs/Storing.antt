@@ -10,7 +10,7 @@ use Rattle.segmodel.specs.Words.{value_of}
 use Rattle.segcore.specs.declared.event.Event.TheVariants.{Linked}
 use Rattle.segcore.specs.Words.{acts, bucket_after, Event, Fits, HasBit, Holds, IsOwnRow, NoneAt}
 use Rattle.segcore.specs.Words.{row_after}
-use Rattle.segbase.specs.declared.pass.Plain.{Plain}
+use Rattle.segbase.specs.declared.pass.PlainPart.{PlainPart}
 use Rattle.segbase.specs.Words.{AddsAtOnce, AddsEvents, Board, IsPassOf, number, own_segment}
 use Rattle.segbase.specs.Words.{OwnSegment, Pass, position, seen, trace, used_in, with_own}
 use Rattle.segbase.specs.Words.{with_used}
@@ -85,7 +85,7 @@ module _ (b : Board) (request : Request) (target : Target) (segment row : ℕ) (
     linked_bucket = did_acts b (linked_by b request segment row target.place q) q r home d (eq-eqb home home refl) clean.bit
 
     -- what is so once the row is counted as used
-    pub has_written : (x : Plain) → HasWritten b (record r { plain = x }) home
+    pub has_written : (x : PlainPart) → HasWritten b (record r { plain = x }) home
     has_written x = record {
       bit = (clean.bit.0, ap (λ u. u.holder) linked_bucket ∙ (clean.bit.1 ∙ ap Some (sym d.moved.same)));
       written = ap (λ u. u.written) linked_bucket;
@@ -95,7 +95,7 @@ module _ (b : Board) (request : Request) (target : Target) (segment row : ℕ) (
 -- ---- all of it
 
 -- one row more is used where so many were
-one_used : (segment row : ℕ) (x : Plain) → used_in (own_segment x segment) ≡ Some row → with_used segment (row + 1) x ≡ with_own segment one_more x
+one_used : (segment row : ℕ) (x : PlainPart) → used_in (own_segment x segment) ≡ Some row → with_used segment (row + 1) x ≡ with_own segment one_more x
 one_used segment row x used = own_alike x segment (counted (row + 1)) one_more (same (own_segment x segment) used)
   where
     same : (o : Option OwnSegment) → used_in o ≡ Some row → option_map (counted (row + 1)) o ≡ option_map one_more o
@@ -121,7 +121,7 @@ module _ (b : Board) (request : Request) (target : Target) (segment row : ℕ) (
     pub keeps_all : KeepsSegments b p → KeepsSegments b after_all
     keeps_all k =
         let kq = keeps_plain b (fills (number p) segment row (row_of (key_of request) (value_of request)) places) p q m (fills_calm (number p) segment row (row_of (key_of request) (value_of request)) places) first k in
-        keeps_named b _ q r segment row (refl, refl) d second (ap (λ (x : Plain). x.current) first ∙ next.current) (same_used p q segment first ∙ next.used) next.fits m.pass kq
+        keeps_named b _ q r segment row (refl, refl) d second (ap (λ (x : PlainPart). x.current) first ∙ next.current) (same_used p q segment first ∙ next.used) next.fits m.pass kq
 
     pub uses_all : memo q ≡ memo p → memo r ≡ memo q → UsesRow segment p after_all
     uses_all minds same = record {

@@ -8,7 +8,7 @@ use Rattle.segmodel.specs.Words.{adds_key, after, bucket_of, key_of, reply_of_wr
 use Rattle.segmodel.specs.Words.{Begins, moment_of, reply_to, Request, standing, tag_of, value_of, WriteAnswer}
 use Rattle.segcore.specs.declared.event.Event.TheVariants.{Freed}
 use Rattle.segcore.specs.Words.{bucket_after, HasBit, IsRefusal, May, release}
-use Rattle.segbase.specs.declared.pass.Plain.{Plain}
+use Rattle.segbase.specs.declared.pass.PlainPart.{PlainPart}
 use Rattle.segbase.specs.Words.{AddsAtOnce, Board, current_of, IsPassOf, locked_of, number, Pass, seen, trace}
 use Rattle.segbase.specs.Words.{used_of}
 use Rattle.segstore.specs.Words.{DrawsNothing, GoesOn, has_room, HasCleanBit, Idles, IsQuiet}
@@ -199,7 +199,7 @@ module _ (b : Board) (w : When) (request : Request) (key value words : List ℕ)
         may_store segment row tag unrefused next key_of_words tagged =
             let same = there.ready.plain ∙ had.plain in let a = asks w key value now request asked in
             let stored = sym (subst (IsToldBy (reply_now b g request)) unrefused told) in
-            let row_is : IsNextRow b segment row r = record { current = ap (λ (x : Plain). x.current) same ∙ next.0; used = same_used p r segment same ∙ next.1; fits = next.2 } in
+            let row_is : IsNextRow b segment row r = record { current = ap (λ (x : PlainPart). x.current) same ∙ next.0; used = same_used p r segment same ∙ next.1; fits = next.2 } in
             let requests : Requests b request words value r = record { of = (a.0 ∙ sym copied, a.1); stored = stored ∙ (λ i. reply_to request (is_some ((sym (there.same.finds (moment_of request))) i)) ((sym there.same.version) i)) } in
             (there.ready.moved.pass, (keeps, (row_is, (requests, (key_of_words, (tagged, (there.ready.clean, there.target_is)))))))
 

@@ -1,7 +1,7 @@
 use Rattle.segread.proofs.Deadlines.{by_word, found_reads, expired_reads}
 use Rattle.std.proofs.Common.{◌∙◌, inl, inr, ap, arith}
 use Rattle.segword.specs.Words.{item_word}
-use Rattle.segbase.specs.declared.pass.Plain.{Plain}
+use Rattle.segbase.specs.declared.pass.PlainPart.{PlainPart}
 use Rattle.segbase.specs.Words.{trace}
 use Rattle.segbase.proofs.Moves.{moved_on}
 use Rattle.segstore.proofs.Readers.{leave_then}
@@ -30,7 +30,7 @@ returns-else-hit-now-clause-answer c = let b = c.args.board.now in let f = c.in-
     tries = few_out m q r x.tries out;
     only_scans = out.1 ∙ x.only_scans;
     answer = inr (
-      ap (λ (y : Plain). y.locked) s.1.look.plain ∙ c.requires.locked,
+      ap (λ (y : PlainPart). y.locked) s.1.look.plain ∙ c.requires.locked,
       (
         x.answer.0.value,
         found_reads b.shape f.hit.place (item_word f.hit.item) c.args.key.now x.answer.0.value (trace m) (trace q) x.answer.0.found f.hit.deadline
