@@ -148,6 +148,7 @@ same_pass b p q is table bare same pass minds plain =
       minds = subst (λ (v : View). Minds b.shape v.trace v.number (sight q).memo) (sym same) minds;
       numbered = ap (λ (x : PlainPart). x.number) plain ∙ (is.numbered ∙ sym of);
       first = ap (λ (x : PlainPart). x.first) plain ∙ (is.first ∙ ap (λ n. n * b.shape.segments_each) (sym of));
+      rows = ap (λ (x : PlainPart). x.rows) plain ∙ is.rows;
       owns = ap (λ (x : PlainPart). length x.segments.items) plain ∙ is.owns;
     }
 

@@ -60,7 +60,7 @@ module _ (x : PlainPart) (s : ℕ) where
     changes own some at_place = ap (λ o. record x { segments = put_own x.segments at (option_map change o) }) (sym (own_is (own_segment x s) own refl some at_place))
 
     pub owner_changed : owner_of (with_own s change x) ≡ owner_of x
-    owner_changed = ap (λ n. (x.number, x.first, n)) (put_long x.segments at (option_map change (own_segment x s)))
+    owner_changed = ap (λ n. (x.number, x.first, x.rows, n)) (put_long x.segments at (option_map change (own_segment x s)))
 
     pub own_here : own_segment (with_own s change x) s ≡ option_map change (own_segment x s)
     own_here = let low = nat_le x.first s in let old = slice_get x.segments.items at in ⊎_elim

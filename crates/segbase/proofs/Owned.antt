@@ -10,8 +10,8 @@ use Rattle.segbase.specs.PlainPart.{own_segment, state_in, state_of, used_in, de
 use Rattle.segbase.specs.Passes.{number, IsPassOf, AddsEvents}
 
 -- whose pass it is
-abbrev pub owner_of : PlainPart → ℕ × ℕ × ℕ
-owner_of x = (x.number, x.first, length x.segments.items)
+abbrev pub owner_of : PlainPart → ℕ × ℕ × ℕ × ℕ
+owner_of x = (x.number, x.first, x.rows, length x.segments.items)
 
 -- a pass whose plain part alone changed, but not whose it is
 pub still_pass : (b : Board) (p : Pass) (x : PlainPart) → IsPassOf b p → owner_of x ≡ owner_of p.plain → IsPassOf b (record p { plain = x })
@@ -26,7 +26,8 @@ still_pass b p x is same = record {
   minds = is.minds;
   numbered = ap (λ o. o.0) same ∙ is.numbered;
   first = ap (λ o. o.1) same ∙ is.first;
-  owns = ap (λ o. o.2) same ∙ is.owns;
+  rows = ap (λ o. o.2) same ∙ is.rows;
+  owns = ap (λ o. o.3) same ∙ is.owns;
 }
 
 pub moved_still : (b : Board) (own : List Event) (p q : Pass) (x : PlainPart) → AddsEvents b own p q → owner_of x ≡ owner_of q.plain → AddsEvents b own p (record q { plain = x })

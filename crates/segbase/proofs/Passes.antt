@@ -44,6 +44,7 @@ new_pass b n p x valid few table me pass of nothing none free plain =
         minds = nothing_minded b.shape (trace p) (number p) (sight p).memo (ap (λ (y : Sight). y.memo.holding) is ∙ none) (ap (λ (y : Sight). y.memo.locked) is ∙ free);
         numbered = plain.number ∙ sym same;
         first = plain.first ∙ ap (λ k. k * b.shape.segments_each) (sym same);
+        rows = plain.rows;
         owns = ap length plain.segments ∙ length-replicate b.shape.segments_each unfilled;
       };
       number = same;

@@ -70,5 +70,6 @@ stepped b st spot f found p q can table learns plain =
       minds = subst (λ m. Minds b.shape (trace q) (number q) m) (sym learns.0.memo) (subst (λ n. Minds b.shape (trace q) n (sight p).memo) (sym same) (minded_on b.shape (trace p) (trace q) (number p) (sight p).memo (adds st (number p) found ++ told.more, ap (λ (v : View). v.trace) told.now ∙ sym (append_assoc (adds st (number p) found) told.more (trace p))) is.minds));
       numbered = ap (λ (x : PlainPart). x.number) plain ∙ (is.numbered ∙ sym same);
       first = ap (λ (x : PlainPart). x.first) plain ∙ (is.first ∙ ap (λ n. n * b.shape.segments_each) (sym same));
+      rows = ap (λ (x : PlainPart). x.rows) plain ∙ is.rows;
       owns = ap (λ (x : PlainPart). length x.segments.items) plain ∙ is.owns;
     } in record { told = told; did = record { moved = moved_by b p q st found is is' can.may told; others = told.more; none = told.others; before = told.before; now = ap (λ (v : View). v.trace) told.now }; plain = plain; memo = learns.0.memo; met = learns.0.met }

@@ -21,6 +21,7 @@ unfilled = record { state = Empty; used = 0; deadline = 0 }
 pub record IsNewPlain (shape : Shape) (n : ℕ) (plain : PlainPart) : Type 0 where
   pub number : plain.number ≡ n
   pub first : plain.first ≡ n * shape.segments_each
+  pub rows : plain.rows ≡ shape.rows
   pub segments : plain.segments.items ≡ replicate shape.segments_each unfilled
   pub current : plain.current ≡ None
   pub locked : plain.locked ≡ None

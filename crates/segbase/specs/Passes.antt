@@ -79,6 +79,7 @@ pub record IsPassOf (b : Board) (p : Pass) : Type 0 where
   -- the plain part agrees
   pub numbered : p.plain.number ≡ number p
   pub first : p.plain.first ≡ number p * b.shape.segments_each
+  pub rows : p.plain.rows ≡ b.shape.rows
   pub owns : length p.plain.segments.items ≡ b.shape.segments_each
 
 -- the pass may take the step, which changes the word of this spot by f

@@ -10,6 +10,9 @@ use Rattle.segbase.specs.declared.pass.Pass.{Pass}
 abbrev pub number_of : Pass → ℕ
 number_of p = p.plain.number
 
+abbrev pub rows_of : Pass → ℕ
+rows_of p = p.plain.rows
+
 abbrev pub current_of : Pass → Option ℕ
 current_of p = p.plain.current
 

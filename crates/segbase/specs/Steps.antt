@@ -1,18 +1,19 @@
 -- What the steps of a pass find and do, in the words of their callers.
-use Rattle.std.specs.Prelude.{◌≡◌, ◌≢◌, ℕ, ◌+◌, ◌/◌, ◌%◌, ◌^◌, ◌<◌, ◌≤◌, ◌==◌, Bool, true, false, List, [], ◌∷◌, None}
+use Rattle.std.specs.Prelude.{◌≡◌, ◌≢◌, ℕ, ◌+◌, ◌*◌, ◌/◌, ◌%◌, ◌^◌, ◌<◌, ◌≤◌, ◌==◌, Bool, true, false, if◌then◌else◌, List, [], ◌∷◌, None, Some}
 use prog.Atomic.{either}
 use Rattle.segword.specs.Words.{chain_word, Info, IsSameItem, Item, item_word, tag_part}
 use Rattle.segcore.specs.declared.cell.Cell.TheVariants.{OfCounter}
 use Rattle.segcore.specs.declared.event.Event.TheVariants.{Took, Bounced, Glanced, Linked, Relinked, Unlinked}
 use Rattle.segcore.specs.Words.{bucket_after, bump, chain, clear, Content, copy, draw, drawn_in, Leaving}
 use Rattle.segcore.specs.Words.{Event, fill, glance, HasBit, is, IsItemAt, IsWordOf, item, link}
-use Rattle.segcore.specs.Words.{look, May, next, nothing, relink, Slot, Step, take, unless_own, word}
+use Rattle.segcore.specs.Words.{look, May, next, none_reading, nothing, relink, Slot, Step, take, unless_own, word}
 use Rattle.segcore.specs.Lawful as lawful
 use Rattle.segmodel.specs.Words.{bucket_of, Request}
 use Rattle.segbase.specs.declared.place.Place.{Place}
 use Rattle.segbase.specs.declared.pass.Pass.{Pass}
 use Rattle.segbase.specs.declared.board.Board.{Board}
 use Rattle.segbase.specs.Passes.{number, trace, AddsAtOnce, Stepped}
+use Rattle.segbase.specs.PlainPart.{deadline_of, with_deadline}
 use Rattle.segbase.specs.Spots.{cell_at, home_bucket, home_bucket_of, position}
 
 -- ---- any step
@@ -28,6 +29,17 @@ TakesStep b step p q = (found : ℕ) × Stepped b step found p q
 -- by a step the pass added this one event, which has the pass's number
 abbrev pub AddsOne : Board → (ℕ → Event) → Pass → Pass → Type 0
 AddsOne b event p q = AddsAtOnce b (event (number p) ∷ []) p q
+
+-- Whether no reader was counted in an own segment, which the pass knew to have some deadline.
+-- If none was, the pass knows that the segment has this one now.
+pub record AsksReaders (b : Board) (segment deadline : ℕ) (none : Bool) (p q : Pass) : Type 0 where
+  pub old : ℕ
+  pub found : ℕ
+  pub now : Pass
+  pub knew : deadline_of p segment ≡ Some old
+  pub step : Stepped b (none_reading segment old deadline) found p now
+  pub told : none ≡ (found == old * 2 ^ 32)
+  pub keeps : q ≡ (if none then record now { plain = with_deadline segment deadline now.plain } else now)
 
 -- what an exchange makes of a word
 abbrev pub exchanging : ℕ → ℕ → ℕ → ℕ

@@ -9,14 +9,14 @@ pub use Rattle.segbase.specs.Passes.{IsPassOf, locked, looks, marked, mine, numb
 pub use Rattle.segbase.specs.Passes.{seen, sight, SinceFirst, StartsAt, Stepped, TakesSteps, trace}
 pub use Rattle.segbase.specs.Passes.{view}
 pub use Rattle.segbase.specs.PlainPart.{current_of, deadline_in, deadline_of, is_holding_of}
-pub use Rattle.segbase.specs.PlainPart.{locked_of, number_of, own_segment}
+pub use Rattle.segbase.specs.PlainPart.{locked_of, number_of, own_segment, rows_of}
 pub use Rattle.segbase.specs.PlainPart.{state_in, state_of, used_in, used_of, with_current}
 pub use Rattle.segbase.specs.PlainPart.{with_deadline, with_holding, with_locked, with_own}
 pub use Rattle.segbase.specs.PlainPart.{with_state, with_used}
 pub use Rattle.segbase.specs.Props.{Held-set, IsNoteOf-prop, IsPassOf-prop, traces-prop}
 pub use Rattle.segbase.specs.Spots.{cell_at, depth_of, home_bucket, home_bucket_of, home_in}
 pub use Rattle.segbase.specs.Spots.{IsPlace, position}
-pub use Rattle.segbase.specs.Steps.{AddsLink, AddsRelink, AddsUnlink, content_for, CounterMissed}
+pub use Rattle.segbase.specs.Steps.{AddsLink, AddsRelink, AddsUnlink, AsksReaders, content_for, CounterMissed}
 pub use Rattle.segbase.specs.Steps.{depth_to_draw, Glances, has_bit, HasItemOf, home_at, IsFree}
 pub use Rattle.segbase.specs.Steps.{IsItemPlace, IsWordOfContent, Missed, position_at, Takes, word_at}
 pub use Rattle.segbase.specs.Traces.{IsReaderEvent, OnlyReads, own_of, StaysIn}

@@ -93,6 +93,7 @@ impl Board {
         let plain = PlainPart {
             number,
             first: number * self.shape.segments_each,
+            rows: self.shape.rows,
             segments,
             current: None,
             locked: None,

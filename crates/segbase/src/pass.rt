@@ -19,6 +19,8 @@ pub(crate) struct PlainPart {
     pub(crate) number: u32,
     // The number of the pass's first segment.
     pub(crate) first: u32,
+    // How many rows each of its segments has.
+    pub(crate) rows: u32,
     pub(crate) segments: Vec<OwnSegment>,
     pub(crate) current: Option<u32>,
     pub(crate) locked: Option<u32>,
@@ -35,7 +37,7 @@ pub struct Pass {
 
 impl Pass {
     ghost use Rattle.segbase.specs.PlainPart.{number_of, current_of, state_of, used_of, deadline_of};
-    ghost use Rattle.segbase.specs.PlainPart.{locked_of, is_holding_of, own_segment};
+    ghost use Rattle.segbase.specs.PlainPart.{locked_of, is_holding_of, own_segment, rows_of};
     ghost use Rattle.segbase.specs.PlainPart.{with_current, with_state, with_used, with_deadline};
     ghost use Rattle.segbase.specs.PlainPart.{with_locked, with_holding};
 
@@ -73,6 +75,13 @@ impl Pass {
         ensures { result ≡ deadline_of self.now segment }
     {
         Some(self.own(segment)?.deadline)
+    }
+
+    /// How many rows each segment of the pass has.
+    pub fn rows(&self) -> u32
+        ensures { result ≡ rows_of self.now }
+    {
+        self.plain.rows
     }
 
     /// The bucket that the pass has locked.

@@ -1,7 +1,7 @@
 //! Steps at segments: their rows, and who reads in them.
-ghost use Rattle.std.specs.Prelude.{◌≡◌, ℕ, ◌*◌, ◌^◌, ◌==◌, [], ◌∷◌, if◌then◌else◌};
+ghost use Rattle.std.specs.Prelude.{◌≡◌, ℕ, ◌*◌, ◌^◌, [], IsSome, Some};
 ghost use Rattle.segmodel.specs.Words.{after};
-ghost use Rattle.segcore.specs.declared.event.Event.TheVariants.{Filled, Entered, Left, Refilled};
+ghost use Rattle.segcore.specs.declared.event.Event.TheVariants.{Filled, Entered, Left};
 ghost use Rattle.segcore.specs.Words.{enter, IsCell, leave, none_reading, row_after, row_load};
 ghost use Rattle.segcore.specs.Words.{row_store};
 ghost use Rattle.segcore.specs.declared.cell.Cell.TheVariants.{OfRow};
@@ -25,7 +25,8 @@ fn unread(deadline: u32) -> u64
 
 impl Board {
     ghost use Rattle.segbase.specs.Passes.{number, seen, trace, IsPassOf, AddsAtOnce, Stepped};
-    ghost use Rattle.segbase.specs.Steps.{MayTake, TakesStep, AddsOne};
+    ghost use Rattle.segbase.specs.PlainPart.{deadline_of};
+    ghost use Rattle.segbase.specs.Steps.{AsksReaders, MayTake, TakesStep, AddsOne};
 
     /// Stores a word of a row of the pass's own that isn't linked in this filling.
     pub fn row_store(&self, pass: &mut Pass, segment: u32, row: u32, word: u8, value: u64)
@@ -127,19 +128,21 @@ impl Board {
         self.add_at(pass, Spot::Segment(segment), u64::MAX);
     }
 
-    /// Whether no reader is counted in a segment of the pass's own with this deadline, in which no key
-    /// stands. If so, the segment gets another deadline, and its refilling enters the history.
-    pub fn none_reading(&self, pass: &mut Pass, segment: u32, old: u32, deadline: u32) -> bool
+    /// Whether no reader is counted in a segment of the pass's own in which no key stands.
+    /// If so, the segment gets this deadline, and its refilling enters the history.
+    pub fn none_reading(&self, pass: &mut Pass, segment: u32, deadline: u32) -> bool
         requires pass { IsPassOf self.now pass.old }
-        requires may { MayTake self.now pass.old (none_reading segment old deadline) }
-        ensures step { (found : ℕ)
-            × Stepped self.now (none_reading segment old deadline) found pass.old pass.new
-            × (result ≡ (found == old * 2 ^ 32)) }
-        ensures did { AddsAtOnce self.now
-            (if result then Refilled (number pass.old) segment deadline ∷ [] else [])
-            pass.old pass.new }
+        requires own { IsSome (deadline_of pass.old segment) }
+        requires may { (old : ℕ) → deadline_of pass.old segment ≡ Some old
+            → MayTake self.now pass.old (none_reading segment old deadline) }
+        ensures { AsksReaders self.now segment deadline result pass.old pass.new }
     {
+        let old = pass.deadline(segment).unwrap();
         let word = unread(old);
-        self.exchange_at(pass, Spot::Segment(segment), word, unread(deadline)) == word
+        if self.exchange_at(pass, Spot::Segment(segment), word, unread(deadline)) != word {
+            return false;
+        }
+        pass.set_deadline(segment, deadline);
+        true
     }
 }

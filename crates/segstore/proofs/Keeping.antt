@@ -17,7 +17,7 @@ use Rattle.segcore.proofs.Quiet.{own_deadline}
 use Rattle.segcore.proofs.Deadlines.{deadline_seen}
 use Rattle.segcore.proofs.Readers.{still_empty, empty_stays}
 use Rattle.segbase.specs.declared.pass.PlainPart.{PlainPart}
-use Rattle.segbase.specs.Words.{AddsAtOnce, AddsEvents, Board, current_of, IsPassOf, number, own_of, deadline_of, deadline_in}
+use Rattle.segbase.specs.Words.{with_deadline, AddsAtOnce, AddsEvents, Board, current_of, IsPassOf, number, own_of, deadline_of, deadline_in}
 use Rattle.segbase.specs.Words.{own_segment, OwnSegment, Pass, seen, state_in, state_of, trace}
 use Rattle.segbase.specs.Words.{used_in, used_of, with_state, with_used}
 use Rattle.segbase.proofs.Known.{state_set, used_set, state_apart, used_apart, state_kept, used_kept, owner_stated, owner_counted, deadline_set, owner_lasting, state_lasting, used_lasting, deadline_counted, deadline_apart, deadline_stated}
@@ -292,34 +292,38 @@ keeps_named b e p r segment row at d same current used lt is k =
 
 -- what is known of the segments after a refilling
 module _ (x : PlainPart) (segment deadline : ℕ) where
-  abbrev emptied : PlainPart
-  emptied = with_used segment 0 (with_state segment InUse x)
+  abbrev dated : PlainPart
+  dated = with_deadline segment deadline x
+
+  abbrev taken : PlainPart
+  taken = with_state segment InUse dated
 
   pub refilled_owner : owner_of (refilled segment deadline x) ≡ owner_of x
-  refilled_owner = owner_lasting emptied segment deadline ∙ (owner_counted (with_state segment InUse x) segment 0 ∙ owner_stated x segment InUse)
+  refilled_owner = owner_counted taken segment 0 ∙ (owner_stated dated segment InUse ∙ owner_lasting x segment deadline)
+
+  there_dated : IsSome (own_segment x segment) → IsSome (own_segment dated segment)
+  there_dated there = sym (deadline_there (own_segment dated segment)) ∙ ap is_some (deadline_set x segment deadline there)
+
+  there_taken : IsSome (own_segment x segment) → IsSome (own_segment taken segment)
+  there_taken there = sym (state_there (own_segment taken segment)) ∙ ap is_some (state_set dated segment InUse (there_dated there))
 
   pub refilled_state : IsSome (own_segment x segment) → state_in (own_segment (refilled segment deadline x) segment) ≡ Some InUse
-  refilled_state there = state_lasting emptied segment deadline segment ∙ (state_kept (with_state segment InUse x) segment 0 segment ∙ state_set x segment InUse there)
-
-  still_there : IsSome (own_segment x segment) → IsSome (own_segment (with_state segment InUse x) segment)
-  still_there there = sym (state_there (own_segment (with_state segment InUse x) segment)) ∙ ap is_some (state_set x segment InUse there)
+  refilled_state there = state_kept taken segment 0 segment ∙ state_set dated segment InUse (there_dated there)
 
   pub refilled_used : IsSome (own_segment x segment) → used_in (own_segment (refilled segment deadline x) segment) ≡ Some 0
-  refilled_used there = used_lasting emptied segment deadline segment ∙ used_set (with_state segment InUse x) segment 0 (still_there there)
+  refilled_used there = used_set taken segment 0 (there_taken there)
 
   pub refilled_deadline : IsSome (own_segment x segment) → deadline_in (own_segment (refilled segment deadline x) segment) ≡ Some deadline
-  refilled_deadline there = deadline_set emptied segment deadline
-      (sym (used_there (own_segment emptied segment)) ∙ ap is_some (used_set (with_state segment InUse x) segment 0 (still_there there)))
+  refilled_deadline there = deadline_counted taken segment 0 segment ∙ (deadline_stated dated segment InUse segment ∙ deadline_set x segment deadline there)
 
   pub others_state : (s : ℕ) → s ≢ segment → state_in (own_segment (refilled segment deadline x) s) ≡ state_in (own_segment x s)
-  others_state s ne = state_lasting emptied segment deadline s ∙ (state_kept (with_state segment InUse x) segment 0 s ∙ state_apart x segment InUse s ne)
+  others_state s ne = state_kept taken segment 0 s ∙ (state_apart dated segment InUse s ne ∙ state_lasting x segment deadline s)
 
   pub others_used : (s : ℕ) → s ≢ segment → used_in (own_segment (refilled segment deadline x) s) ≡ used_in (own_segment x s)
-  others_used s ne = used_lasting emptied segment deadline s ∙ (used_apart (with_state segment InUse x) segment 0 s ne ∙ used_kept x segment InUse s)
+  others_used s ne = used_apart taken segment 0 s ne ∙ (used_kept dated segment InUse s ∙ used_lasting x segment deadline s)
 
   pub others_last : (s : ℕ) → s ≢ segment → deadline_in (own_segment (refilled segment deadline x) s) ≡ deadline_in (own_segment x s)
-  others_last s ne = deadline_apart emptied segment deadline s ne
-      ∙ (deadline_counted (with_state segment InUse x) segment 0 s ∙ deadline_stated x segment InUse s)
+  others_last s ne = deadline_counted taken segment 0 s ∙ (deadline_stated dated segment InUse s ∙ deadline_apart x segment deadline s ne)
 
 -- the segment was refilled, and is in use, current, with no row used
 pub keeps_refilled : (b : Board) (p r : Pass) (segment deadline : ℕ) (state : SegState) → AddsAtOnce b (Refilled (number p) segment deadline ∷ []) p r → r.plain ≡ p.plain → state_of p segment ≡ Some state

@@ -2,6 +2,7 @@
 use Rattle.std.proofs.Common.{◌≡◌, ◌≢◌, ℕ, ◌+◌, ◌*◌, ◌^◌, ◌<◌, Bool, true, false, cond, eqb, List, [], ◌∷◌, ◌++◌, Some, refl, sym, ap, ◌∙◌, subst, arith}
 use Rattle.std.proofs.lemmas.Bool.{cond-true, cond-false, eq-eqb, false≢true}
 use Rattle.segmodel.specs.Words.{SegState}
+use Rattle.segmodel.specs.declared.answer.RefillAnswer.TheVariants.{Held}
 use Rattle.segmodel.specs.declared.answer.SegState.TheVariants.{InUse}
 use Rattle.segcore.specs.declared.event.Event.TheVariants.{Refilled}
 use Rattle.segcore.specs.Words.{Event, inside, May, NoneBy, none_reading, readers, View}
@@ -9,13 +10,14 @@ use Rattle.segcore.specs.Segment.{deadline_of as deadline_of_trace}
 use Rattle.segcore.proofs.Readers.{some_reader}
 use Rattle.segcore.proofs.Quiet.{own_deadline}
 use Rattle.segcore.proofs.Deadlines.{deadline_seen}
-use Rattle.segbase.specs.Words.{AddsAtOnce, AddsEvents, Board, HasStep, IsPassOf, deadline_of, number, Pass, state_of}
+use Rattle.segbase.specs.Words.{AddsAtOnce, AddsEvents, AsksReaders, Board, HasStep, IsPassOf, deadline_of, number, Pass, state_of}
 use Rattle.segbase.specs.Words.{Stepped, trace, with_current, with_deadline, with_state, with_used}
+use Rattle.segbase.proofs.Known.{state_lasting}
 use Rattle.segbase.proofs.Moves.{stays}
 use Rattle.segbase.proofs.Stepping.{starts}
 use Rattle.segstore.specs.Segments.{KeepsSegments}
-use Rattle.segstore.specs.Refilling.{Idles, refilled, TakesOneStep}
-use Rattle.segstore.proofs.Keeping.{in_table, owns_stated, owns_lasting}
+use Rattle.segstore.specs.Refilling.{Idles, IsOutcome, refilled, TakesOneStep}
+use Rattle.segstore.proofs.Keeping.{in_table, keeps_plain, owns_stated, owns_lasting, same_states}
 
 pub idles : (b : Board) (p : Pass) → IsPassOf b p → Idles b p p
 idles b p is = record { moved = stays b p is; plain = refl; memo = refl }
@@ -54,10 +56,26 @@ is_read b p q s old deadline found t is k knows step at f =
 pub did_refill : (b : Board) (p q : Pass) (s deadline : ℕ) (t : Bool) → t ≡ true → AddsAtOnce b (cond t (Refilled (number p) s deadline ∷ []) []) p q → AddsAtOnce b (Refilled (number p) s deadline ∷ []) p q
 did_refill b p q s deadline t y d = subst (λ es. AddsAtOnce b es p q) (cond-true t (Refilled (number p) s deadline ∷ []) [] y) d
 
--- the four setters of a refilling
-pub set_anew : (s deadline : ℕ) (r one two three four : Pass) → one ≡ record r { plain = with_state s InUse r.plain }
-    → two ≡ record one { plain = with_used s 0 one.plain } → three ≡ record two { plain = with_deadline s deadline two.plain }
-    → four ≡ record three { plain = with_current (Some s) three.plain } → four ≡ record r { plain = refilled s deadline r.plain }
-set_anew s deadline r one two three four first second third fourth =
-    fourth ∙ ap (λ (q : Pass). record q { plain = with_current (Some s) q.plain })
-    (third ∙ ap (λ (q : Pass). record q { plain = with_deadline s deadline q.plain }) (second ∙ ap (λ (q : Pass). record q { plain = with_used s 0 q.plain }) first))
+-- what a refill leaves that was stopped by a reader
+pub held : (b : Board) (p q : Pass) (s deadline : ℕ) (t : Bool) → IsPassOf b p → KeepsSegments b p → AsksReaders b s deadline t p q → t ≡ false
+    → IsOutcome b s deadline Held p q × KeepsSegments b q
+held b p q s deadline t is k asks f =
+    let same : q ≡ asks.now = asks.keeps ∙ cond-false t (record asks.now { plain = with_deadline s deadline asks.now.plain }) asks.now f in
+    let out = is_read b p asks.now s asks.old deadline asks.found t is k asks.knew asks.step asks.told f in
+    subst (λ r. IsOutcome b s deadline Held p r × KeepsSegments b r) (sym same) (out, keeps_plain b [] p asks.now out.0.moved tt out.0.plain k)
+
+-- what one leaves that no reader stopped, but for the setters
+module _ (b : Board) (p q : Pass) (s deadline : ℕ) (asks : AsksReaders b s deadline true p q) where
+  pub adds_refilling : AddsAtOnce b (Refilled (number p) s deadline ∷ []) p asks.now
+  adds_refilling = did_refill b p asks.now s deadline (eqb asks.found (asks.old * 2 ^ 32)) (sym asks.told) asks.step.did
+
+  pub still_own : (state : SegState) → state_of p s ≡ Some state → state_of q s ≡ Some state
+  still_own state was =
+      ap (λ (r : Pass). state_of r s) asks.keeps ∙ (state_lasting asks.now.plain s deadline s ∙ (same_states p asks.now s asks.step.plain ∙ was))
+
+-- the setters of a refilling
+pub set_anew : (s deadline : ℕ) (r q one two three : Pass) → q ≡ record r { plain = with_deadline s deadline r.plain } → one ≡ record q { plain = with_state s InUse q.plain }
+    → two ≡ record one { plain = with_used s 0 one.plain } → three ≡ record two { plain = with_current (Some s) two.plain } → three ≡ record r { plain = refilled s deadline r.plain }
+set_anew s deadline r q one two three dated first second third =
+    third ∙ ap (λ (q : Pass). record q { plain = with_current (Some s) q.plain })
+    (second ∙ ap (λ (q : Pass). record q { plain = with_used s 0 q.plain }) (first ∙ ap (λ (q : Pass). record q { plain = with_state s InUse q.plain }) dated))

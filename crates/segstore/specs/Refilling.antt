@@ -24,7 +24,7 @@ TakesOneStep p q = (start : List Event) × (looks q ≡ start ∷ looks p)
 abbrev pub refilled : ℕ → ℕ → PlainPart → PlainPart
 refilled segment deadline plain =
     with_current (Some segment)
-    (with_deadline segment deadline (with_used segment 0 (with_state segment InUse plain)))
+    (with_used segment 0 (with_state segment InUse (with_deadline segment deadline plain)))
 
 -- the segment, one of the pass's own, was refilled
 pub record FillsAnew (b : Board) (segment deadline : ℕ) (p q : Pass) : Type 0 where

@@ -25,13 +25,11 @@ pub fn refill(board: &Board, pass: &mut Pass, segment: u32, deadline: u32) -> Re
     if state == SegState::InUse {
         return RefillAnswer::NotEvicted;
     }
-    let old = pass.deadline(segment).unwrap_or(0);
-    if !board.none_reading(pass, segment, old, deadline) {
+    if !board.none_reading(pass, segment, deadline) {
         return RefillAnswer::Held;
     }
     pass.set_state(segment, SegState::InUse);
     pass.set_used(segment, 0);
-    pass.set_deadline(segment, deadline);
     pass.set_current(Some(segment));
     RefillAnswer::Refilled
 }

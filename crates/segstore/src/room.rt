@@ -1,6 +1,7 @@
 //! Whether a pass has a row left to store into.
 ghost use Rattle.std.specs.Prelude.{◌≡◌, ◌↔◌, ◌<◌, Some, false, IfOk, IsErr};
-ghost use Rattle.segbase.specs.Words.{current_of, used_of};
+ghost use Rattle.segbase.specs.Words.{current_of, IsPassOf, used_of};
+ghost use Rattle.segbase.specs.declared.board.Board.{Board};
 ghost use Rattle.segstore.specs.Segments.{has_room};
 
 use crate::row::RowRef;
@@ -11,10 +12,16 @@ use segbase::{Board, Pass};
 pub struct NoRoom;
 
 /// Whether the pass can store one more: it has a current segment, and not all rows of it are used.
-pub fn has_room(board: &Board, pass: &Pass) -> bool
-    ensures { result ≡ has_room board.now.shape pass.now }
+pub fn has_room(pass: &Pass) -> bool
+    ensures { (board : Board) → IsPassOf board pass.now → result ≡ has_room board.shape pass.now }
 {
-    next_row(board, pass).is_ok()
+    let Some(segment) = pass.current() else {
+        return false;
+    };
+    match pass.used(segment) {
+        Some(used) => used < pass.rows(),
+        None => false,
+    }
 }
 
 /// The row that the pass stores into next: the first of its current segment that isn't used.

@@ -13,19 +13,24 @@ use crate::row::{RowRef, load_words};
 use segbase::{Board, Pass, RowPlace};
 use segword::{Key, KeyWords, ROW_WORDS, Value};
 
-/// Writes a key and a value into the row that the pass stores into next, and returns that row.
-/// The call doesn't count the row as used.
-pub fn write_row(board: &Board, pass: &mut Pass, key: &Key, value: &Value) -> Result<RowRef, NoRoom>
+/// Writes a key and a value into the row that the pass stores into next.
+/// It returns the row's segment and the row. The call doesn't count the row as used.
+pub fn write_row(
+    board: &Board,
+    pass: &mut Pass,
+    key: &Key,
+    value: &Value,
+) -> Result<(u32, u32), NoRoom>
     requires pass { IsPassOf board.now pass.old }
     requires segments { KeepsSegments board.now pass.old }
     ensures next { IfOk result (λ row.
-        (current_of pass.old ≡ Some row.segment) × (used_of pass.old row.segment ≡ Some row.row)) }
+        (current_of pass.old ≡ Some row.0) × (used_of pass.old row.0 ≡ Some row.1)) }
     ensures moved { IfOk result (λ row.
-        FillsRow board.now row.segment row.row key.now value.now pass.old pass.new) }
+        FillsRow board.now row.0 row.1 key.now value.now pass.old pass.new) }
     ensures own { IfOk result (λ row.
-        IsOwnRow board.now.shape (trace pass.new) (number pass.new) row.segment row.row) }
+        IsOwnRow board.now.shape (trace pass.new) (number pass.new) row.0 row.1) }
     ensures holds { IfOk result (λ row.
-        Holds (row_after (trace pass.new) row.segment row.row) key.now value.now) }
+        Holds (row_after (trace pass.new) row.0 row.1) key.now value.now) }
     ensures plain { pass.new.plain ≡ pass.old.plain }
     ensures memo { (sight pass.new).memo ≡ (sight pass.old).memo }
     ensures no_room { IsErr result ↔ (has_room board.now.shape pass.old ≡ false) }
@@ -33,7 +38,7 @@ pub fn write_row(board: &Board, pass: &mut Pass, key: &Key, value: &Value) -> Re
 {
     let row = next_row(board, pass)?;
     fill_row(board, pass, row, &KeyWords::new(key), value);
-    Ok(row)
+    Ok((row.segment, row.row))
 }
 
 /// Writes a key and a value into a row of the pass's own that no item named in this filling.

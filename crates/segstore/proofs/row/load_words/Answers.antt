@@ -1,4 +1,4 @@
-use Rattle.std.proofs.Common.{◌+◌, ap, ◌∙◌, arith, below_more, length-set, get_or-set_other, get_or-set_same}
+use Rattle.std.proofs.Common.{◌+◌, ◌∙◌, arith, below_more, length-set, get_or-set_other, get_or-set_same}
 use Rattle.std.proofs.lemmas.List.{length-replicate}
 use Rattle.segstore.proofs.Looks.{are_words, reads_then, reads_nothing, loaded, may_load, word_before, same_readable, same_reads, same_words}
 use Rattle.segstore.proofs.row.load_words.Goals as goal
