@@ -1,12 +1,12 @@
 -- A step that its pass may take is allowed by the table's rule, and tells what its kind says.
-use Rattle.std.proofs.Common.{◌≡◌, ℕ, ◌<◌, ◌≤◌, List, [], ◌∷◌, ◌++◌, get_or, set, true, refl, sym, ap, ◌∙◌, subst, ⊎_elim, arith, length-set}
+use Rattle.std.proofs.Common.{◌≡◌, ℕ, suc, ◌<◌, ◌≤◌, List, [], ◌∷◌, ◌++◌, get_or, set, true, refl, sym, ap, ◌∙◌, subst, ⊎_elim, arith, length-set}
 use mathlib.Core.Option.{some}
 use lib.ListN.{get_elem?}
 use Rattle.atomic_table.specs.Table.{State, Me, keeps, stepped, Allows}
 use Rattle.atomic_table.proofs.Lists.{at_set, set_here, set_else}
 use Rattle.segword.specs.Words.{Shape}
 use Rattle.segcore.specs.Words.{address, adds, becomes, cell, Event, IsLawful, May, Step, Told}
-use Rattle.segcore.specs.Words.{View, word}
+use Rattle.segcore.specs.Words.{steps_of, View, word}
 use Rattle.segcore.proofs.KeepsLaw.{steps, inside_list}
 use Rattle.segcore.proofs.Schedules.{kept_at}
 use Rattle.segbase.specs.declared.law.Sight.{Sight}
@@ -66,7 +66,7 @@ module _ {S : Type 0} where
       let kept = kept_at z s.words rule.views rule.trace p v st l here may in
       let found = get_or s.words i 0 in
       let es : List Event = adds st p found in
-      let w : View = record v { trace = es ++ rule.trace; looks = rule.trace ∷ v.looks } in
+      let w : View = record v { trace = es ++ rule.trace; looks = rule.trace ∷ v.looks; turn = suc (steps_of rule.views) } in
       let x : Sight = record me.0 { view = w } in
       let after = steps z s.words rule.views rule.trace p v st l here kept in
       let is : found ≡ word z rule.trace (cell st) = rw place (l.each (cell st) kept.inside) in
@@ -84,7 +84,8 @@ module _ {S : Type 0} where
         others = k.others;
         before = subst (IsLawful z) k.rest l.legal;
         found_is = is ∙ ap (λ y. word z y (cell st)) k.rest;
-        now = (λ j. record v { trace = es ++ k.rest j; looks = k.rest j ∷ v.looks });
+        turn = suc (steps_of rule.views);
+        now = (λ j. record v { trace = es ++ k.rest j; looks = k.rest j ∷ v.looks; turn = suc (steps_of rule.views) });
         legal = rw is kept.legal;
       } in
       (x, keeps, tt, ruled, (record { told = told; met = begins_on es me.0.met rule.trace old.met; among = λ n past. ruled.lawful.later n (let few = ruled.few in omega arith); is_pass = refl; memo = refl }, refl))

@@ -12,6 +12,7 @@ use Rattle.segbase.specs.Ruled.{AreViews, NoneNumbered, Rule, IsSight, first_sig
 use Rattle.segbase.proofs.Allowed.{apart_kept}
 use Rattle.segbase.proofs.Ended.{apart_moved, none_new, stood, views_kept, views_longer}
 use Rattle.segcore.proofs.KeepsLaw.{inside_list}
+use Rattle.segcore.proofs.Timed.{timed_first, timed_longer, timed_same}
 
 only : (p : ℕ) (v : View) → get_elem? (first_sight.view ∷ []) p ≡ some v → Knows p v []
 only zero v at = subst (λ (u : View). Knows 0 u []) (some-injective first_sight.view v at) (record { number = refl; more = []; rest = refl; others = tt })
@@ -29,6 +30,10 @@ none_ended : (i : ℕ) (x : Sight) → get_elem? (first_sight ∷ []) i ≡ some
 none_ended zero x at n = subst (λ (s : Sight). NoneNumbered n s.ended) (some-injective first_sight x at) tt
 none_ended (suc i) x at n = absurd (some-ne-none x (sym at))
 
+untimed : (p : ℕ) (v : View) → get_elem? (first_sight.view ∷ []) p ≡ some v → (v.looks ≡ []) × (v.turn ≡ 0)
+untimed zero v at = let same = sym (some-injective first_sight.view v at) in (ap (λ (u : View). u.looks) same, ap (λ (u : View). u.turn) same)
+untimed (suc p) v at = absurd (some-ne-none v (sym at))
+
 pub rule_opens : (S : Type 0) (z : Shape) (words : List ℕ) → IsValid z → IsOpened z words → Rule {S = S} z (opening words [] first_sight)
 rule_opens S z words valid opened = record {
   trace = [];
@@ -41,6 +46,7 @@ rule_opens S z words valid opened = record {
     knows = only;
     later = λ p _. tt;
     dealt = λ v at. ap (λ (u : View). u.dealt) (sym (some-injective first_sight.view v at));
+    timed = timed_first (first_sight.view ∷ []) untimed;
   };
   few = valid.0.0.0.1.0;
   sights = one_sight;
@@ -54,17 +60,13 @@ snoc_at [] a b (suc j) e = absurd (some-ne-none b (sym e))
 snoc_at (x ∷ xs) a b zero e = inl e
 snoc_at (x ∷ xs) a b (suc j) e = ⊎_elim (λ t. inl t) (λ t. inr (ap suc t.0, t.1)) (snoc_at xs a b j e)
 
-none_front : (p : ℕ) (xs ys : List Event) → NoneBy p (xs ++ ys) → NoneBy p xs
-none_front p [] ys n = tt
-none_front p (e ∷ xs) ys n = (n.0, none_front p xs ys n.1)
-
 -- the views with one pass more
 more_views : (z : Shape) (words : List ℕ) (views : List View) (h : List Event) (v : View) → Lawful z words views h → get_elem? views 0 ≡ some v
-    → Lawful z words (set views 0 (record v { dealt = v.dealt + 1 }) ++ record { number = v.dealt; trace = v.trace; looks = []; dealt = 0 } ∷ []) h
+    → Lawful z words (set views 0 (record v { dealt = v.dealt + 1 }) ++ record { number = v.dealt; trace = []; looks = []; turn = 0; dealt = 0 } ∷ []) h
 more_views z words views h v l at =
     let k = l.knows 0 v at in
     let w : View = record v { dealt = v.dealt + 1 } in
-    let new : View = record { number = v.dealt; trace = v.trace; looks = []; dealt = 0 } in
+    let new : View = record { number = v.dealt; trace = []; looks = []; turn = 0; dealt = 0 } in
     let there = set views 0 w in
     let all : v.dealt ≡ length views = l.dealt v at in
     let long : length there ≡ length views = length-set views 0 w in
@@ -78,7 +80,7 @@ more_views z words views h v l at =
           (λ o. subst (λ (x : View). Knows p x h) o.1 (record { number = k.number ∙ sym o.0; more = k.more; rest = k.rest; others = subst (λ n. NoneBy n k.more) (sym o.0) k.others }))
           (λ o. l.knows p u o.1)
           (at_set views 0 p w u t))
-          (λ t. subst (λ (x : View). Knows p x h) t.1 (record { number = all ∙ (sym long ∙ sym t.0); more = k.more; rest = k.rest; others = none_front p k.more v.trace (subst (NoneBy p) k.rest (l.later p (let e = t.0 in omega arith))) }))
+          (λ t. subst (λ (x : View). Knows p x h) t.1 (record { number = all ∙ (sym long ∙ sym t.0); more = h; rest = sym (append-nil h); others = l.later p (let e = t.0 in omega arith) }))
           (snoc_at there new u p is);
       later = λ p past. l.later p (omega arith);
       dealt = λ u is. ⊎_elim
@@ -88,6 +90,7 @@ more_views z words views h v l at =
           (at_set views 0 0 w u t))
           (λ t. let i = inside_list views 0 v at in let e = t.0 in absurd (omega arith))
           (snoc_at there new u 0 is);
+      timed = timed_longer there new (timed_same views 0 v w l.timed at refl refl refl) refl refl refl;
     }
 
 pub deals : (S : Type 0) (z : Shape) (id : ℕ) (x : Sight) → x.is_pass ≡ true → x.view.number ≡ 0 → x.view.dealt < z.passes → Splits {S = S} (Rule z) id x (dealer x) (newcomer x)
@@ -97,7 +100,7 @@ deals S z id x pass first fewer s rule at =
     let old = rule.sights id x at in
     let here : get_elem? rule.views 0 ≡ some v = subst (λ n. get_elem? rule.views n ≡ some v) first (old.own pass) in
     let w : View = record v { dealt = v.dealt + 1 } in
-    let new : View = record { number = v.dealt; trace = v.trace; looks = []; dealt = 0 } in
+    let new : View = record { number = v.dealt; trace = []; looks = []; turn = 0; dealt = 0 } in
     let all : v.dealt ≡ length rule.views = l.dealt v here in
     let there = set rule.views 0 w in
     let long : length there ≡ length rule.views = length-set rule.views 0 w in
@@ -125,7 +128,7 @@ deals S z id x pass first fewer s rule at =
           (λ o. subst (IsSight views h) o.1 (record { seen = old.seen; met = old.met; own = λ _. subst (λ n. get_elem? views n ≡ some w) (sym first) (known 0 w (set_here rule.views 0 w (inside_list rule.views 0 v here))); ended = still x id at }))
           (λ o. let a = rule.sights j y o.1 in record { seen = a.seen; met = a.met; own = λ yes. known y.view.number y.view (set_else rule.views 0 y.view.number w (λ e. o.0 (rule.one j id y x o.1 at yes pass (e ∙ sym first))) ∙ a.own yes); ended = still y j o.1 })
           (at_set s.views id j (dealer x) y t))
-          (λ t. subst (IsSight views h) t.1 (record { seen = old.seen; met = (h, sym (append-nil h)); own = λ _. at_last there new v.dealt (long ∙ sym all); ended = tt }))
+          (λ t. subst (IsSight views h) t.1 (record { seen = (h, sym (append-nil h)); met = (h, sym (append-nil h)); own = λ _. at_last there new v.dealt (long ∙ sym all); ended = tt }))
           (snoc_at (set s.views id (dealer x)) (newcomer x) y j is);
       one = λ i j a b ai bj pa pb e. ⊎_elim
           (λ t. ⊎_elim

@@ -62,7 +62,7 @@ one_more b count ps x p seat valid dealt first here few table me table' me' plai
     let old = dealt.each 0 x first in
     let bare : seat.me ≡ (dealer x.seat.me.0, []) = me ∙ ap (λ l. (dealer x.seat.me.0, l)) old.pass.bare in
     let now : IsNewPass b 0 x' = new_pass b 0 x' (dealer x.seat.me.0) valid (omega arith) (table ∙ old.pass.table) bare old.pass.is_pass old.number old.nothing old.holding old.locked old.plain in
-    let new : IsNewPass b count p = new_pass b count p (newcomer x.seat.me.0) valid few (table' ∙ old.pass.table) me' refl here old.nothing refl refl plain in
+    let new : IsNewPass b count p = new_pass b count p (newcomer x.seat.me.0) valid few (table' ∙ old.pass.table) me' refl here refl refl refl plain in
     let long : length (set ps 0 x') ≡ count = length-set ps 0 x' ∙ dealt.long in (
       record {
         long = length-append (set ps 0 x') (p ∷ []) ∙ ap (λ n. n + 1) long;

@@ -64,7 +64,7 @@ pass_sight view = record { view = view; met = []; is_pass = true; memo = no_memo
 
 -- the first pass
 abbrev pub first_sight : Sight
-first_sight = pass_sight (record { number = 0; trace = []; looks = []; dealt = 1 })
+first_sight = pass_sight (record { number = 0; trace = []; looks = []; turn = 0; dealt = 1 })
 
 -- what is left with the first pass, and what a further pass begins with
 abbrev pub dealer : Sight → Sight
@@ -72,8 +72,7 @@ dealer sight = record sight { view = record sight.view { dealt = sight.view.deal
 
 abbrev pub newcomer : Sight → Sight
 newcomer sight =
-    pass_sight
-    (record { number = sight.view.dealt; trace = sight.view.trace; looks = []; dealt = 0 })
+    pass_sight (record { number = sight.view.dealt; trace = []; looks = []; turn = 0; dealt = 0 })
 
 -- a pass keeps what it knows
 abbrev pub same_sight : Sight → Sight
@@ -85,7 +84,7 @@ witness sight = record { view = sight.view; met = []; is_pass = false; memo = no
 
 abbrev pub spent : Sight
 spent = record {
-  view = record { number = 0; trace = []; looks = []; dealt = 0 };
+  view = record { number = 0; trace = []; looks = []; turn = 0; dealt = 0 };
   met = [];
   is_pass = false;
   memo = no_memo;

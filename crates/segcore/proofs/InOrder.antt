@@ -1,5 +1,5 @@
 -- What a step sees is all that has happened, and so calls of which one comes before the other see what they should.
-use Rattle.std.proofs.Common.{◌≡◌, ℕ, List, [], ◌∷◌, ◌++◌, get_or, refl, sym, ap, ◌∙◌, subst, ⊎_elim, append_assoc}
+use Rattle.std.proofs.Common.{◌≡◌, ℕ, suc, List, [], ◌∷◌, ◌++◌, get_or, refl, sym, ap, ◌∙◌, subst, ⊎_elim, append_assoc}
 use mathlib.Core.Option.{some, some-injective}
 use lib.ListN.{get_elem?}
 use Rattle.atomic_table.proofs.Lists.{at_set, set_here}
@@ -9,14 +9,14 @@ use Rattle.segmodel.specs.Words.{Begins}
 use Rattle.segcore.specs.Words.{Event, View}
 use Rattle.segcore.specs.Kind.{Step, adds, cell}
 use Rattle.segcore.specs.Word.{address}
-use Rattle.segcore.specs.World.{World, Reaches, ReachesOn}
+use Rattle.segcore.specs.World.{steps_of, World, Reaches, ReachesOn}
 use Rattle.segcore.proofs.KeepsLaw.{inside_list}
 use Rattle.segcore.proofs.Moments.{begins_on}
 use Rattle.segcore.proofs.Schedules.{lawful}
 
 -- the view of a pass after a step
 abbrev view_after : ℕ → View → Step → Shape → World → View
-view_after p v st z w = record v { trace = adds st p (get_or w.words (address z (cell st)) 0) ++ w.trace; looks = w.trace ∷ v.looks }
+view_after p v st z w = record v { trace = adds st p (get_or w.words (address z (cell st)) 0) ++ w.trace; looks = w.trace ∷ v.looks; turn = suc (steps_of w.views) }
 
 pub sees_all : (z : Shape) (ss : List (ℕ × Step)) (s : ℕ × Step) (w : World) (r : Reaches z (s ∷ ss) w) → (v : View) × (get_elem? w.views s.0 ≡ some v) × (v.trace ≡ w.trace) × (v.looks ≡ r.0.trace ∷ r.1.looks)
 sees_all z ss s w r = let b = r.0 in let v = view_after s.0 r.1 s.1 z b in

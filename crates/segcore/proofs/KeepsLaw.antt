@@ -1,7 +1,7 @@
 -- Where a step changes its word as the history says, it keeps the invariant.
-use Rattle.std.proofs.Common.{◌≡◌, ◌≢◌, ℕ, zero, suc, ◌<◌, ◌≤◌, cond, List, [], ◌∷◌, ◌++◌, length, get_or, set, sym, refl, ap, ◌∙◌, subst, ⊎_elim, arith, append_assoc, get_or-set_same, get_or-set_other, length-set}
+use Rattle.std.proofs.Common.{◌≡◌, ◌≢◌, ℕ, suc, ◌<◌, ◌≤◌, cond, List, [], ◌∷◌, ◌++◌, length, get_or, set, sym, refl, ap, ◌∙◌, subst, ⊎_elim, arith, append_assoc, get_or-set_same, get_or-set_other, length-set}
 use Rattle.std.proofs.lemmas.Bool.{cases_Bool}
-use mathlib.Core.Option.{some, some-ne-none}
+use mathlib.Core.Option.{some}
 use lib.ListN.{get_elem?}
 use Rattle.atomic_table.proofs.Lists.{at_set}
 use Rattle.segword.specs.Words.{Shape, word_count}
@@ -9,17 +9,14 @@ use Rattle.segcore.specs.Words.{Cell, Event, View}
 use Rattle.segcore.specs.Event.{NoneBy, AllBy}
 use Rattle.segcore.specs.Kind.{Step, cell, becomes, adds, KeepsLaw}
 use Rattle.segcore.specs.Word.{IsCell, same_cell, address, word}
-use Rattle.segcore.specs.World.{Knows, Lawful}
+use Rattle.segcore.specs.World.{Knows, Lawful, steps_of}
 use Rattle.segcore.proofs.Addresses.{in_count, apart, same_place}
+pub use Rattle.segcore.proofs.Timed.{inside_list}
+use Rattle.segcore.proofs.Timed.{timed_step}
 
 pub none_after : (p q : ℕ) (xs ys : List Event) → AllBy p xs → q ≢ p → NoneBy q ys → NoneBy q (xs ++ ys)
 none_after p q [] ys a ne n = n
 none_after p q (e ∷ xs) ys a ne n = ((λ same. ne (sym same ∙ a.0)), none_after p q xs ys a.1 ne n)
-
-pub inside_list : {A : Type 0} (l : List A) (i : ℕ) (a : A) → get_elem? l i ≡ some a → i < length l
-inside_list [] i a e = absurd (some-ne-none a (sym e))
-inside_list (x ∷ xs) zero a e = omega arith
-inside_list (x ∷ xs) (suc i) a e = let h = inside_list xs i a e in omega arith
 
 each_word : (z : Shape) (ws : List ℕ) (F G : Cell → ℕ) (d : Cell) (x : ℕ) → IsCell z d → length ws ≡ word_count z → ((c : Cell) → IsCell z c → get_or ws (address z c) 0 ≡ F c)
     → ((c : Cell) → IsCell z c → G c ≡ cond (same_cell d c) x (F c)) → (c : Cell) → IsCell z c → get_or (set ws (address z d) x) (address z c) 0 ≡ G c
@@ -31,11 +28,11 @@ each_word z ws F G d x here long each words c is = ⊎_elim
     (cases_Bool (same_cell d c))
 
 pub steps : (z : Shape) (ws : List ℕ) (views : List View) (h : List Event) (p : ℕ) (v : View) (st : Step) → Lawful z ws views h → get_elem? views p ≡ some v → KeepsLaw z st p h
-    → let found = get_or ws (address z (cell st)) 0 in Lawful z (set ws (address z (cell st)) (becomes st found)) (set views p (record v { trace = adds st p found ++ h; looks = h ∷ v.looks })) (adds st p found ++ h)
+    → let found = get_or ws (address z (cell st)) 0 in Lawful z (set ws (address z (cell st)) (becomes st found)) (set views p (record v { trace = adds st p found ++ h; looks = h ∷ v.looks; turn = suc (steps_of views) })) (adds st p found ++ h)
 steps z ws views h p v st l at k =
     let found = get_or ws (address z (cell st)) 0 in
     let f : word z h (cell st) ≡ found = sym (l.each (cell st) k.inside) in
-    let w : View = record v { trace = adds st p found ++ h; looks = h ∷ v.looks } in
+    let w : View = record v { trace = adds st p found ++ h; looks = h ∷ v.looks; turn = suc (steps_of views) } in
     let own : AllBy p (adds st p found) = rw (← f) k.own in
     record {
       valid = l.valid;
@@ -52,4 +49,5 @@ steps z ws views h p v st l at k =
           (λ t. subst (λ (x : View). x.dealt ≡ length (set views p w)) t.1 (l.dealt v (rw t.0 at) ∙ sym (length-set views p w)))
           (λ t. l.dealt u t.1 ∙ sym (length-set views p w))
           (at_set views p 0 w u is);
+      timed = timed_step views h p v w l.timed at refl refl (λ q u is. let k = l.knows q u is in (k.more, k.rest));
     }

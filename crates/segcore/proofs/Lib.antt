@@ -9,6 +9,7 @@ pub mod Chains
 pub mod Standing
 pub mod Cells
 pub mod Readers
+pub mod Timed
 pub mod KeepsLaw
 pub mod Limits
 pub mod StepKinds
@@ -22,6 +23,7 @@ pub mod Exact
 pub mod Deadlines
 pub mod Entered
 pub mod Facts
+pub mod Whole
 pub mod LookFacts
 pub mod WorkedExample
 pub mod Homes

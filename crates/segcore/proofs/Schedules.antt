@@ -1,5 +1,5 @@
 -- Every schedule, by induction on its steps.
-use Rattle.std.proofs.Common.{◌≡◌, ℕ, List, [], ◌∷◌, ◌++◌, get_or, set, refl, sym, ap, ◌∙◌, subst, ⊎_elim, append_assoc}
+use Rattle.std.proofs.Common.{◌≡◌, ℕ, suc, List, [], ◌∷◌, ◌++◌, get_or, set, refl, sym, ap, ◌∙◌, subst, ⊎_elim, append_assoc}
 use mathlib.Core.Option.{some-injective}
 use Rattle.atomic_table.proofs.Lists.{set_here, set_else}
 use Rattle.std.proofs.lemmas.Bool.{cases_eq}
@@ -13,9 +13,10 @@ use Rattle.segcore.specs.Event.{NoneBy}
 use Rattle.segcore.specs.Kind.{adds, cell, Step, May, KeepsLaw}
 use Rattle.segcore.specs.Lawful.{IsLawful}
 use Rattle.segcore.specs.Word.{address}
-use Rattle.segcore.specs.World.{Grew, Lawful, SeeMore, World, IsOpening, Reaches, IsLawfulWorld}
+use Rattle.segcore.specs.World.{Grew, Lawful, SeeMore, steps_of, World, IsOpening, Reaches, IsLawfulWorld}
 use Rattle.segcore.proofs.KeepsLaw.{steps, inside_list}
 use Rattle.segcore.proofs.StepKinds.{keeps}
+use Rattle.segcore.proofs.Timed.{timed_first}
 
 -- a step that the pass p may take, having seen what its view says, changes its word as the history then says
 pub kept_at : (z : Shape) (ws : List ℕ) (views : List View) (h : List Event) (p : ℕ) (v : View) (st : Step) → Lawful z ws views h → get_elem? views p ≡ some v → May z v.trace p st → KeepsLaw z st p h
@@ -31,6 +32,7 @@ opens z w o = record {
   knows = λ p v at. let f = o.new p v at in record { number = f.number; more = []; rest = rw (o.untouched, f.unseen) refl; others = tt };
   later = λ p _. subst (NoneBy p) (sym o.untouched) tt;
   dealt = λ v at. (o.new 0 v at).dealt;
+  timed = timed_first w.views (λ p v at. let f = o.new p v at in (f.unlooked, f.unturned));
 }
 
 pub lawful : (z : Shape) (ss : List (ℕ × Step)) (w : World) → Reaches z ss w → IsLawfulWorld z w
@@ -47,7 +49,7 @@ sees_more z ss s w r p v at =
     let b = r.0 in
     let k = (lawful z ss b r.2).knows s.0 r.1 r.3 in
     let es = adds s.1 s.0 (get_or b.words (address z (cell s.1)) 0) in
-    let u : View = record r.1 { trace = es ++ b.trace; looks = b.trace ∷ r.1.looks } in ⊎_elim
+    let u : View = record r.1 { trace = es ++ b.trace; looks = b.trace ∷ r.1.looks; turn = suc (steps_of b.views) } in ⊎_elim
     (λ e. let same : v ≡ r.1 = some-injective v r.1 (sym at ∙ subst (λ x. get_elem? b.views x ≡ some r.1) (sym e) r.3) in (
       u,
       subst (λ x. get_elem? x.views p ≡ some u) (sym r.5) (subst (λ x. get_elem? (set b.views s.0 u) x ≡ some u) (sym e) (set_here b.views s.0 u (inside_list b.views s.0 r.1 r.3))),

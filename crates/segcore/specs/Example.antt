@@ -112,7 +112,7 @@ looks = replicate 5 (marked stored) ++ marked moved ∷ replicate 7 (marked evic
 -- ---- a schedule
 
 abbrev pub view_of : ℕ → List Event → View
-view_of pass trace = record { number = pass; trace = trace; looks = []; dealt = 2 }
+view_of pass trace = record { number = pass; trace = trace; looks = []; turn = 0; dealt = 2 }
 
 -- every word is 0, as the first version is
 abbrev pub opening : World

@@ -26,7 +26,7 @@ pub use Rattle.segcore.specs.Segment.{inside, NoneRefills, readers, was_used}
 pub use Rattle.segcore.specs.Standing.{cached, ChainsOn, IsOfKey, Names}
 pub use Rattle.segcore.specs.Word.{address, bit_of, content_word, IsAt, IsCell, IsItemAt}
 pub use Rattle.segcore.specs.Word.{segment_size, segments_at, word}
-pub use Rattle.segcore.specs.World.{Knows, Lawful, Told}
+pub use Rattle.segcore.specs.World.{Knows, Lawful, steps_of, Told}
 use Rattle.segcore.specs.declared.cell.Cell as declared_cell
 use Rattle.segcore.specs.declared.event.Event as declared_event
 use Rattle.segcore.specs.declared.event.Leaving as declared_leaving

@@ -1,6 +1,6 @@
 -- Worlds: the words of the table, the passes' views and the trace; the rule that they keep;
 -- and the worlds that schedules of steps reach.
-use Rattle.std.specs.Prelude.{◌≡◌, ℕ, ◌≤◌, List, [], ◌∷◌, ◌++◌, length, slice_index, slice_set}
+use Rattle.std.specs.Prelude.{◌≡◌, ℕ, suc, ◌+◌, ◌<◌, ◌≤◌, List, [], ◌∷◌, ◌++◌, length, slice_index, slice_set}
 use mathlib.Core.Option.{some}
 use lib.ListN.{get_elem?}
 use Rattle.segword.specs.Words.{IsValid, Shape, word_count}
@@ -23,6 +23,31 @@ pub record Knows (pass : ℕ) (view : View) (trace : List Event) : Type 0 where
   pub rest : trace ≡ more ++ view.trace
   pub others : NoneBy pass more
 
+-- how many steps the passes took together
+abbrev pub steps_of : List View → ℕ
+steps_of [] = 0
+steps_of (view ∷ views) = length view.looks + steps_of views
+
+-- if there is a last look, it goes on from the trace
+abbrev pub LastSaw : List Event → List (List Event) → Type 0
+LastSaw trace [] = Unit {0}
+LastSaw trace (last ∷ older) = Begins trace last
+
+-- Steps come one after the other, and each sees what all earlier ones did.
+-- The newest step is that of the latest turn.
+pub record IsTimed (views : List View) : Type 0 where
+  pub few : (pass : ℕ) (view : View)
+      → get_elem? views pass ≡ some view
+      → view.turn ≤ steps_of views
+  pub all : 0 < steps_of views
+      → (pass : ℕ) × (view : View) × (get_elem? views pass ≡ some view)
+      × (view.turn ≡ steps_of views)
+  pub later : (pass other : ℕ) (old new : View)
+      → get_elem? views pass ≡ some old
+      → get_elem? views other ≡ some new
+      → old.turn < new.turn
+      → LastSaw old.trace new.looks
+
 pub record Lawful (shape : Shape) (words : List ℕ) (views : List View) (trace : List Event)
     : Type 0 where
   pub valid : IsValid shape
@@ -37,6 +62,7 @@ pub record Lawful (shape : Shape) (words : List ℕ) (views : List View) (trace 
   -- no event is of a pass that isn't there yet
   pub later : (pass : ℕ) → length views ≤ pass → NoneBy pass trace
   pub dealt : (view : View) → get_elem? views 0 ≡ some view → view.dealt ≡ length views
+  pub timed : IsTimed views
 
 -- What a step tells its pass: what others did meanwhile, what it found,
 -- and that it added just its own events. The pass looked at the trace just before them.
@@ -45,10 +71,12 @@ pub record Told (shape : Shape) (step : Step) (found : ℕ) (old new : View) : T
   pub others : NoneBy old.number more
   pub before : IsLawful shape (more ++ old.trace)
   pub found_is : found ≡ word shape (more ++ old.trace) (cell step)
+  pub turn : ℕ
   pub now : new
       ≡ record old {
         trace = adds step old.number found ++ (more ++ old.trace);
         looks = (more ++ old.trace) ∷ old.looks;
+        turn = turn;
       }
   pub legal : IsLawful shape new.trace
 
@@ -63,6 +91,7 @@ pub record IsFresh (passes pass : ℕ) (view : View) : Type 0 where
   pub number : view.number ≡ pass
   pub unseen : view.trace ≡ []
   pub unlooked : view.looks ≡ []
+  pub unturned : view.turn ≡ 0
   pub dealt : view.dealt ≡ passes
 
 -- no event yet, and each word as at the start
@@ -86,7 +115,11 @@ after_step shape pass view step world =
       words = slice_set world.words (address shape (cell step)) (becomes step found);
       views =
           slice_set world.views pass
-          (record view { trace = trace; looks = world.trace ∷ view.looks });
+          (record view {
+            trace = trace;
+            looks = world.trace ∷ view.looks;
+            turn = suc (steps_of world.views);
+          });
       trace = trace;
     }
 

@@ -17,7 +17,7 @@ ghost use Rattle.segcore.specs.Example.{evicted, refilled, elsewhere, looks, vie
 ghost use Rattle.segcore.specs.Example.{refusing, to_added, to_refilled, to_refused};
 ghost use Rattle.segcore.specs.Kind.{take};
 ghost use Rattle.segcore.specs.Laws.{EveryScheduleIsLawful, SightOnlyGrows, EveryScheduleSaysAll};
-ghost use Rattle.segcore.specs.Laws.{StepSeesAll, CallsAreInOrder};
+ghost use Rattle.segcore.specs.Laws.{StepSeesAll, CallsAreInOrder, ToldStepSeesAll};
 ghost use Rattle.segcore.specs.Laws.{ScanPassesAMiss, SeenHistoryIsLegal, MarksArePlaced};
 ghost use Rattle.segcore.specs.Laws.{MarksAreOrderly, MarksLeaveTheHistory, MarksCountTheChain};
 ghost use Rattle.segcore.specs.Laws.{LawfulKeyFacts, LawfulBucketFacts, LawfulSegmentFacts};
@@ -45,6 +45,12 @@ pub fn every_schedule()
     ensures whole { StepSeesAll }
     ensures in_order { CallsAreInOrder }
     ensures says { EveryScheduleSaysAll }
+{}
+
+/// Whatever body takes a step: if the rule holds before and after, and the pass is told of the
+/// step, the step sees all that has happened.
+pub fn told_step()
+    ensures { ToldStepSeesAll }
 {}
 
 /// A scan looks at all words of a chain. If it finds what it seeks in none of them, it passed a

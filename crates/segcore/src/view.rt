@@ -10,6 +10,8 @@ pub struct View {
     pub trace: LinkedList<Event>,
     /// What each step of the pass saw: the trace just before it, the newest step's first.
     pub looks: LinkedList<LinkedList<Event>>,
+    /// How many steps all passes had taken together by the pass's last one.
+    pub turn: u64,
     /// In the view of pass 0, how many passes there are.
     pub dealt: u32,
 }

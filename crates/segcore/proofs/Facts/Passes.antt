@@ -17,7 +17,7 @@ use Rattle.segcore.specs.Lawful.{IsLawful}
 use Rattle.segcore.specs.Word.{address, bit_of, content_word, word_in, overflow_word, word}
 use Rattle.segcore.specs.Mark.{marked}
 use Rattle.segcore.specs.Kind.{Step, cell, adds, HasBit}
-use Rattle.segcore.specs.World.{Knows, World, Reaches, IsLawfulWorld}
+use Rattle.segcore.specs.World.{Knows, steps_of, World, Reaches, IsLawfulWorld}
 use Rattle.segcore.specs.Facts.{PassFacts, PassesFacts}
 use Rattle.segcore.proofs.Coherent.{IsContent}
 use Rattle.segcore.proofs.Quiet.{quiet, quiet_none, quiet_row, not_mine, home_stays}
@@ -69,7 +69,7 @@ not_his : (z : Shape) (h : List Event) (p b : ℕ) → NoneBy p h → (bucket_af
 not_his z [] p b n e = none-some p e
 not_his z (e ∷ h) p b n has = not_mine z (e ∷ []) h p b (n.0, tt) (not_his z h p b n.1) has
 
-in_list : {A : Type 0} (l : List A) (i : ℕ) → i < length l → (a : A) × (get_elem? l i ≡ some a)
+pub in_list : {A : Type 0} (l : List A) (i : ℕ) → i < length l → (a : A) × (get_elem? l i ≡ some a)
 in_list [] i lt = absurd (omega arith)
 in_list (x ∷ xs) zero lt = (x, refl)
 in_list (x ∷ xs) (suc i) lt = in_list xs i (omega arith)
@@ -99,7 +99,7 @@ module _ (z : Shape) (w : World) (l : IsLawfulWorld z w) where
 
 longest : (z : Shape) (ss : List (ℕ × Step)) (w : World) → Reaches z ss w → 0 < length w.views → (p : ℕ) × (v : View) × (get_elem? w.views p ≡ some v) × (v.trace ≡ w.trace)
 longest z [] w o lt = let v = in_list w.views 0 lt in (0, v.0, v.1, (o.new 0 v.0 v.1).unseen ∙ sym o.untouched)
-longest z (s ∷ ss) w r lt = let b = r.0 in let v : View = record r.1 { trace = adds s.1 s.0 (get_or b.words (address z (cell s.1)) 0) ++ b.trace; looks = b.trace ∷ r.1.looks } in
+longest z (s ∷ ss) w r lt = let b = r.0 in let v : View = record r.1 { trace = adds s.1 s.0 (get_or b.words (address z (cell s.1)) 0) ++ b.trace; looks = b.trace ∷ r.1.looks; turn = suc (steps_of b.views) } in
     (s.0, v, ap (λ x. get_elem? x.views s.0) r.5 ∙ set_here b.views s.0 v (inside_list b.views s.0 r.1 r.3), sym (ap (λ (x : World). x.trace) r.5))
 
 pub says_of_passes : (z : Shape) (ss : List (ℕ × Step)) (w : World) → Reaches z ss w → IsLawfulWorld z w → PassesFacts z w

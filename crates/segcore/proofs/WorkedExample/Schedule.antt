@@ -28,8 +28,8 @@ start_word (OfSegment s) = refl
 start_word (OfRow s r j) = refl
 
 first_view : (p : ℕ) (v : View) → get_elem? opening.views p ≡ some v → IsFresh 2 p v
-first_view zero v e = subst (IsFresh 2 0) (some-injective (view_of 0 []) v e) (record { number = refl; unseen = refl; unlooked = refl; dealt = refl })
-first_view (suc zero) v e = subst (IsFresh 2 1) (some-injective (view_of 1 []) v e) (record { number = refl; unseen = refl; unlooked = refl; dealt = refl })
+first_view zero v e = subst (IsFresh 2 0) (some-injective (view_of 0 []) v e) (record { number = refl; unseen = refl; unlooked = refl; unturned = refl; dealt = refl })
+first_view (suc zero) v e = subst (IsFresh 2 1) (some-injective (view_of 1 []) v e) (record { number = refl; unseen = refl; unlooked = refl; unturned = refl; dealt = refl })
 first_view (suc (suc p)) v e = absurd (some-ne-none v (sym e))
 
 opens : IsOpening shape opening
