@@ -1,5 +1,5 @@
 -- A step that its pass may take is allowed by the table's rule, and tells what its kind says.
-use Rattle.std.proofs.Common.{◌≡◌, ℕ, suc, ◌<◌, ◌≤◌, List, [], ◌∷◌, ◌++◌, get_or, set, true, refl, sym, ap, ◌∙◌, subst, ⊎_elim, arith, length-set}
+use Rattle.std.proofs.Common.{◌≡◌, ℕ, suc, ◌<◌, ◌≤◌, List, [], ◌∷◌, ◌++◌, get_or, set, true, refl, sym, ap, ◌∙◌, subst, inl, ⊎_elim, arith, length-set}
 use mathlib.Core.Option.{some}
 use lib.ListN.{get_elem?}
 use Rattle.atomic_table.specs.Table.{State, Me, keeps, stepped, Allows}
@@ -12,11 +12,12 @@ use Rattle.segcore.proofs.Schedules.{kept_at}
 use Rattle.segbase.specs.declared.law.Sight.{Sight}
 use Rattle.segbase.specs.Words.{Board, Pass}
 use Rattle.segbase.specs.declared.place.Spot.{Spot}
-use Rattle.segbase.specs.Ruled.{IsSight, Rule, Learns}
+use Rattle.segbase.specs.Ruled.{IsHeld, IsSight, Rule, Learns}
 use Rattle.segbase.specs.Spots.{cell_of}
 use Rattle.segbase.specs.Passes.{CanStep}
 use Rattle.segbase.proofs.Begun.{begins_on}
 use Rattle.segbase.proofs.Ended.{views_kept, apart_moved}
+use Rattle.segbase.proofs.Holders.{held_moved, pass_only}
 
 -- a seat that keeps its number, and stays a pass if it is one, keeps the passes' numbers apart
 pub apart_kept : (views : List Sight) (id : ℕ) (x u : Sight) → ((i j : ℕ) (a b : Sight) → get_elem? views i ≡ some a → get_elem? views j ≡ some b → a.is_pass ≡ true → b.is_pass ≡ true → a.view.number ≡ b.view.number → i ≡ j)
@@ -76,6 +77,10 @@ module _ {S : Type 0} where
         lawful = rw (← same, place) after;
         few = subst (λ n. n ≤ z.passes) (sym (length-set rule.views p w)) rule.few;
         sights = sights_kept z s rule id me.0 w es at pass refl refl;
+        held = λ n u is. ⊎_elim
+            (λ t. subst (IsHeld (set s.views id x)) t.1 (id, x, set_here s.views id x (inside_list s.views id me.0 at), inl (pass, refl)))
+            (λ t. held_moved s.views id me.0 x u at (λ has. absurd (t.0 (sym (l.knows n u t.1).number ∙ ap (λ (y : View). y.number) (sym (pass_only me.0 u pass has))))) (rule.held n u t.1))
+            (at_set rule.views p n w u is);
         one = apart_kept s.views id me.0 x rule.one at pass refl;
         apart = apart_moved s.views id me.0 x rule.apart at pass refl refl;
       } in

@@ -18,6 +18,7 @@ use Rattle.segbase.specs.Passes.{sight, view, number, trace, IsPassOf, IsMemo}
 use Rattle.segbase.specs.Ruled.{AreApart, AreViews, Rule, IsSight, witness, spent, meets, minding}
 use Rattle.segbase.proofs.Allowed.{apart_kept}
 use Rattle.segbase.proofs.Ended.{apart_longer, apart_moved, apart_spent}
+use Rattle.segbase.proofs.Holders.{has_none, held_longer, held_moved, pass_only}
 
 abbrev pub IsOne : List Sight → Type 0
 IsOne views = (i j : ℕ) (a b : Sight) → get_elem? views i ≡ some a → get_elem? views j ≡ some b → a.is_pass ≡ true → b.is_pass ≡ true → a.view.number ≡ b.view.number → i ≡ j
@@ -61,6 +62,7 @@ carries S z id x u pass view met is_pass ended s rule at =
           (at_set s.views id j u y t))
           (λ t. subst (IsSight rule.views rule.trace) t (record { seen = old.seen; met = begins_all rule.trace; own = λ yes. absurd (false≢true yes); ended = tt }))
           (at_snoc (set s.views id u) (witness x) y j is);
+      held = λ n v is. held_longer (set s.views id u) (witness x) v (held_moved s.views id x u v at (λ has. inl (is_pass, view ∙ pass_only x v pass has)) (rule.held n v is));
       one = one_longer (set s.views id u) (witness x) one refl;
       apart = apart_longer (set s.views id u) (witness x) (apart_moved s.views id x u rule.apart at pass (ap (λ v. v.number) view) ended) refl refl;
     }
@@ -87,12 +89,13 @@ copies S z id x off none s rule at =
           (λ t. rule.sights j y (there j y t))
           (λ t. subst (IsSight rule.views rule.trace) t (rule.sights id x at))
           (at_snoc (set s.views id x) x y j is);
+      held = λ n v is. held_longer (set s.views id x) x v (held_moved s.views id x x v at (λ has. has) (rule.held n v is));
       one = one_longer (set s.views id x) x one off;
       apart = apart_longer (set s.views id x) x apart off none;
     }
 
-pub tells : (S : Type 0) (z : Shape) (id other : ℕ) (x w : Sight) → x.is_pass ≡ true → Joins {S = S} (Rule z) id x other w (meets x w) spent
-tells S z id other x w pass s rule at apart at' =
+pub tells : (S : Type 0) (z : Shape) (id other : ℕ) (x w : Sight) → x.is_pass ≡ true → w.is_pass ≡ false → w.ended ≡ [] → Joins {S = S} (Rule z) id x other w (meets x w) spent
+tells S z id other x w pass off none s rule at apart at' =
     let old = rule.sights id x at in
     let u : Sight = meets x w in
     let views = set s.views id u in
@@ -110,6 +113,7 @@ tells S z id other x w pass s rule at apart at' =
           (λ o. rule.sights j y o.1)
           (at_set s.views id j u y t.1))
           (at_set views other j spent y is);
+      held = λ n v is. held_moved views other w spent v at' (λ has. absurd (has_none w v off none has)) (held_moved s.views id x u v at (λ has. inl (pass, pass_only x v pass has)) (rule.held n v is));
       one = one_spent views other spent one refl;
       apart = apart_spent views other spent (apart_moved s.views id x u rule.apart at pass refl refl) refl refl;
     }

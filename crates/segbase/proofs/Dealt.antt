@@ -8,9 +8,10 @@ use Rattle.segword.specs.Words.{IsValid, Shape}
 use Rattle.segcore.specs.Words.{Event, Knows, Lawful, NoneBy, View}
 use Rattle.segbase.specs.declared.law.Sight.{Sight}
 use Rattle.segbase.specs.Opening.{IsOpened}
-use Rattle.segbase.specs.Ruled.{AreViews, NoneNumbered, Rule, IsSight, first_sight, dealer, newcomer}
+use Rattle.segbase.specs.Ruled.{AreViews, IsHeld, NoneNumbered, Rule, IsSight, first_sight, dealer, newcomer}
 use Rattle.segbase.proofs.Allowed.{apart_kept}
 use Rattle.segbase.proofs.Ended.{apart_moved, none_new, stood, views_kept, views_longer}
+use Rattle.segbase.proofs.Holders.{held_longer, held_moved, pass_only}
 use Rattle.segcore.proofs.KeepsLaw.{inside_list}
 use Rattle.segcore.proofs.Timed.{timed_first, timed_longer, timed_same}
 
@@ -29,6 +30,10 @@ one_id (suc i) x at = absurd (some-ne-none x (sym at))
 none_ended : (i : ℕ) (x : Sight) → get_elem? (first_sight ∷ []) i ≡ some x → (n : ℕ) → NoneNumbered n x.ended
 none_ended zero x at n = subst (λ (s : Sight). NoneNumbered n s.ended) (some-injective first_sight x at) tt
 none_ended (suc i) x at n = absurd (some-ne-none x (sym at))
+
+held_first : (n : ℕ) (v : View) → get_elem? (first_sight.view ∷ []) n ≡ some v → IsHeld (first_sight ∷ []) v
+held_first zero v at = (0, first_sight, refl, inl (refl, some-injective first_sight.view v at))
+held_first (suc n) v at = absurd (some-ne-none v (sym at))
 
 untimed : (p : ℕ) (v : View) → get_elem? (first_sight.view ∷ []) p ≡ some v → (v.looks ≡ []) × (v.turn ≡ 0)
 untimed zero v at = let same = sym (some-injective first_sight.view v at) in (ap (λ (u : View). u.looks) same, ap (λ (u : View). u.turn) same)
@@ -50,6 +55,7 @@ rule_opens S z words valid opened = record {
   };
   few = valid.0.0.0.1.0;
   sights = one_sight;
+  held = held_first;
   one = λ i j x y at at' _ _ _. one_id i x at ∙ sym (one_id j y at');
   apart = λ i j x y at at' _. none_ended i x at y.view.number;
 }
@@ -130,6 +136,13 @@ deals S z id x pass first fewer s rule at =
           (at_set s.views id j (dealer x) y t))
           (λ t. subst (IsSight views h) t.1 (record { seen = (h, sym (append-nil h)); met = (h, sym (append-nil h)); own = λ _. at_last there new v.dealt (long ∙ sym all); ended = tt }))
           (snoc_at (set s.views id (dealer x)) (newcomer x) y j is);
+      held = λ n u is. ⊎_elim
+          (λ t. held_longer (set s.views id (dealer x)) (newcomer x) u (⊎_elim
+          (λ o. subst (IsHeld (set s.views id (dealer x))) o.1 (id, dealer x, set_here s.views id (dealer x) (inside_list s.views id x at), inl (pass, refl)))
+          (λ o. held_moved s.views id x (dealer x) u at (λ has. absurd (o.0 (sym (l.knows n u o.1).number ∙ (ap (λ (y : View). y.number) (sym (pass_only x u pass has)) ∙ first)))) (rule.held n u o.1))
+          (at_set rule.views 0 n w u t)))
+          (λ t. subst (IsHeld (set s.views id (dealer x) ++ newcomer x ∷ [])) t.1 (length (set s.views id (dealer x)), newcomer x, at_last (set s.views id (dealer x)) (newcomer x) (length (set s.views id (dealer x))) refl, inl (refl, refl)))
+          (snoc_at there new u n is);
       one = λ i j a b ai bj pa pb e. ⊎_elim
           (λ t. ⊎_elim
           (λ o. one i j a b t o pa pb e)

@@ -19,6 +19,7 @@ use Rattle.segbase.specs.Passes.{IsPassOf, number, trace, view}
 use Rattle.segbase.specs.Ruled.{AreViews, ends, IsSight, Rule, spent}
 use Rattle.segbase.proofs.Carried.{begins_all, one_longer, one_spent}
 use Rattle.segbase.proofs.Ended.{apart_given, apart_longer}
+use Rattle.segbase.proofs.Holders.{held_given, held_longer}
 
 -- ---- the seat
 
@@ -35,6 +36,7 @@ enters S z slots place s rule _ _ = (
     lawful = rule.lawful;
     few = rule.few;
     sights = λ j y is. ⊎_elim (λ t. rule.sights j y t) (λ t. subst (IsSight rule.views rule.trace) t (spent_sight rule.views rule.trace)) (at_snoc s.views spent y j is);
+    held = λ n v is. held_longer s.views spent v (rule.held n v is);
     one = one_longer s.views spent rule.one refl;
     apart = apart_longer s.views spent rule.apart refl refl;
   },
@@ -60,6 +62,7 @@ gives S z id other x w off pass s rule at apart at' =
           (λ o. rule.sights j y o.1)
           (at_set s.views id j u y t.1))
           (at_set sights other j spent y is);
+      held = λ n v is. held_given s.views id other x w v off pass at apart there (rule.held n v is);
       one = one_spent sights other spent (one_spent s.views id u rule.one off) refl;
       apart = apart_given s.views id other x w rule.apart (λ j y is yes same. rule.one other j w y there is pass yes same) at off;
     }

@@ -7,6 +7,7 @@ pub mod Dealt
 pub mod Ended
 pub mod Exchanging
 pub mod GivenUp
+pub mod Holders
 pub mod Known
 pub mod MadeFacts
 pub mod Minded
@@ -16,6 +17,7 @@ pub mod Opened
 pub mod Owned
 pub mod Owning
 pub mod Passes
+pub mod Runs
 pub mod Placed
 pub mod Standing
 pub mod Staying

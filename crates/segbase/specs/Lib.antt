@@ -7,6 +7,7 @@ pub mod Passes
 pub mod PlainPart
 pub mod Props
 pub mod Ruled
+pub mod Running
 pub mod Spots
 pub mod Steps
 pub mod Traces

@@ -1,6 +1,6 @@
 -- The rule of the table: some trace makes its words what they are,
 -- and goes on from what each seat knows.
-use Rattle.std.specs.Prelude.{◌≡◌, ◌≢◌, ℕ, ◌+◌, ◌≤◌, true, false, List, [], ◌∷◌, length, None}
+use Rattle.std.specs.Prelude.{◌≡◌, ◌≢◌, ℕ, ◌+◌, ◌≤◌, ◌⊎◌, true, false, List, [], ◌∷◌, length, None}
 use mathlib.Core.Option.{some}
 use lib.ListN.{get_elem?}
 use Rattle.atomic_table.specs.Table.{State, Me, Step as TableStep}
@@ -28,6 +28,22 @@ pub record IsSight (views : List View) (trace : List Event) (sight : Sight) : Ty
   pub own : sight.is_pass ≡ true → get_elem? views sight.view.number ≡ some sight.view
   pub ended : AreViews views sight.ended
 
+-- the view is one of these
+abbrev pub IsAmong : View → List View → Type 0
+IsAmong view [] = ⊥
+IsAmong view (other ∷ more) = (other ≡ view) ⊎ IsAmong view more
+
+-- the seat is that of the view's pass, or the pass was given up to it
+abbrev pub HasView : Sight → View → Type 0
+HasView sight view =
+    ((sight.is_pass ≡ true) × (sight.view ≡ view))
+    ⊎ ((sight.is_pass ≡ false) × IsAmong view sight.ended)
+
+-- some seat has the view
+abbrev pub IsHeld : List Sight → View → Type 0
+IsHeld sights view =
+    (id : ℕ) × (sight : Sight) × (get_elem? sights id ≡ some sight) × HasView sight view
+
 -- no pass that was given up has the number of one that takes steps
 abbrev pub AreApart : List Sight → Type 0
 AreApart sights = (i j : ℕ) (x y : Sight)
@@ -46,6 +62,9 @@ pub record Rule {S : Type 0} (shape : Shape) (state : State S Sight) : Type 0 wh
   pub sights : (id : ℕ) (sight : Sight)
       → get_elem? state.views id ≡ some sight
       → IsSight views trace sight
+  pub held : (number : ℕ) (view : View)
+      → get_elem? views number ≡ some view
+      → IsHeld state.views view
   -- no two passes have one number
   pub one : (i j : ℕ) (x y : Sight)
       → get_elem? state.views i ≡ some x

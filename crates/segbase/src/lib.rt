@@ -17,6 +17,7 @@ mod overflow;
 mod pass;
 mod place;
 mod raw;
+mod running;
 mod segment;
 
 pub use board::Board;
@@ -27,3 +28,4 @@ pub use note::Note;
 pub use overflow::CHAIN_BUCKETS;
 pub use pass::Pass;
 pub use place::{Place, RowPlace};
+pub use running::running_step;

@@ -9,6 +9,7 @@ use Rattle.segmodel.specs.Words.{Begins}
 use Rattle.segcore.specs.Words.{Event, View}
 use Rattle.segcore.specs.Event.{by, NoneBy}
 use Rattle.segcore.specs.Kind.{Step, adds}
+use Rattle.segcore.specs.Run.{IsStepOf}
 use Rattle.segcore.specs.World.{IsLawfulWorld, LastSaw, steps_of, Told, World}
 use Rattle.segcore.proofs.Facts.Passes.{in_list}
 use Rattle.segcore.proofs.Moments.{begins_on}
@@ -142,6 +143,7 @@ module _ (z : Shape) (st : Step) (found : ℕ) (before after : World) (p : ℕ) 
           (λ e. begins_on u.trace look w.trace (sees q u e.1) own)
           (at_set before.views p q w u (ap (λ l. get_elem? l q) (sym one) ∙ is))
 
-pub step_sees_all : (z : Shape) (st : Step) (found : ℕ) (before after : World) (p : ℕ) (v w : View) → IsLawfulWorld z before → IsLawfulWorld z after
-    → get_elem? before.views p ≡ some v → after.views ≡ set before.views p w → Told z st found v w → (w.looks ≡ before.trace ∷ v.looks) × (w.trace ≡ after.trace)
-step_sees_all z st found before after p v w l m at one told = (whole_look z st found before after p v w l m at one told, whole_trace z st found before after p v w l m at one told)
+pub step_sees_all : (z : Shape) (p : ℕ) (before after : World) → IsLawfulWorld z before → (taken : IsStepOf z p before after)
+    → (taken.new.looks ≡ before.trace ∷ taken.old.looks) × (taken.new.trace ≡ after.trace)
+step_sees_all z p before after l s =
+    (whole_look z s.step s.found before after p s.old s.new l s.lawful s.there s.apart s.told, whole_trace z s.step s.found before after p s.old s.new l s.lawful s.there s.apart s.told)

@@ -1,6 +1,6 @@
 -- Laws: what is so of every schedule, every lawful trace and every step. Each is proved as the
 -- contract of a function in src/laws.rt.
-use Rattle.std.specs.Prelude.{◌≡◌, ◌≢◌, ℕ, ◌+◌, ◌*◌, ◌/◌, ◌%◌, ◌^◌, ◌<◌, ◌≤◌, ◌⊎◌, false, List, ◌∷◌, ◌++◌, Option, Some, None, slice_set}
+use Rattle.std.specs.Prelude.{◌≡◌, ◌≢◌, ℕ, ◌+◌, ◌*◌, ◌/◌, ◌%◌, ◌^◌, ◌<◌, ◌≤◌, ◌⊎◌, false, List, ◌∷◌, ◌++◌, Option, Some, None}
 use Rattle.segword.specs.Words.{chain_word, IsValid, Shape}
 use Rattle.segmodel.specs.Words.{after, Begins, bucket_of, entries_of, IsLegal, keys_in, stirred}
 use Rattle.segmodel.specs.Words.{tag_of, writes}
@@ -26,6 +26,7 @@ use Rattle.segcore.specs.Filled.{items_below, HasNoEmptyWord}
 use Rattle.segcore.specs.Kind.{Step, May, KeepsLaw}
 use Rattle.segcore.specs.Meanwhile.{Meanwhile}
 use Rattle.segcore.specs.World.{Told, World, SeeMore, Reaches, ReachesOn, IsLawfulWorld}
+use Rattle.segcore.specs.Run.{IsStepOf}
 use mathlib.Core.Option.{some}
 use lib.ListN.{get_elem?}
 
@@ -54,16 +55,11 @@ StepSeesAll = (shape : Shape) (steps : List (ℕ × Step)) (taken : ℕ × Step)
     × (view.trace ≡ world.trace)
     × (view.looks ≡ reached.0.trace ∷ reached.1.looks)
 
--- So does whoever takes a step as its pass is told of it, if the rule holds before and after,
--- and the step leaves the views of all others as they were. Nothing else is asked of the step.
+-- So does whoever takes a step as its pass is told of it, by whatever body.
 abbrev pub ToldStepSeesAll : Type 0
-ToldStepSeesAll = (shape : Shape) (step : Step) (found : ℕ) (before after : World) (pass : ℕ)
-    (old new : View)
-    → IsLawfulWorld shape before → IsLawfulWorld shape after
-    → get_elem? before.views pass ≡ some old
-    → after.views ≡ slice_set before.views pass new
-    → Told shape step found old new
-    → (new.looks ≡ before.trace ∷ old.looks) × (new.trace ≡ after.trace)
+ToldStepSeesAll = (shape : Shape) (pass : ℕ) (before after : World)
+    → IsLawfulWorld shape before → (taken : IsStepOf shape pass before after)
+    → (taken.new.looks ≡ before.trace ∷ taken.old.looks) × (taken.new.trace ≡ after.trace)
 
 -- Of two calls of any passes, all steps of the one come before all steps of the other. So there is
 -- a world in between, which the one pass reached with all its steps, and the other with none yet.

@@ -15,6 +15,7 @@ pub mod Overflow
 pub mod Props
 pub mod Row
 pub mod Facts
+pub mod Run
 pub mod Scan
 pub mod Search
 pub mod Segment

@@ -21,12 +21,13 @@ pub use Rattle.segcore.specs.Overflow.{drawn_in, Home, home, home_of}
 pub use Rattle.segcore.specs.Props.{AllBy-prop, Event-set, IsLawful-prop, NoneAt-prop}
 pub use Rattle.segcore.specs.Props.{NoneRefills-prop}
 pub use Rattle.segcore.specs.Row.{frequency_of, Holds, Row, row_after, row_at, writes_row}
+pub use Rattle.segcore.specs.Run.{IsRun, IsStepOf}
 pub use Rattle.segcore.specs.Search.{KeyAhead, KeyAt, KeyGone, RowAt, RowGone}
 pub use Rattle.segcore.specs.Segment.{inside, NoneRefills, readers, was_used}
 pub use Rattle.segcore.specs.Standing.{cached, ChainsOn, IsOfKey, Names}
 pub use Rattle.segcore.specs.Word.{address, bit_of, content_word, IsAt, IsCell, IsItemAt}
 pub use Rattle.segcore.specs.Word.{segment_size, segments_at, word}
-pub use Rattle.segcore.specs.World.{Knows, Lawful, steps_of, Told}
+pub use Rattle.segcore.specs.World.{IsLawfulWorld, Knows, Lawful, steps_of, Told, World}
 use Rattle.segcore.specs.declared.cell.Cell as declared_cell
 use Rattle.segcore.specs.declared.event.Event as declared_event
 use Rattle.segcore.specs.declared.event.Leaving as declared_leaving

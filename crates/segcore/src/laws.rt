@@ -47,8 +47,8 @@ pub fn every_schedule()
     ensures says { EveryScheduleSaysAll }
 {}
 
-/// Whatever body takes a step: if the rule holds before and after, and the pass is told of the
-/// step, the step sees all that has happened.
+/// A step sees all that has happened, by whatever body it is taken: it is enough that the pass is
+/// told of the step, and that the rule holds before and after.
 pub fn told_step()
     ensures { ToldStepSeesAll }
 {}

@@ -1,0 +1,27 @@
+-- The running table: its states, as the table's rule has them, are worlds, and its steps are those
+-- of a run. The law is proved as the contract of a function in src/running.rt.
+use Rattle.std.specs.Prelude.{◌≡◌, ℕ, true, slice_set}
+use Rattle.atomic_table.specs.Table.{State}
+use Rattle.segword.specs.Words.{Shape}
+use Rattle.segcore.specs.Words.{IsStepOf, Step, World}
+use Rattle.segbase.specs.declared.law.Sight.{Sight}
+use Rattle.segbase.specs.Ruled.{Learns, Rule}
+use mathlib.Core.Option.{some}
+use lib.ListN.{get_elem?}
+
+-- the world that the rule knows a state of the table as
+abbrev pub world_of : {shape : Shape} {state : State (Unit {0}) Sight} → Rule shape state → World
+world_of {shape} {state} rule =
+    record { words = state.words; views = rule.views; trace = rule.trace }
+
+-- The table takes a step of a pass: it changes what the seat of that pass knows, and no other.
+-- If the rule holds before and after, and the seat learns of the step as the contracts of all steps
+-- say, then the step is one of a run.
+abbrev pub RunningStepIsOfARun : Type 0
+RunningStepIsOfARun = (shape : Shape) (step : Step) (found : ℕ)
+    (before after : State (Unit {0}) Sight) (id : ℕ) (old new : Sight)
+    (was : Rule shape before) (is : Rule shape after)
+    → get_elem? before.views id ≡ some old → old.is_pass ≡ true
+    → after.views ≡ slice_set before.views id new
+    → Learns shape step found old new
+    → IsStepOf shape old.view.number (world_of was) (world_of is)
