@@ -1,16 +1,18 @@
 -- A running step is a step of a run: the rule's views are those of the seats, so it changes one of them.
-use Rattle.std.proofs.Common.{◌≡◌, ◌≢◌, ℕ, suc, ◌<◌, List, [], ◌∷◌, length, set, true, refl, sym, ap, ◌∙◌, subst, ⊎_elim, arith, length-set}
+use Rattle.std.proofs.Common.{◌≡◌, ◌≢◌, ◌↔◌, ℕ, suc, ◌<◌, List, [], ◌∷◌, length, set, true, refl, sym, ap, ◌∙◌, subst, ⊎_elim, arith, length-set}
 use Rattle.std.proofs.lemmas.Bool.{cases_eq}
-use mathlib.Core.Option.{some, some-injective}
+use mathlib.Core.Option.{some, some-injective, some-ne-none}
 use lib.ListN.{get_elem?}
 use Rattle.atomic_table.specs.Table.{State}
 use Rattle.atomic_table.proofs.Lists.{at_set, set_here, set_else}
 use Rattle.segword.specs.Words.{Shape}
+use Rattle.segmodel.specs.Words.{Begins}
 use Rattle.segcore.specs.Words.{Event, IsStepOf, Step, View}
 use Rattle.segcore.proofs.Facts.Passes.{in_list}
 use Rattle.segcore.proofs.KeepsLaw.{inside_list}
+use Rattle.segcore.proofs.Whole.{all_seen, both_begin}
 use Rattle.segbase.specs.declared.law.Sight.{Sight}
-use Rattle.segbase.specs.Ruled.{AreViews, HasView, IsAmong, IsSight, Learns, Rule}
+use Rattle.segbase.specs.Ruled.{AreViews, HasView, IsAmong, IsHeld, IsSight, Learns, Rule}
 use Rattle.segbase.specs.Running.{world_of}
 use Rattle.segbase.proofs.Holders.{pass_only}
 
@@ -81,3 +83,30 @@ module _ (z : Shape) (st : Step) (found : ℕ) (before after : State (Unit {0}) 
     told = learns.told;
     lawful = is.lawful;
   }
+
+-- ---- seats beside steps
+
+still_there : (z : Shape) (before after : State (Unit {0}) Sight) (was : Rule z before) (is : Rule z after) → ((v : View) → IsHeld before.views v → IsHeld after.views v)
+    → (n : ℕ) (v : View) → get_elem? was.views n ≡ some v → get_elem? is.views n ≡ some v
+still_there z before after was is still n v at =
+    let held = still v (was.held n v at) in
+    subst (λ m. get_elem? is.views m ≡ some v) (was.lawful.knows n v at).number (has_view is.views is.trace held.1 v (is.sights held.0 held.1 held.2) held.3)
+
+same_views : (l m : List View) → ((n : ℕ) (v : View) → get_elem? l n ≡ some v → get_elem? m n ≡ some v) → ((n : ℕ) (v : View) → get_elem? m n ≡ some v → get_elem? l n ≡ some v) → l ≡ m
+same_views [] [] a b = refl
+same_views [] (y ∷ ys) a b = absurd (some-ne-none y (sym (b 0 y refl)))
+same_views (x ∷ xs) [] a b = absurd (some-ne-none x (sym (a 0 x refl)))
+same_views (x ∷ xs) (y ∷ ys) a b =
+    let first : x ≡ y = some-injective x y (b 0 y refl) in
+    let rest : xs ≡ ys = same_views xs ys (λ n v at. a (suc n) v at) (λ n v at. b (suc n) v at) in (λ j. first j ∷ rest j)
+
+-- the world of the longer trace has seen no more
+goes_on : (z : Shape) (before after : State (Unit {0}) Sight) (was : Rule z before) (is : Rule z after) → ((n : ℕ) (v : View) → get_elem? was.views n ≡ some v → get_elem? is.views n ≡ some v) → Begins was.trace is.trace
+goes_on z before after was is still = all_seen z (world_of was) is.trace was.lawful (λ n v at. let k = is.lawful.knows n v (still n v at) in (k.more, k.rest))
+
+pub beside : (z : Shape) (before after : State (Unit {0}) Sight) (was : Rule z before) (is : Rule z after) → after.words ≡ before.words → ((v : View) → IsHeld before.views v ↔ IsHeld after.views v) → world_of is ≡ world_of was
+beside z before after was is words held =
+    let on = still_there z before after was is (λ v. (held v).0) in let back = still_there z after before is was (λ v. (held v).1) in
+    let views : is.views ≡ was.views = same_views is.views was.views back on in
+    let trace : is.trace ≡ was.trace = both_begin is.trace was.trace (goes_on z after before is was back) (goes_on z before after was is on) in
+    (λ j. record { words = words j; views = views j; trace = trace j })

@@ -1,11 +1,11 @@
 -- The running table: its states, as the table's rule has them, are worlds, and its steps are those
--- of a run. The law is proved as the contract of a function in src/running.rt.
-use Rattle.std.specs.Prelude.{◌≡◌, ℕ, true, slice_set}
+-- of a run. The laws are proved as contracts of functions in src/running.rt.
+use Rattle.std.specs.Prelude.{◌≡◌, ◌↔◌, ℕ, true, slice_set}
 use Rattle.atomic_table.specs.Table.{State}
 use Rattle.segword.specs.Words.{Shape}
-use Rattle.segcore.specs.Words.{IsStepOf, Step, World}
+use Rattle.segcore.specs.Words.{IsStepOf, Step, View, World}
 use Rattle.segbase.specs.declared.law.Sight.{Sight}
-use Rattle.segbase.specs.Ruled.{Learns, Rule}
+use Rattle.segbase.specs.Ruled.{IsHeld, Learns, Rule}
 use mathlib.Core.Option.{some}
 use lib.ListN.{get_elem?}
 
@@ -25,3 +25,12 @@ RunningStepIsOfARun = (shape : Shape) (step : Step) (found : ℕ)
     → after.views ≡ slice_set before.views id new
     → Learns shape step found old new
     → IsStepOf shape old.view.number (world_of was) (world_of is)
+
+-- Between steps seats are split, joined and given up. If no word changes, and seats have the views
+-- that seats had, then the world is as it was.
+abbrev pub SeatsLeaveTheWorld : Type 0
+SeatsLeaveTheWorld = (shape : Shape) (before after : State (Unit {0}) Sight)
+    (was : Rule shape before) (is : Rule shape after)
+    → after.words ≡ before.words
+    → ((view : View) → IsHeld before.views view ↔ IsHeld after.views view)
+    → world_of is ≡ world_of was

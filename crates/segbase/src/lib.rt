@@ -28,4 +28,4 @@ pub use note::Note;
 pub use overflow::CHAIN_BUCKETS;
 pub use pass::Pass;
 pub use place::{Place, RowPlace};
-pub use running::running_step;
+pub use running::{running_step, seats_beside};

@@ -8,11 +8,14 @@ use Rattle.segword.specs.Words.{Shape}
 use Rattle.segmodel.specs.Words.{Begins}
 use Rattle.segcore.specs.Words.{Event, View}
 use Rattle.segcore.specs.Kind.{Step, adds, cell}
-use Rattle.segcore.specs.Word.{address}
-use Rattle.segcore.specs.World.{steps_of, World, Reaches, ReachesOn}
+use Rattle.segcore.specs.Word.{address, word}
+use Rattle.segcore.specs.Event.{NoneBy}
+use Rattle.segcore.specs.Lawful.{IsLawful}
+use Rattle.segcore.specs.Run.{IsStepOf}
+use Rattle.segcore.specs.World.{steps_of, Told, World, Reaches, ReachesOn}
 use Rattle.segcore.proofs.KeepsLaw.{inside_list}
 use Rattle.segcore.proofs.Moments.{begins_on}
-use Rattle.segcore.proofs.Schedules.{lawful}
+use Rattle.segcore.proofs.Schedules.{kept_at, lawful}
 
 -- the view of a pass after a step
 abbrev view_after : ℕ → View → Step → Shape → World → View
@@ -21,6 +24,22 @@ view_after p v st z w = record v { trace = adds st p (get_or w.words (address z 
 pub sees_all : (z : Shape) (ss : List (ℕ × Step)) (s : ℕ × Step) (w : World) (r : Reaches z (s ∷ ss) w) → (v : View) × (get_elem? w.views s.0 ≡ some v) × (v.trace ≡ w.trace) × (v.looks ≡ r.0.trace ∷ r.1.looks)
 sees_all z ss s w r = let b = r.0 in let v = view_after s.0 r.1 s.1 z b in
     (v, ap (λ x. get_elem? x.views s.0) r.5 ∙ set_here b.views s.0 v (inside_list b.views s.0 r.1 r.3), sym (ap (λ (x : World). x.trace) r.5), refl)
+
+pub is_told : (z : Shape) (ss : List (ℕ × Step)) (s : ℕ × Step) (w : World) (r : Reaches z (s ∷ ss) w) → IsStepOf z s.0 r.0 w
+is_told z ss s w r =
+    let b = r.0 in let v = r.1 in let st = s.1 in let l = lawful z ss b r.2 in let after = lawful z (s ∷ ss) w r in
+    let k = l.knows s.0 v r.3 in let kept = kept_at z b.words b.views b.trace s.0 v st l r.3 r.4 in let found = get_or b.words (address z (cell st)) 0 in
+    let new = view_after s.0 v st z b in
+    let told : Told z st found v new = record {
+      more = k.more;
+      others = subst (λ n. NoneBy n k.more) (sym k.number) k.others;
+      before = subst (IsLawful z) k.rest l.legal;
+      found_is = l.each (cell st) kept.inside ∙ ap (λ h. word z h (cell st)) k.rest;
+      turn = suc (steps_of b.views);
+      now = (λ j. record v { trace = adds st (sym k.number j) found ++ k.rest j; looks = k.rest j ∷ v.looks; turn = suc (steps_of b.views) });
+      legal = subst (IsLawful z) (ap (λ (x : World). x.trace) r.5) after.legal;
+    } in
+    record { old = v; new = new; there = r.3; apart = ap (λ (x : World). x.views) r.5; step = st; found = found; told = told; lawful = after }
 
 -- ---- one call after another
 

@@ -6,12 +6,15 @@ use lib.ListN.{get_elem?}
 use Rattle.atomic_table.proofs.Lists.{at_longer, at_set, at_snoc, set_here, set_else}
 use Rattle.segmodel.specs.Words.{Begins}
 use Rattle.segcore.specs.Words.{Event, View}
-use Rattle.segcore.specs.World.{IsTimed, LastSaw, steps_of}
+use Rattle.segcore.specs.World.{IsTimed, steps_of}
 
 pub inside_list : {A : Type 0} (l : List A) (i : ℕ) (a : A) → get_elem? l i ≡ some a → i < length l
 inside_list [] i a e = absurd (some-ne-none a (sym e))
 inside_list (x ∷ xs) zero a e = omega arith
 inside_list (x ∷ xs) (suc i) a e = let h = inside_list xs i a e in omega arith
+
+same_head : (x y : List Event) (xs ys : List (List Event)) → x ∷ xs ≡ y ∷ ys → x ≡ y
+same_head x y xs ys e = cc
 
 -- ---- how many steps there were
 
@@ -31,7 +34,7 @@ pub timed_first : (views : List View) → ((p : ℕ) (v : View) → get_elem? vi
 timed_first views new = record {
   few = λ p v at. let none = (new p v at).1 in omega (arith, none);
   all = λ took. let none = steps_none views (λ p v at. (new p v at).0) in absurd (omega (arith, none, took));
-  later = λ p q u v at at' lt. let none = (new q v at').1 in absurd (omega (arith, none, lt));
+  later = λ p q u v last older at at' lt looked. let none = (new q v at').1 in absurd (omega (arith, none, lt));
 }
 
 -- a step that sees what each pass has seen, and takes the next turn
@@ -44,14 +47,14 @@ timed_step views h p v w t at looks turn knows =
           (λ e. let old = t.few q u e.1 in omega (arith, old, more))
           (at_set views p q w u is);
       all = λ _. (p, w, set_here views p w (inside_list views p v at), turn ∙ sym more);
-      later = λ q r old new is is' lt. ⊎_elim
+      later = λ q r old new last older is is' lt looked. ⊎_elim
           (λ e. ⊎_elim
           (λ o. let same : old.turn ≡ new.turn = ap (λ (x : View). x.turn) (sym o.1 ∙ e.1) in absurd (omega (arith, same, lt)))
-          (λ o. subst (λ (x : View). LastSaw old.trace x.looks) e.1 (subst (LastSaw old.trace) (sym looks) (knows q old o.1)))
+          (λ o. subst (Begins old.trace) (same_head h last v.looks older (sym looks ∙ (ap (λ (x : View). x.looks) e.1 ∙ looked))) (knows q old o.1))
           (at_set views p q w old is))
           (λ e. ⊎_elim
           (λ o. let same : w.turn ≡ old.turn = ap (λ (x : View). x.turn) o.1 in let few = t.few r new e.1 in absurd (omega (arith, same, few, turn, lt)))
-          (λ o. t.later q r old new o.1 e.1 lt)
+          (λ o. t.later q r old new last older o.1 e.1 lt looked)
           (at_set views p q w old is))
           (at_set views p r w new is');
     }
@@ -77,13 +80,9 @@ timed_same views p v w t at trace looks turn =
           (p, w, set_here views p w (inside_list views p v at), turn ∙ (ap (λ (x : View). x.turn) (sym it) ∙ (newest.3 ∙ sym same))))
           (λ ne. (newest.0, newest.1, set_else views p newest.0 w ne ∙ newest.2, newest.3 ∙ sym same))
           (cases_eq newest.0 p);
-      later = λ q r old new is is' lt. let x = was q old is in let y = was r new is' in
-          subst (λ h. LastSaw h new.looks) (sym x.2) (subst (LastSaw x.0.trace) (sym y.3) (t.later q r x.0 y.0 x.1 y.1 (let a = x.4 in let b = y.4 in omega (arith, a, b, lt))));
+      later = λ q r old new last older is is' lt looked. let x = was q old is in let y = was r new is' in
+          subst (λ h. Begins h last) (sym x.2) (t.later q r x.0 y.0 last older x.1 y.1 (let a = x.4 in let b = y.4 in omega (arith, a, b, lt)) (sym y.3 ∙ looked));
     }
-
-nothing_before : (h : List Event) (looks : List (List Event)) → h ≡ [] → LastSaw h looks
-nothing_before h [] none = tt
-nothing_before h (last ∷ older) none = (last, sym (ap (λ l. last ++ l) none ∙ append-nil last))
 
 steps_longer : (views : List View) (u : View) → u.looks ≡ [] → steps_of (views ++ u ∷ []) ≡ steps_of views
 steps_longer [] u none = let n : length u.looks ≡ 0 = ap length none in omega (arith, n)
@@ -98,10 +97,10 @@ timed_longer views u t trace looks turn =
           (λ e. let none : x.turn ≡ 0 = ap (λ (y : View). y.turn) (sym e) ∙ turn in omega (arith, none))
           (at_snoc views u x q is);
       all = λ took. let newest = t.all (omega (arith, same, took)) in (newest.0, newest.1, at_longer views (u ∷ []) newest.0 newest.1 newest.2, newest.3 ∙ sym same);
-      later = λ q r old new is is' lt. ⊎_elim
+      later = λ q r old new last older is is' lt looked. ⊎_elim
           (λ at. ⊎_elim
-          (λ at'. t.later q r old new at' at lt)
-          (λ e. nothing_before old.trace new.looks (ap (λ (y : View). y.trace) (sym e) ∙ trace))
+          (λ at'. t.later q r old new last older at' at lt looked)
+          (λ e. (last, sym (ap (λ l. last ++ l) (ap (λ (y : View). y.trace) (sym e) ∙ trace) ∙ append-nil last)))
           (at_snoc views u old q is))
           (λ e. let none : new.turn ≡ 0 = ap (λ (y : View). y.turn) (sym e) ∙ turn in absurd (omega (arith, none, lt)))
           (at_snoc views u new r is');

@@ -10,7 +10,7 @@ use Rattle.segcore.specs.Words.{Event, View}
 use Rattle.segcore.specs.Event.{by, NoneBy}
 use Rattle.segcore.specs.Kind.{Step, adds}
 use Rattle.segcore.specs.Run.{IsStepOf}
-use Rattle.segcore.specs.World.{IsLawfulWorld, LastSaw, steps_of, Told, World}
+use Rattle.segcore.specs.World.{IsLawfulWorld, steps_of, Told, World}
 use Rattle.segcore.proofs.Facts.Passes.{in_list}
 use Rattle.segcore.proofs.Moments.{begins_on}
 use Rattle.segcore.proofs.Timed.{inside_list, steps_set}
@@ -60,7 +60,7 @@ has_seen z w l front rest e is =
     (v.0, v.1, from_newest front rest e k.more v.0.trace (sym is ∙ k.rest) k.others)
 
 -- what goes on from what each pass has seen goes on from the whole trace
-all_seen : (z : Shape) (w : World) (g : List Event) → IsLawfulWorld z w → ((q : ℕ) (u : View) → get_elem? w.views q ≡ some u → Begins u.trace g) → Begins w.trace g
+pub all_seen : (z : Shape) (w : World) (g : List Event) → IsLawfulWorld z w → ((q : ℕ) (u : View) → get_elem? w.views q ≡ some u → Begins u.trace g) → Begins w.trace g
 all_seen z w g l sees = by_trace w.trace refl
   where
     by_trace : (h : List Event) → w.trace ≡ h → Begins h g
@@ -102,7 +102,7 @@ module _ (z : Shape) (st : Step) (found : ℕ) (before after : World) (p : ℕ) 
   sees q u is = ⊎_elim
       (λ same. (told.more, ap (λ (x : View). told.more ++ x.trace) (same_some v u (sym at ∙ subst (λ n. get_elem? before.views n ≡ some u) same is))))
       (λ ne. let few = l.timed.few q u is in let now = turn in
-      let last : LastSaw u.trace w.looks = m.timed.later q p u w (kept q u ne is) here (omega (arith, few, now)) in subst (LastSaw u.trace) looked last)
+      m.timed.later q p u w look v.looks (kept q u ne is) here (omega (arith, few, now)) looked)
       (cases_eq q p)
     where
       same_some : (x y : View) → some x ≡ some y → x ≡ y

@@ -55,7 +55,13 @@ StepSeesAll = (shape : Shape) (steps : List (ℕ × Step)) (taken : ℕ × Step)
     × (view.trace ≡ world.trace)
     × (view.looks ≡ reached.0.trace ∷ reached.1.looks)
 
--- So does whoever takes a step as its pass is told of it, by whatever body.
+-- Each step of a schedule is a step of a run: its pass is told of it.
+abbrev pub EveryStepIsTold : Type 0
+EveryStepIsTold = (shape : Shape) (steps : List (ℕ × Step)) (taken : ℕ × Step) (world : World)
+    (reached : Reaches shape (taken ∷ steps) world)
+    → IsStepOf shape taken.0 reached.0 world
+
+-- Whoever takes a step of a run sees all that has happened, by whatever body it is taken.
 abbrev pub ToldStepSeesAll : Type 0
 ToldStepSeesAll = (shape : Shape) (pass : ℕ) (before after : World)
     → IsLawfulWorld shape before → (taken : IsStepOf shape pass before after)

@@ -28,13 +28,8 @@ abbrev pub steps_of : List View → ℕ
 steps_of [] = 0
 steps_of (view ∷ views) = length view.looks + steps_of views
 
--- if there is a last look, it goes on from the trace
-abbrev pub LastSaw : List Event → List (List Event) → Type 0
-LastSaw trace [] = Unit {0}
-LastSaw trace (last ∷ older) = Begins trace last
-
--- Steps come one after the other, and each sees what all earlier ones did.
--- The newest step is that of the latest turn.
+-- Steps come one after the other: the newest is that of the latest turn.
+-- The last step of a pass saw all that passes of earlier turns have seen.
 pub record IsTimed (views : List View) : Type 0 where
   pub few : (pass : ℕ) (view : View)
       → get_elem? views pass ≡ some view
@@ -42,11 +37,12 @@ pub record IsTimed (views : List View) : Type 0 where
   pub all : 0 < steps_of views
       → (pass : ℕ) × (view : View) × (get_elem? views pass ≡ some view)
       × (view.turn ≡ steps_of views)
-  pub later : (pass other : ℕ) (old new : View)
+  pub later : (pass other : ℕ) (old new : View) (last : List Event) (older : List (List Event))
       → get_elem? views pass ≡ some old
       → get_elem? views other ≡ some new
       → old.turn < new.turn
-      → LastSaw old.trace new.looks
+      → new.looks ≡ last ∷ older
+      → Begins old.trace last
 
 pub record Lawful (shape : Shape) (words : List ℕ) (views : List View) (trace : List Event)
     : Type 0 where

@@ -17,7 +17,7 @@ ghost use Rattle.segcore.specs.Example.{evicted, refilled, elsewhere, looks, vie
 ghost use Rattle.segcore.specs.Example.{refusing, to_added, to_refilled, to_refused};
 ghost use Rattle.segcore.specs.Kind.{take};
 ghost use Rattle.segcore.specs.Laws.{EveryScheduleIsLawful, SightOnlyGrows, EveryScheduleSaysAll};
-ghost use Rattle.segcore.specs.Laws.{StepSeesAll, CallsAreInOrder, ToldStepSeesAll};
+ghost use Rattle.segcore.specs.Laws.{StepSeesAll, CallsAreInOrder, EveryStepIsTold, ToldStepSeesAll};
 ghost use Rattle.segcore.specs.Laws.{ScanPassesAMiss, SeenHistoryIsLegal, MarksArePlaced};
 ghost use Rattle.segcore.specs.Laws.{MarksAreOrderly, MarksLeaveTheHistory, MarksCountTheChain};
 ghost use Rattle.segcore.specs.Laws.{LawfulKeyFacts, LawfulBucketFacts, LawfulSegmentFacts};
@@ -36,13 +36,14 @@ ghost use Rattle.segcore.specs.Laws.{FilledWordHasContent};
 
 /// Whatever steps the passes take, in whatever order, the world that they reach is lawful, and has
 /// all that a lawful world has. What each pass has seen only grows,
-/// and each step sees all that has happened.
+/// and each step sees all that has happened, and is told to its pass.
 /// If all steps of one call come before all steps of another, of any passes,
 /// the other has seen from its first step on what the one had seen.
 pub fn every_schedule()
     ensures lawful { EveryScheduleIsLawful }
     ensures seen { SightOnlyGrows }
     ensures whole { StepSeesAll }
+    ensures told { EveryStepIsTold }
     ensures in_order { CallsAreInOrder }
     ensures says { EveryScheduleSaysAll }
 {}
