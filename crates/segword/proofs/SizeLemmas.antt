@@ -16,7 +16,7 @@ power_min n power = elim (cases_lt n 65536) [
   | inr high ↦ (16, omega arith)
 ]
 
-module _ (keys passes near each segments rows : ℕ) (few : keys ≤ 425984) (in_range : IsInRange 1 64 passes)
+module _ (keys passes near each segments rows : ℕ) (few : keys ≤ 425984) (fit : ROW_WORDS * (2 * keys + 13440) ≤ 64000000) (in_range : IsInRange 1 64 passes)
     (power : IsPowerOfTwo near) (over : div_ceil keys 4 ≤ near)
     (is_each : each ≡ max (div_ceil (2 * keys) passes) 1) (is_segments : segments ≡ max (div_ceil each 4096) 64) (is_rows : rows ≡ div_ceil each segments) where
   abbrev pub made : Shape
@@ -29,10 +29,10 @@ module _ (keys passes near each segments rows : ℕ) (few : keys ≤ 425984) (in
   share_times = div_ceil_times (2 * keys) passes (omega (arith, in_range.0))
 
   -- the rows of a pass are its share, rounded up, or one
-  each_fits : (2 * keys ≤ each * passes) × (each * passes ≤ 852096) × (1 ≤ each) × (each ≤ 852096)
+  each_fits : (2 * keys ≤ each * passes) × (each * passes ≤ 2 * keys + 64) × (1 ≤ each) × (each ≤ 852096)
   each_fits = by (cases_lt share 1)
     where
-      by : (share < 1) ⊎ (1 ≤ share) → (2 * keys ≤ each * passes) × (each * passes ≤ 852096) × (1 ≤ each) × (each ≤ 852096)
+      by : (share < 1) ⊎ (1 ≤ share) → (2 * keys ≤ each * passes) × (each * passes ≤ 2 * keys + 64) × (1 ≤ each) × (each ≤ 852096)
       by (inl none) =
           let one : each ≡ 1 = omega (arith, is_each) in
           let zero : share ≡ 0 = omega arith in
@@ -78,7 +78,8 @@ module _ (keys passes near each segments rows : ℕ) (few : keys ≤ 425984) (in
       let table : passes * (rows * segments) ≤ passes * (each + segments) = mul-le-mul_left passes (omega (arith, rows_fit.1)) in
       let spread : passes * segments * (1 + ROW_WORDS * rows) ≡ passes * segments + ROW_WORDS * (passes * (rows * segments)) = omega arith in
       let apart : passes * (each + segments) ≡ each * passes + passes * segments = omega arith in
-      omega (arith, each_fits.1)
+      let most : ROW_WORDS * (passes * (rows * segments)) ≤ ROW_WORDS * (2 * keys + 13440) = mul-le-mul_left ROW_WORDS (omega (arith, each_fits.1)) in
+      omega (arith, fit)
 
   pub is_valid : IsValid made
   is_valid = (

@@ -10,7 +10,7 @@ use crate::words::words_of;
 use crate::{Key, Value};
 use std::marker::Model;
 
-/// A key as rows hold it: its length, and its bytes in three words.
+/// A key as rows hold it: its length, and its bytes in `KEY_WORDS` words.
 /// It is computed once a call and then compared with rows, so that no key is read out of a row.
 /// Contracts see it as the list of the key's bytes.
 #[derive(Clone, Copy, Debug)]
@@ -40,21 +40,21 @@ impl KeyWords {
         ensures value { result ≡ key.now }
         ensures valid { IsKey key.now }
     {
-        let length = key.as_bytes().len() as u64;
-        let [first, second, third] = key.words();
-        KeyWords {
-            words: [length, first, second, third],
-        }
+        let mut words = [0; HEAD_WORDS];
+        words[0] = key.as_bytes().len() as u64;
+        words[1..].copy_from_slice(&key.words());
+        KeyWords { words }
     }
 
-    /// Whether a row that begins with these four words is one of this key.
+    /// Whether a row that begins with these words is one of this key.
     pub fn begins(&self, words: &[u64; HEAD_WORDS]) -> bool
         ensures value { IsTrue result ↔ (key_part words.now ≡ key_words self.now) }
         ensures same_key { (key value : List ℕ) → IsKey key → IsValue value
-            → take 4 (row_of key value) ≡ words.now → IsTrue result ↔ (key ≡ self.now) }
+            → take HEAD_WORDS (row_of key value) ≡ words.now → IsTrue result ↔ (key ≡ self.now) }
     {
-        let [header, first, second, third] = *words;
-        [header & 0xff, first, second, third] == self.words
+        let mut head = *words;
+        head[0] &= 0xff;
+        head == self.words
     }
 
     /// The words of this key and a value.
@@ -63,10 +63,9 @@ impl KeyWords {
         ensures valid { IsValue value.now }
     {
         let bytes = value.as_bytes();
-        let [length, first, second, third] = self.words;
-        let header = (bytes.len() as u64) << 8 | length;
         let mut row = [0; ROW_WORDS];
-        row[..HEAD_WORDS].copy_from_slice(&[header, first, second, third]);
+        row[..HEAD_WORDS].copy_from_slice(&self.words);
+        row[0] |= (bytes.len() as u64) << 8;
         row[HEAD_WORDS..].copy_from_slice(&words_of::<VALUE_WORDS>(bytes));
         row
     }

@@ -1,10 +1,21 @@
 //! Shapes by how much they hold.
 ghost use Rattle.std.specs.Prelude.{◌≡◌, ◌*◌, IfErr, IfOk};
 
+use crate::row::ROW_WORDS;
 use crate::{Shape, ShapeFault};
 
-// The most keys that a table has two words for each.
-const MOST_KEYS: u32 = 425_984;
+// The most keys that the largest chains have two item words for each.
+const MOST_BY_CHAINS: usize = 425_984;
+
+// So many keys have two rows each in a table, beside the largest chains and the words of segments.
+const MOST_BY_ROWS: usize = 32_000_000 / ROW_WORDS - 6_720;
+
+/// The most keys that [`Shape::for_keys`] has a shape for.
+pub const MOST_KEYS: u32 = if MOST_BY_ROWS < MOST_BY_CHAINS {
+    MOST_BY_ROWS as u32
+} else {
+    MOST_BY_CHAINS as u32
+};
 
 // How many segments each pass has at least, so that a pass gives up few keys with one,
 // and can keep what was read in some of them.
@@ -16,7 +27,7 @@ impl Shape {
     /// A shape for this number of passes, in which this number of keys has room to spare:
     /// for each key its chains have two item words, and the segments of all passes two rows.
     /// Each pass has 64 segments at least.
-    /// There is one for up to 425,984 keys and 1 to 64 passes.
+    /// There is one for up to `MOST_KEYS` keys and 1 to 64 passes.
     pub fn for_keys(keys: u32, passes: u32) -> Result<Shape, ShapeFault>
         ensures ok { IfOk result (λ shape.
             IsValid shape × (shape.passes ≡ passes) × HasRoomFor keys shape) }

@@ -1,6 +1,7 @@
 use Rattle.std.proofs.Common.{Some, ℕ, List, take, drop, slice_index, ap, ◌∙◌, arith}
 use Rattle.std.proofs.lemmas.List.{length-drop, take_all}
 use Rattle.std.proofs.lemmas.Nat.{and_mask}
+use Rattle.segword.specs.declared.key.TheConstants.{KEY_ROOM, KEY_WORDS}
 use Rattle.segword.specs.Row.{bytes_of}
 use Rattle.segword.specs.RowLayout.{key_length}
 use Rattle.segword.proofs.RowLemmas.{key_of_row}
@@ -10,8 +11,8 @@ pub returns-clause-value : goal.returns-clause-value
 returns-clause-value c =
     let words = c.args.words.now in
     c.from_words.ensures.value
-    ∙ ap (λ (n : ℕ). take n (bytes_of (take 3 (drop 1 words)) 24)) (and_mask (slice_index words 0) 8)
-    ∙ ap (λ (rest : List ℕ). take (key_length (slice_index words 0)) (bytes_of rest 24)) (take_all 3 (drop 1 words) (omega (arith, length-drop 1 words, c.told-words)))
+    ∙ ap (λ (n : ℕ). take n (bytes_of (take KEY_WORDS (drop 1 words)) KEY_ROOM)) (and_mask (slice_index words 0) 8)
+    ∙ ap (λ (rest : List ℕ). take (key_length (slice_index words 0)) (bytes_of rest KEY_ROOM)) (take_all KEY_WORDS (drop 1 words) (omega (arith, length-drop 1 words, c.told-words)))
 
 pub returns-clause-packed : goal.returns-clause-packed
 returns-clause-packed c = λ key value k v e. ap Some (returns-clause-value c ∙ key_of_row key value c.args.words.now k v e)

@@ -1,5 +1,7 @@
 use Rattle.std.proofs.Common.{◌≡◌, ℕ, List, drop, Some, refl, slice_index, sym, take, ap, ◌∙◌, arith}
 use Rattle.std.proofs.lemmas.List.{get_or-take}
+use Rattle.segword.specs.declared.key.TheConstants.{KEY_ROOM}
+use Rattle.segword.specs.declared.row.TheConstants.{HEAD_WORDS}
 use Rattle.segword.specs.declared.value.TheConstants.{VALUE_BYTES}
 use Rattle.segword.specs.RowLayout.{key_length, value_length}
 use Rattle.std.proofs.lemmas.Grind.{common_steps}
@@ -22,8 +24,8 @@ returns-then-not-is_row-clause-none c = (
 
 pub returns-clause-packed : goal.returns-clause-packed
 returns-clause-packed c = λ key value k v e.
-    let same_key = c.in_ok-key.ensures.value ∙ key_of_row key value c.head_of.result k v (ap (take 4) e ∙ sym c.head_of.ensures) in
-    let same_value = c.read_value.ensures.packed key value k v (ap (λ (ws : List ℕ). slice_index ws 0) e) (ap (drop 4) e ∙ sym c.value_of.ensures) in
+    let same_key = c.in_ok-key.ensures.value ∙ key_of_row key value c.head_of.result k v (ap (take HEAD_WORDS) e ∙ sym c.head_of.ensures) in
+    let same_value = c.read_value.ensures.packed key value k v (ap (λ (ws : List ℕ). slice_index ws 0) e) (ap (drop HEAD_WORDS) e ∙ sym c.value_of.ensures) in
     λ i. Some (same_key i, same_value i)
 
 pub returns-clause-some : goal.returns-clause-some
@@ -31,10 +33,10 @@ returns-clause-some c =
     let words = c.args.words.now in
     let row = c.is_row.ensures.0 (grind (arith, common_steps)) in
     let same = IsRow-row_of words c.told-words c.fits-words row in
-    let header : slice_index c.head_of.result 0 ≡ slice_index words 0 = ap (λ (ws : List ℕ). slice_index ws 0) c.head_of.ensures ∙ get_or-take 4 words 0 0 (omega arith) in
+    let header : slice_index c.head_of.result 0 ≡ slice_index words 0 = ap (λ (ws : List ℕ). slice_index ws 0) c.head_of.ensures ∙ get_or-take HEAD_WORDS words 0 0 (omega arith) in
     let key = c.in_ok-key.ensures.value
-    ∙ ap (λ (n : ℕ). take (key_length n) (bytes_of (drop 1 c.head_of.result) 24)) header
-    ∙ ap (λ (ws : List ℕ). take (key_length (slice_index words 0)) (bytes_of (drop 1 ws) 24)) c.head_of.ensures in
+    ∙ ap (λ (n : ℕ). take (key_length n) (bytes_of (drop 1 c.head_of.result) KEY_ROOM)) header
+    ∙ ap (λ (ws : List ℕ). take (key_length (slice_index words 0)) (bytes_of (drop 1 ws) KEY_ROOM)) c.head_of.ensures in
     let value = c.read_value.ensures.value
     ∙ ap (λ (ws : List ℕ). take (value_length (slice_index words 0)) (bytes_of ws VALUE_BYTES)) c.value_of.ensures in
     ap (λ key. row_of key c.read_value.result) key ∙ ap (row_of _) value ∙ same

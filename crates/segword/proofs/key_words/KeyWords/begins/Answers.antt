@@ -2,12 +2,12 @@ use Rattle.std.proofs.Common.{◌≡◌, sym, subst, ◌∙◌, ap}
 use Rattle.std.proofs.lemmas.Slice.Eq.{bytes_eq-Decides}
 use Rattle.segword.specs.Bytes.{IsKey}
 use Rattle.segword.specs.KeyWords.{key_words}
-use Rattle.segword.proofs.RowLemmas.{key_part-four, key_part-row_of, key_words-one}
+use Rattle.segword.proofs.RowLemmas.{key_part-masked, key_part-row_of, key_words-one}
 use Rattle.segword.proofs.key_words.KeyWords.begins.Goals as goal
 
 pub returns-clause-value : goal.returns-clause-value
 returns-clause-value c =
-    let left = key_part-four c.args.words.now c.told-words in
+    let left = key_part-masked c.args.words.now c.told-words in
     let right : key_words c.args.self.now ≡ c.self.inside.words = ap key_words (sym c.self.view_is) ∙ c.self.invariant.same_words in
     let test = bytes_eq-Decides _ c.self.inside.words in
     (λ t. sym left ∙ test.0 (sym c.eq.ensures ∙ t) ∙ sym right, λ e. c.eq.ensures ∙ test.1 (left ∙ e ∙ right))
