@@ -3,7 +3,7 @@ use Rattle.std.proofs.Common.{◌^◌, ◌≡◌, ℕ, ◌+◌, ◌<◌, List, [
 use Rattle.std.specs.Prelude.{slice_index, fold}
 use Rattle.std.proofs.lemmas.Option.{same_Some}
 use Rattle.std.proofs.lemmas.Grind.{same_number_lists}
-use Rattle.segword.specs.Words.{hash_of, IsKey, IsValid, IsValue, row_of, row_width, Shape, with_byte}
+use Rattle.segword.specs.Words.{hash_of, head_width, IsKey, IsValid, IsValue, row_of, row_width, Shape, with_byte}
 use Rattle.segword.proofs.RowLemmas.{key_of_row, length-row_of, value_of_row}
 use Rattle.segmodel.specs.Words.{bucket_of, Cached, tag_of}
 use Rattle.segcore.specs.Words.{Cell, Event}
@@ -38,13 +38,13 @@ same_row u k v k' v' a b = same_words k v k' v' (λ j lt. sym (a j lt) ∙ b j l
 -- a row holds one pair
 pub one_key : (u : Row) (k v k' v' : List ℕ) → IsKey k → IsKey k' → IsValue v → IsValue v' → Holds u k v → Holds u k' v' → k ≡ k'
 one_key u k v k' v' l l' m m' a b =
-    sym (key_of_row k v (take 4 (row_of k v)) l m refl) ∙ key_of_row k' v' (take 4 (row_of k v)) l' m' (ap (take 4) (sym (same_row u k v k' v' a b)))
+    sym (key_of_row k v (take head_width (row_of k v)) l m refl) ∙ key_of_row k' v' (take head_width (row_of k v)) l' m' (ap (take head_width) (sym (same_row u k v k' v' a b)))
 
 pub one_value : (u : Row) (k v k' v' : List ℕ) → IsKey k → IsKey k' → IsValue v → IsValue v' → Holds u k v → Holds u k' v' → v ≡ v'
 one_value u k v k' v' l l' m m' a b =
     let same = sym (same_row u k v k' v' a b) in
-    sym (value_of_row k v (drop 4 (row_of k v)) (slice_index (row_of k v) 0) l m refl refl)
-    ∙ value_of_row k' v' (drop 4 (row_of k v)) (slice_index (row_of k v) 0) l' m' (ap (λ w. slice_index w 0) same) (ap (drop 4) same)
+    sym (value_of_row k v (drop head_width (row_of k v)) (slice_index (row_of k v) 0) l m refl refl)
+    ∙ value_of_row k' v' (drop head_width (row_of k v)) (slice_index (row_of k v) 0) l' m' (ap (λ w. slice_index w 0) same) (ap (drop head_width) same)
 
 -- ---- words that name rows
 

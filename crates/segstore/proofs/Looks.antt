@@ -101,10 +101,10 @@ module _ (words : ℕ → ℕ) (key value : List ℕ) (holds : (place : ℕ) →
   pub whole_row : row_of key value ≡ words_at words 0 row_width
   whole_row = are_words (row_of key value) words 0 row_width (length-row_of key value) (λ k lt. sym (holds k lt) ∙ ap words (omega arith))
 
-  pub head_words : take 4 (row_of key value) ≡ words_at words 0 head_width
-  head_words = are_words (take 4 (row_of key value)) words 0 head_width refl
-      (λ k lt. get_or-take 4 (row_of key value) k 0 lt ∙ (sym (holds k (omega (arith, lt))) ∙ ap words (omega arith)))
+  pub head_words : take head_width (row_of key value) ≡ words_at words 0 head_width
+  head_words = are_words (take head_width (row_of key value)) words 0 head_width refl
+      (λ k lt. get_or-take head_width (row_of key value) k 0 lt ∙ (sym (holds k (omega (arith, lt))) ∙ ap words (omega arith)))
 
-  pub value_words : drop 4 (row_of key value) ≡ words_at words 4 value_width
-  value_words = are_words (drop 4 (row_of key value)) words 4 value_width (length-words_from value_width value 0)
-      (λ k lt. get_or-drop 4 (row_of key value) k 0 ∙ sym (holds (4 + k) (omega (arith, lt))))
+  pub value_words : drop head_width (row_of key value) ≡ words_at words head_width value_width
+  value_words = are_words (drop head_width (row_of key value)) words head_width value_width (length-words_from value_width value 0)
+      (λ k lt. get_or-drop head_width (row_of key value) k 0 ∙ sym (holds (head_width + k) (omega (arith, lt))))
