@@ -5,7 +5,7 @@ use Rattle.segmodel.specs.Words.{Begins, bucket_of}
 use Rattle.segcore.specs.declared.event.Event.TheVariants.{Freed, Relinked, Took}
 use Rattle.segcore.specs.Mark.{at, enters}
 use Rattle.segcore.specs.Mark as mark
-use Rattle.segcore.specs.Words.{by, Event, frequency_in, Mark}
+use Rattle.segcore.specs.Words.{by, Event, frequency_in, Mark, RowGone}
 use Rattle.segcore.proofs.Moments.{begins_on, marked_begins}
 use Rattle.segbase.specs.Traces.{own_of}
 use Rattle.segbase.specs.Words.{AddsEvents, Board, marked, number, Pass, TakesSteps, trace, used_of}
@@ -14,6 +14,7 @@ use Rattle.segstore.specs.Words.{AddsEntry, bounces, fills}
 use Rattle.segevict.specs.Moving.{moves, SeesRow, under_bit}
 use Rattle.segevict.specs.OneRow.{CarriesItem}
 use Rattle.segevict.proofs.Frequencies.{had_at}
+use Rattle.segevict.proofs.Naming.{unnamed}
 
 -- where the newest of a pass's own events stands among all
 record Newest (pass : ℕ) (event : Event) (rest more : List Event) : Type 0 where
@@ -75,8 +76,8 @@ module _ (b : Board) (segment row into cutoff : ℕ) (p f q : Pass) (s : SeesRow
       (free ∷ [], refl)
       (subst (Begins (free ∷ (freed.older ++ trace f))) (sym adds.goes_on) (begins_there (number f) free (move ∷ earlier) adds.more (trace f) freed)))
 
-  pub carried : TakesSteps f q → used_of p into ≡ Some to → to < b.shape.rows → AddsEntry (Moved (number p) s.key segment into) p q → CarriesItem b.shape segment row cutoff into p q s.key
-  carried steps next fits entries = record {
+  pub carried : TakesSteps f q → used_of p into ≡ Some to → to < b.shape.rows → AddsEntry (Moved (number p) s.key segment into) p q → RowGone b.shape segment row (trace q) → CarriesItem b.shape segment row cutoff into p q s.key
+  carried steps next fits entries gone = record {
     before = before;
     often = (
       s.looks.0,
@@ -90,4 +91,5 @@ module _ (b : Board) (segment row into cutoff : ℕ) (p f q : Pass) (s : SeesRow
     comes = subst (λ n. Begins (enters (Moved n s.key segment into) ∷ at s.key into to position (frequency_in before segment row) ∷ before) (marked q)) s.idles.moved.same
         (marked_begins (move ∷ old) (trace q) came);
     entries = entries;
+    left = unnamed b.shape (trace q) segment row adds.pass.lawful gone;
   }

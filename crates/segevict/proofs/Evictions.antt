@@ -1,7 +1,8 @@
 -- The eviction of a segment, row by row: what was taken out so far, and that no key stands there when all its rows are gone.
-use Rattle.std.proofs.Common.{◌≡◌, ◌≢◌, ℕ, suc, ◌+◌, ◌<◌, ◌≤◌, Bool, true, false, cond, eqb, is_some, List, [], ◌∷◌, ◌++◌, length, Option, Some, None, refl, sym, ap, ◌∙◌, subst, inl, inr, ⊎_elim, arith}
+use Rattle.std.proofs.Common.{◌≡◌, ◌≢◌, ℕ, zero, suc, ◌+◌, ◌<◌, ◌≤◌, Bool, true, false, cond, eqb, is_some, List, [], ◌∷◌, ◌++◌, length, Option, Some, None, refl, sym, ap, ◌∙◌, subst, inl, inr, ⊎_elim, arith}
 use Rattle.std.proofs.lemmas.Bool.{cases_eq, cases_Bool, cond-true, cond-false, eq-eqb, ne_eqb, ltb-true, false≢true}
 use Rattle.std.proofs.lemmas.Option.{none-some, same_Some}
+use Rattle.segword.specs.Words.{Shape}
 use Rattle.segmodel.specs.declared.entry.Entry.TheVariants as entry
 use Rattle.segmodel.specs.declared.answer.EvictAnswer.TheVariants as evict
 use Rattle.segmodel.specs.declared.answer.SegState.TheVariants.{InUse, Evicted}
@@ -19,16 +20,19 @@ use Rattle.segbase.proofs.Known.{state_set, state_apart, used_kept, owner_stated
 use Rattle.segbase.proofs.Moves.{stays}
 use Rattle.segbase.proofs.Owned.{owner_of, state_there, still_pass}
 use Rattle.segstore.specs.Words.{DrawsNothing, GoesOn, IsQuiet, KeepsSegments, memo, ReadsNothing}
-use Rattle.segstore.proofs.Keeping.{same_used}
-use Rattle.segevict.specs.declared.eviction.RowAnswer.{RowAnswer}
-use Rattle.segevict.specs.declared.eviction.RowAnswer.TheVariants as row_answer
-use Rattle.segevict.specs.Evicting.{AreEvictions, CostsOfEvict, ended, EvictsInOrder, EvictsItem, EvictsOver}
-use Rattle.segevict.specs.Evicting.{IsEvictAnswer, IsRowOut, TakesOut}
-use Rattle.segevict.specs.Rows.{KeepsGone}
+use Rattle.segstore.proofs.Keeping.{same_states, same_used}
+use Rattle.segevict.specs.declared.eviction.EvictRowAnswer.{EvictRowAnswer}
+use Rattle.segevict.specs.declared.eviction.EvictRowAnswer.TheVariants as evict_row
+use Rattle.segevict.specs.EvictedRow.{EvictsItem}
+use Rattle.segevict.specs.Evicting.{AreEvictions, CostsOfEvict, ended, EvictsInOrder, EvictsOver}
+use Rattle.segevict.specs.Evicting.{IsEvictAnswer, TakesOut}
+use Rattle.segevict.specs.Naming.{AreUnnamed}
+use Rattle.segevict.specs.Rows.{HasRow, KeepsGone}
 use Rattle.segevict.specs.Tries.{IsInTheWay, StoodIn, TriesFor}
-use Rattle.segevict.specs.Unlinking.{EvictsRow, IsRowAnswer}
+use Rattle.segevict.specs.Unlinking.{EvictsRow}
 use Rattle.segstore.proofs.Draws.{draws_none_then}
-use Rattle.segevict.proofs.Naming.{unnamed}
+use Rattle.segevict.proofs.EvictedRow.{row_out}
+use Rattle.segevict.proofs.Naming.{gone_unless_named}
 use Rattle.segevict.proofs.KeyTries.{no_tries, of_row, rows_tried_then, stood_before}
 use Rattle.segevict.proofs.RowsOut.{goes_then, keeps_gone_then}
 
@@ -61,7 +65,8 @@ bounced_grows p q k same grew =
 
 -- ---- row by row
 
-pub record Evicting (b : Board) (segment row taken : ℕ) (p q : Pass) : Type 0 where
+-- the rows from one on were gone over, up to this one, and those before it are gone
+pub record Evicting (b : Board) (segment from row taken : ℕ) (p q : Pass) : Type 0 where
   pub on : GoesOn b p q
   pub keeps : KeepsGone b segment p q
   pub plain : q.plain ≡ p.plain
@@ -74,12 +79,14 @@ pub record Evicting (b : Board) (segment row taken : ℕ) (p q : Pass) : Type 0 
   pub entries : mine q ≡ evictions ++ mine p
   pub below : (r : ℕ) → r < row → RowGone b.shape segment r (trace q)
   pub few : taken ≤ row
-  pub tries : TriesFor b.shape (λ key. StoodIn b.shape segment key p q) row p q
-  pub order : EvictsOver b segment row taken p q
+  pub rows : ℕ
+  pub at : row ≡ from + rows
+  pub tries : TriesFor b.shape (λ key. StoodIn b.shape segment key p q) rows p q
+  pub order : EvictsOver b segment from rows taken p q
 
 -- before the first row
-pub evicting_first : (b : Board) (segment : ℕ) (p : Pass) → IsQuiet b p → Evicting b segment 0 0 p p
-evicting_first b segment p quiet = record {
+pub evicting_first : (b : Board) (segment from : ℕ) (p : Pass) → IsQuiet b p → AreUnnamed b.shape segment from p → Evicting b segment from from 0 p p
+evicting_first b segment from p quiet none = record {
   on = record { quiet = quiet; same = refl; marked = ([], refl); seen = ([], refl); steps = inr (refl, refl) };
   keeps = record { grew = ([], refl); linked = λ row. refl; lasts = λ row gone. gone };
   plain = refl;
@@ -90,42 +97,41 @@ evicting_first b segment p quiet = record {
   counted = refl;
   all = tt;
   entries = refl;
-  below = λ r lt. absurd (omega (arith, lt));
+  below = λ r lt. gone_unless_named b.shape (trace p) segment r quiet.pass.lawful (none r lt).1;
   few = omega arith;
+  rows = 0;
+  at = omega arith;
   tries = no_tries b (λ key. StoodIn b.shape segment key p p) 0 p p (stays b p quiet.pass);
   order = (refl, refl);
 }
 
--- one row more was gone over
-one_row_on : (b : Board) (segment row taken : ℕ) (p r : Pass) → EvictsOver b segment (suc row) taken p r → EvictsOver b segment (row + 1) taken p r
-one_row_on b segment row taken p r = subst (λ n. EvictsOver b segment n taken p r) (let e : suc row ≡ row + 1 = omega arith in e)
+-- the rows that no item names are used ones
+pub unnamed_few : (shape : Shape) (segment from used : ℕ) (p : Pass) → AreUnnamed shape segment from p → used_of p segment ≡ Some used → from ≤ used
+unnamed_few shape segment zero used p none is = omega arith
+unnamed_few shape segment (suc row) used p none is =
+    let there = (none row (omega arith)).0 in
+    let same : there.0 ≡ used = same_Some there.0 used (sym there.1 ∙ is) in let lt = there.2 in omega arith
 
--- a row in the terms of the call
-row_out : (b : Board) (segment row : ℕ) (told : RowAnswer) (p q : Pass) → EvictsRow b segment row told p q → EvictsItem b segment row told p q
-row_out b segment row told p q one = record {
-  on = one.on;
-  plain = one.plain;
-  memo = one.memo;
-  draws_nothing = one.draws_nothing;
-  reads_nothing = one.reads_nothing;
-  tries = one.tries;
-  answer = out told one.answer;
-}
-  where
-    out : (told : RowAnswer) → IsRowAnswer b segment row told p q → IsRowOut b.shape segment row told p q
-    out row_answer.Evicted a = (a.2, unnamed b.shape (trace q) segment row one.on.quiet.pass.lawful a.1)
-    out row_answer.Gone a = (a.2, unnamed b.shape (trace q) segment row one.on.quiet.pass.lawful a.1)
-    out row_answer.Busy a = a
+-- the row that is next is a used one
+pub row_there : (b : Board) (segment from row taken used : ℕ) (p q : Pass) → Evicting b segment from row taken p q → state_of p segment ≡ Some InUse → used_of p segment ≡ Some used → row < used → HasRow segment row q
+row_there b segment from row taken used p q e in_use is_used within = (same_states p q segment e.plain ∙ in_use, (used, same_used p q segment e.plain ∙ is_used, within))
 
-module _ (b : Board) (segment row taken : ℕ) (p q r : Pass) (e : Evicting b segment row taken p q) where
+module _ (b : Board) (segment from row taken : ℕ) (p q r : Pass) (e : Evicting b segment from row taken p q) (has : HasRow segment row q) where
   gone_below : KeepsGone b segment q r → RowGone b.shape segment row (trace r) → (n : ℕ) → n < row + 1 → RowGone b.shape segment n (trace r)
   gone_below keeps gone n lt = ⊎_elim
       (λ same. subst (λ m. RowGone b.shape segment m (trace r)) (sym same) gone)
       (λ other. keeps.lasts n (e.below n (omega (arith, lt, other))))
       (cases_eq n row)
 
+  one_more : row + 1 ≡ from + suc e.rows
+  one_more = let at = e.at in omega arith
+
+  -- the row by its place among those that are gone over
+  item_out : (told : EvictRowAnswer) → EvictsRow b segment row told q r → EvictsItem b segment (from + e.rows) told q r
+  item_out told one = subst (λ n. EvictsItem b segment n told q r) e.at (row_out b segment row told q r has one)
+
   -- the next row's key was taken out
-  pub evicting_one : EvictsRow b segment row row_answer.Evicted q r → Evicting b segment (row + 1) (taken + 1) p r
+  pub evicting_one : EvictsRow b segment row evict_row.Evicted q r → Evicting b segment from (row + 1) (taken + 1) p r
   evicting_one one =
       let key = one.answer.2.0 in let few = e.few in let counted = e.counted in record {
         on = goes_then b p q r e.on one.on;
@@ -140,12 +146,14 @@ module _ (b : Board) (segment row taken : ℕ) (p q r : Pass) (e : Evicting b se
         entries = one.answer.2.2 ∙ (λ t. entry.Evicted (e.on.same t) key segment ∷ e.entries t);
         below = gone_below one.answer.0 one.answer.1;
         few = omega arith;
-        tries = rows_tried_then b segment row 1 (row + 1) p q r e.on one.on (omega arith) e.tries (of_row b.shape segment row 1 q r one.tries);
-        order = one_row_on b segment row (taken + 1) p r (q, inl (taken, refl, e.order, row_out b segment row row_answer.Evicted q r one));
+        rows = suc e.rows;
+        at = one_more;
+        tries = rows_tried_then b segment e.rows 1 (suc e.rows) p q r e.on one.on (omega arith) e.tries (of_row b.shape segment row 1 q r one.tries);
+        order = (q, inl (taken, refl, e.order, item_out evict_row.Evicted one));
       }
 
   -- or was gone
-  pub evicting_none : EvictsRow b segment row row_answer.Gone q r → Evicting b segment (row + 1) taken p r
+  pub evicting_none : EvictsRow b segment row evict_row.Left q r → Evicting b segment from (row + 1) taken p r
   evicting_none one = let few = e.few in record {
     on = goes_then b p q r e.on one.on;
     keeps = keeps_gone_then b segment p q r e.keeps one.answer.0;
@@ -159,8 +167,10 @@ module _ (b : Board) (segment row taken : ℕ) (p q r : Pass) (e : Evicting b se
     entries = one.answer.2 ∙ e.entries;
     below = gone_below one.answer.0 one.answer.1;
     few = omega arith;
-    tries = rows_tried_then b segment row 1 (row + 1) p q r e.on one.on (omega arith) e.tries (of_row b.shape segment row 1 q r one.tries);
-    order = one_row_on b segment row taken p r (q, inr (e.order, row_out b segment row row_answer.Gone q r one));
+    rows = suc e.rows;
+    at = one_more;
+    tries = rows_tried_then b segment e.rows 1 (suc e.rows) p q r e.on one.on (omega arith) e.tries (of_row b.shape segment row 1 q r one.tries);
+    order = (q, inr (e.order, item_out evict_row.Left one));
   }
 
 -- ---- the current segment
@@ -179,23 +189,31 @@ but_other segment (Some n) other = cond-false (eqb n segment) None (Some n) (ne_
 
 -- ---- the answer
 
-module _ (b : Board) (segment row taken : ℕ) (p q : Pass) (in_use : state_of p segment ≡ Some InUse) (over : current_of p ≢ Some segment) (e : Evicting b segment row taken p q) where
+module _ (b : Board) (segment from row taken : ℕ) (p q : Pass) (in_use : state_of p segment ≡ Some InUse) (over : current_of p ≢ Some segment) (e : Evicting b segment from row taken p q) where
   plain_then : q.plain ≡ ended segment p.plain
   plain_then = e.plain ∙ ap (λ o. with_current o p.plain) (sym (but_other segment (current_of p) over))
 
   -- nothing is stored in the segment already
-  over_order : (count : ℕ) → EvictsOver b segment row count p q → EvictsOver b segment row count (record p { plain = ended segment p.plain }) q
-  over_order count = subst (λ x. EvictsOver b segment row count x q) (ap (λ o. record p { plain = with_current o p.plain }) (sym (but_other segment (current_of p) over)))
+  over_order : (count : ℕ) → EvictsOver b segment from e.rows count p q → EvictsOver b segment from e.rows count (record p { plain = ended segment p.plain }) q
+  over_order count = subst (λ x. EvictsOver b segment from e.rows count x q) (ap (λ o. record p { plain = with_current o p.plain }) (sym (but_other segment (current_of p) over)))
 
   -- the bit of a bucket couldn't be had
-  module _ (r : Pass) (busy : EvictsRow b segment row row_answer.Busy q r) where
+  module _ (r : Pass) (busy : EvictsRow b segment row evict_row.Busy q r) where
     pub barred_on : GoesOn b p r
     barred_on = goes_then b p q r e.on busy.on
 
-    pub barred_costs : (used : ℕ) → used_of p segment ≡ Some used → row < used → CostsOfEvict b segment (evict.Busy taken) p r
+    pub barred_costs : (used : ℕ) → used_of p segment ≡ Some used → row < used → CostsOfEvict b segment from (evict.Busy taken) p r
     barred_costs used is_used within = record {
-      order = λ again. (used, row, q, is_used, within, over_order taken e.order, row_out b segment row row_answer.Busy q r busy);
-      tries = λ rows is. rows_tried_then b segment row 1 rows p q r e.on busy.on (let same : used ≡ rows = same_Some used rows (sym is_used ∙ is) in omega arith) e.tries (of_row b.shape segment row 1 q r busy.tries);
+      order = λ again. (
+        used,
+        e.rows,
+        q,
+        is_used,
+        subst (λ n. n < used) e.at within,
+        over_order taken e.order,
+        item_out b segment from row taken p q r e (row_there b segment from row taken used p q e in_use is_used within) evict_row.Busy busy,
+      );
+      tries = λ rows is. rows_tried_then b segment e.rows 1 rows p q r e.on busy.on (let same : used ≡ from + rows = same_Some used (from + rows) (sym is_used ∙ is) in let at = e.at in omega (arith, within)) e.tries (of_row b.shape segment row 1 q r busy.tries);
       draws_nothing = draws_none_then p q r e.draws_nothing busy.draws_nothing;
       reads_nothing = busy.reads_nothing ∙ e.reads_nothing;
     }
@@ -278,10 +296,11 @@ module _ (b : Board) (segment row taken : ℕ) (p q : Pass) (in_use : state_of p
       none_stands,
     )
 
-    pub emptied_costs : CostsOfEvict b segment (evict.Evicted taken) p emptied
+    pub emptied_costs : CostsOfEvict b segment from (evict.Evicted taken) p emptied
     emptied_costs = record {
-      order = λ again. (row, q, all_rows, over_order taken e.order, refl);
-      tries = λ rows is. tries_alike (subst (λ n. TriesFor b.shape (λ key. StoodIn b.shape segment key p q) n p q) (same_Some row rows (sym all_rows ∙ is)) e.tries);
+      order = λ again. (e.rows, q, all_rows ∙ ap Some e.at, over_order taken e.order, refl);
+      tries = λ rows is. tries_alike (subst (λ n. TriesFor b.shape (λ key. StoodIn b.shape segment key p q) n p q)
+          (let same : row ≡ from + rows = same_Some row (from + rows) (sym all_rows ∙ is) in let at = e.at in omega arith) e.tries);
       draws_nothing = e.draws_nothing;
       reads_nothing = e.reads_nothing;
     }
@@ -332,18 +351,19 @@ module _ (b : Board) (segment : ℕ) (p : Pass) (quiet : IsQuiet b p) (in_use : 
   evict_answers evict.NotYours q is yours = absurd (yours refl)
   evict_answers (evict.Busy n) q is yours = (in_use, from_closed n q is.1, is.2 ∙ closed_twice, is.3)
 
-  over_closed : (used count : ℕ) (q : Pass) → EvictsOver b segment used count (record closed { plain = ended segment closed.plain }) q → EvictsOver b segment used count closed q
-  over_closed used count q = subst (λ x. EvictsOver b segment used count x q) (ap (λ x. record p { plain = x }) closed_twice)
+  module _ (from : ℕ) where
+    over_closed : (rows count : ℕ) (q : Pass) → EvictsOver b segment from rows count (record closed { plain = ended segment closed.plain }) q → EvictsOver b segment from rows count closed q
+    over_closed rows count q = subst (λ x. EvictsOver b segment from rows count x q) (ap (λ x. record p { plain = x }) closed_twice)
 
-  order_closed : (told : EvictAnswer) (q : Pass) → EvictsInOrder b segment told closed q → EvictsInOrder b segment told p q
-  order_closed (evict.Evicted n) q (used, last, is, over, done) = (used, last, is, over_closed used n last over, done)
-  order_closed evict.NotYours q none = none
-  order_closed (evict.Busy n) q (used, row, middle, is, within, over, busy) = (used, row, middle, is, within, over_closed row n middle over, busy)
+    order_closed : (told : EvictAnswer) (q : Pass) → EvictsInOrder b segment from told closed q → EvictsInOrder b segment from told p q
+    order_closed (evict.Evicted n) q (rows, last, is, over, done) = (rows, last, is, over_closed rows n last over, done)
+    order_closed evict.NotYours q none = none
+    order_closed (evict.Busy n) q (used, rows, middle, is, within, over, busy) = (used, rows, middle, is, within, over_closed rows n middle over, busy)
 
-  pub evict_costs : (told : EvictAnswer) (q : Pass) → CostsOfEvict b segment told closed q → CostsOfEvict b segment told p q
-  evict_costs told q costs = record {
-    order = λ is. order_closed told q (costs.order is);
-    tries = λ rows is. let x = costs.tries rows is in record { keys = x.keys; few = x.few; stood = x.stood; taken = x.taken; bounced = x.bounced };
-    draws_nothing = costs.draws_nothing;
-    reads_nothing = costs.reads_nothing;
-  }
+    pub evict_costs : (told : EvictAnswer) (q : Pass) → CostsOfEvict b segment from told closed q → CostsOfEvict b segment from told p q
+    evict_costs told q costs = record {
+      order = λ is. order_closed told q (costs.order is);
+      tries = λ rows is. let x = costs.tries rows is in record { keys = x.keys; few = x.few; stood = x.stood; taken = x.taken; bounced = x.bounced };
+      draws_nothing = costs.draws_nothing;
+      reads_nothing = costs.reads_nothing;
+    }

@@ -22,15 +22,15 @@ use Rattle.segevict.specs.declared.retention.KeepRowAnswer.TheVariants as kept
 use Rattle.segevict.specs.Frequencies.{WasOften, WasSeldom}
 use Rattle.segevict.specs.Keeping.{AreMoves, AreSeldom, GoesOver, KeepsItems, MovesAway}
 use Rattle.segevict.specs.Moving.{KeepsRow}
-use Rattle.segevict.specs.OneRow.{HasRow, KeepsItem}
-use Rattle.segevict.specs.Rows.{KeepsGone}
+use Rattle.segevict.specs.OneRow.{KeepsItem}
+use Rattle.segevict.specs.Rows.{HasRow, KeepsGone}
 use Rattle.segevict.specs.Target.{IsKeepTarget, UsesRows}
 use Rattle.segevict.specs.Tries.{TriesFor}
 use Rattle.segevict.proofs.AfterRow.{idle_changes, left_changes, left_gone, moved_gone, uses_none, uses_one, uses_then}
 use Rattle.segevict.proofs.Evictions.{bounced_grows}
 use Rattle.segevict.proofs.Frequencies.{had_after, had_at, had_before, had_seen}
 use Rattle.segevict.proofs.KeyTries.{no_tries, tries_then}
-use Rattle.segevict.proofs.OneRow.{row_answered}
+use Rattle.segevict.proofs.OneRow.{room_now, row_answered}
 use Rattle.segevict.proofs.RowsOut.{goes_then, keeps_gone_then}
 
 -- ---- what was moved
@@ -207,7 +207,7 @@ module _ (b : Board) (segment into cutoff row count : ℕ) (p q : Pass) (quiet :
           on = goes_then b p q r e.on k.on;
           answer = inr (
             moved_away r k.on.steps none within k.tries,
-            subst (λ (x : PlainPart). has_room b.shape (record q { plain = x }) ≡ false) (sym none.plain) k.answer.1,
+            subst (λ (x : PlainPart). has_room b.shape (record q { plain = x }) ≡ false) (sym none.plain) (sym (room_now b into q (e.uses.current ∙ target.current)) ∙ k.answer.1),
             (s.key, (row, had_at b segment row (λ n. cutoff ≤ n) q r s (marked r) (marked r) ([], refl) ([], refl))),
           );
           not_yours = ((λ other. absurd (not_so other)), (λ nobody. absurd (none-some InUse (sym nobody ∙ in_use))));
@@ -231,7 +231,7 @@ module _ (b : Board) (segment into cutoff row count : ℕ) (p q : Pass) (quiet :
           on = goes_then b p q r e.on k.on;
           answer = (
             moved_away r k.on.steps none within k.tries,
-            subst (λ (x : PlainPart). has_room b.shape (record q { plain = x }) ≡ true) (sym none.plain) a.3,
+            subst (λ (x : PlainPart). has_room b.shape (record q { plain = x }) ≡ true) (sym none.plain) (sym (room_now b into q (e.uses.current ∙ target.current)) ∙ a.3),
             (
               s.key,
               often_now b segment into cutoff row count p q r own e s.key (row, had_seen b segment row (λ n. cutoff ≤ n) q f r s a.2.steps),

@@ -1,6 +1,6 @@
 -- What becomes of the item of a row in a keep: it is left, since no word names it or it was read too seldom; or it is moved, or no word named it any more under the bit; or there is no row or no bit for it.
-use Rattle.std.proofs.Common.{◌≡◌, ◌≢◌, Bool, ℕ, ◌+◌, ◌*◌, ◌/◌, ◌%◌, ◌^◌, ◌<◌, ◌≤◌, true, false, eqb, List, [], ◌∷◌, ◌++◌, Some, None, refl, sym, ap, ◌∙◌, subst, inl, inr, ⊎_elim, arith}
-use Rattle.std.proofs.lemmas.Bool.{cases_Bool, cond-true, eq-eqb, ne_eqb}
+use Rattle.std.proofs.Common.{◌≡◌, ◌≢◌, Bool, ℕ, ◌+◌, ◌*◌, ◌/◌, ◌%◌, ◌^◌, ◌<◌, ◌≤◌, true, false, eqb, List, [], ◌∷◌, ◌++◌, None, refl, sym, ap, ◌∙◌, subst, inl, inr, ⊎_elim, arith}
+use Rattle.std.proofs.lemmas.Bool.{cond-true, eq-eqb, lt-ltb, ne_eqb}
 use Rattle.std.proofs.lemmas.Option.{same_Some}
 use Rattle.segword.specs.Words.{Item, item_word}
 use Rattle.segmodel.specs.declared.entry.Entry.TheVariants.{Moved}
@@ -14,12 +14,12 @@ use Rattle.segcore.proofs.Exact.{content_at}
 use Rattle.segcore.proofs.Limits.{low_frequency, low_row, low_segment}
 use Rattle.segcore.proofs.Standing.{coherent}
 use Rattle.segbase.specs.declared.pass.PlainPart.{PlainPart}
-use Rattle.segbase.specs.Words.{AddsAtOnce, AddsEvents, Board, cell_at, count, current_of}
+use Rattle.segbase.specs.Words.{AddsAtOnce, AddsEvents, Board, cell_at, count}
 use Rattle.segbase.specs.Words.{deadline_in, HasStep, IsPassOf, mine, number, own_segment, Pass}
-use Rattle.segbase.specs.Words.{position, TakesSteps, trace, used_of, with_own}
+use Rattle.segbase.specs.Words.{position, state_in, TakesSteps, trace, with_own}
 use Rattle.segbase.proofs.Moves.{moved_count, moved_then}
 use Rattle.segbase.proofs.Standing.{place_of_word, tag_of_word}
-use Rattle.segstore.specs.Words.{ChangesNothing, DrawsNothing, GoesOn, has_room, Idles, IsBusy}
+use Rattle.segstore.specs.Words.{ChangesNothing, DrawsNothing, GoesOn, Idles, is_below, IsBusy}
 use Rattle.segstore.specs.Words.{IsQuiet, KeepsSegments, memo, ReadsNothing, TakesNoBit, TakesOneBit}
 use Rattle.segstore.specs.Words.{TookToWrite}
 use Rattle.segstore.proofs.Keeping.{calm_in, keeps_plain, same_used}
@@ -31,7 +31,7 @@ use Rattle.segstore.proofs.Still.{AreStill, no_reader}
 use Rattle.segstore.proofs.TakenBits.{AreNoTries}
 use Rattle.segstore.proofs.UnderWrite.{begun, HasBegun, took_keeps, took_moved, tries, write_adds, write_goes_on}
 use Rattle.segstore.proofs.UnderWrite.{write_peeking, write_takes, write_undrawn}
-use Rattle.segwrite.specs.Words.{IsNextRow, one_more, Target}
+use Rattle.segwrite.specs.Words.{one_more, Target}
 use Rattle.segwrite.proofs.Filling.{fills_nowhere, fills_seen, fills_still, fills_undrawn, fills_untried}
 use Rattle.segevict.specs.declared.retention.KeepRowAnswer.{KeepRowAnswer}
 use Rattle.segevict.specs.declared.retention.KeepRowAnswer.TheVariants as kept
@@ -39,7 +39,7 @@ use Rattle.segevict.specs.Frequencies.{WasOften}
 use Rattle.segevict.specs.Moving.{IsKeptRow, KeepsRow, moves, MovesRow, SeesRow, under_bit}
 use Rattle.segevict.specs.OneRow.{AfterLooks, TriesForRow}
 use Rattle.segevict.specs.Rows.{IsNamedAt, IsStoredIn, KeepsGone}
-use Rattle.segevict.specs.Target.{IsKeepTarget}
+use Rattle.segevict.specs.Target.{has_room_in, IsMoveTarget, IsNextIn}
 use Rattle.segevict.specs.Tries.{TriesFor}
 use Rattle.segevict.proofs.Frequencies.{had_seen}
 use Rattle.segevict.proofs.KeyTries.{no_tries, one_try, tries_after}
@@ -56,9 +56,9 @@ frequency_parts t f s r t' f' s' r' lf ls lr lf' ls' lr' e =
     let places : s * 2 ^ 20 + r ≡ s' * 2 ^ 20 + r' = sym (place_of_word t f s r ls lr) ∙ (ap (λ n. n % 2 ^ 44) e ∙ place_of_word t' f' s' r' ls' lr') in
     omega (arith, tags, places, e)
 
--- the pass has a row left where it isn't so that it has none
-pub has_row : (b : Board) (p : Pass) → ¬ (has_room b.shape p ≡ false) → has_room b.shape p ≡ true
-has_row b p some = ⊎_elim (λ t. t) (λ f. absurd (some f)) (cases_Bool (has_room b.shape p))
+-- a segment whose next row is known has a row left
+pub room_there : (b : Board) (segment row : ℕ) (p : Pass) → IsNextIn b segment row p → has_room_in b.shape segment p ≡ true
+room_there b segment row p next = ap (is_below b.shape.rows) next.used ∙ lt-ltb row b.shape.rows next.fits
 
 -- with f the pass after the search without the bit
 module _ (b : Board) (bucket : ℕ) (sought : Item) (into cutoff : ℕ) (p f : Pass) (quiet : IsQuiet b p) (i : Idles b p f) (first : HasStep p f) (stored : IsStoredIn b bucket sought f) where
@@ -78,7 +78,7 @@ module _ (b : Board) (bucket : ℕ) (sought : Item) (into cutoff : ℕ) (p f : P
   Kept told q = KeepsRow b sought.seg sought.row into cutoff told p q
 
   -- looks were enough
-  only_looked : (told : KeepRowAnswer) → (TakesNoBit p f → TriesForRow b sought.seg sought.row cutoff told p f) → IsKeptRow b sought.seg sought.row into cutoff told p f → Kept told f
+  only_looked : (told : KeepRowAnswer) → (TakesNoBit p f → TriesForRow b sought.seg sought.row cutoff (has_room_in b.shape into p) told p f) → IsKeptRow b sought.seg sought.row into cutoff told p f → Kept told f
   only_looked told tried answer = record {
     on = goes_f;
     memo = i.memo;
@@ -133,8 +133,8 @@ module _ (b : Board) (bucket : ℕ) (sought : Item) (into cutoff : ℕ) (p f : P
       abbrev seen_often : SeesRow b sought.seg sought.row (λ n. cutoff ≤ n) p f
       seen_often = sees (λ n. cutoff ≤ n) often
 
-      pub row_no_room : has_room b.shape f ≡ false → Kept kept.NoRoom f
-      row_no_room full = only_looked kept.NoRoom (λ none. none) (seen_often, subst (λ (y : PlainPart). has_room b.shape (record f { plain = y }) ≡ false) i.plain full)
+      pub row_no_room : has_room_in b.shape into f ≡ false → Kept kept.NoRoom f
+      row_no_room full = only_looked kept.NoRoom (λ none. none) (seen_often, subst (λ (y : PlainPart). has_room_in b.shape into (record f { plain = y }) ≡ false) i.plain full)
 
       had : (q : Pass) → TakesSteps f q → WasOften b.shape sought.seg cutoff p q stored.key
       had q steps = (sought.row, had_seen b sought.seg sought.row (λ n. cutoff ≤ n) p f q seen_often steps)
@@ -157,7 +157,7 @@ module _ (b : Board) (bucket : ℕ) (sought : Item) (into cutoff : ℕ) (p f : P
           (one_try b.shape (WasOften b.shape sought.seg cutoff p q) stored.key f q (had q steps) took (subst (λ k. count (bounced k) q ≤ count (bounced k) f + 64) stored.home met)
           (λ other apart. others other (λ same. apart (same ∙ stored.home))))
 
-      pub row_busy : (q : Pass) → has_room b.shape f ≡ true → GoesOn b f q × ChangesNothing f q × IsBusy bucket f q × DrawsNothing f q × ReadsNothing f q → Kept kept.Busy q
+      pub row_busy : (q : Pass) → has_room_in b.shape into f ≡ true → GoesOn b f q × ChangesNothing f q × IsBusy bucket f q × DrawsNothing f q × ReadsNothing f q → Kept kept.Busy q
       row_busy q room busy = record {
         on = goes_then b p f q goes_f busy.0;
         memo = busy.1.memo ∙ i.memo;
@@ -168,7 +168,7 @@ module _ (b : Board) (bucket : ℕ) (sought : Item) (into cutoff : ℕ) (p f : P
             (λ tried. let same = tried.taken in let met = tried.tries in tries_one q busy.0.steps (omega arith) (omega arith) tried.others)
             busy.2;
         tried = looked IsBusy q busy.0 busy.2;
-        answer = (f, seen_often, busy.0, subst (λ (y : PlainPart). has_room b.shape (record f { plain = y }) ≡ true) i.plain room, busy.1, subst (λ k. IsBusy k f q) stored.home busy.2);
+        answer = (f, seen_often, busy.0, subst (λ (y : PlainPart). has_room_in b.shape into (record f { plain = y }) ≡ true) i.plain room, busy.1, subst (λ k. IsBusy k f q) stored.home busy.2);
       }
 
       -- ---- under the bit
@@ -189,16 +189,15 @@ module _ (b : Board) (bucket : ℕ) (sought : Item) (into cutoff : ℕ) (p f : P
         pub segments_q : KeepsSegments b q
         segments_q = took_keeps b bucket f q goes_f.quiet begins
 
-        pub target_q : IsKeepTarget sought.seg into p → IsKeepTarget sought.seg into q
+        pub target_q : IsMoveTarget sought.seg into p → IsMoveTarget sought.seg into q
         target_q t = let plain = took.plain ∙ i.plain in record {
-          current = ap (λ (y : PlainPart). y.current) plain ∙ t.current;
+          in_use = ap (λ (y : PlainPart). state_in (own_segment y into)) plain ∙ t.in_use;
           other = t.other;
           deadlines = ap (λ (y : PlainPart). deadline_in (own_segment y sought.seg)) plain ∙ (t.deadlines ∙ sym (ap (λ (y : PlainPart). deadline_in (own_segment y into)) plain));
         }
 
-        pub next_q : (to : ℕ) → IsNextRow b into to f → IsNextRow b into to q
+        pub next_q : (to : ℕ) → IsNextIn b into to f → IsNextIn b into to q
         next_q to next = record {
-          current = ap (λ (y : PlainPart). y.current) took.plain ∙ next.current;
           used = same_used f q into took.plain ∙ next.used;
           fits = next.fits;
         }
@@ -219,7 +218,7 @@ module _ (b : Board) (bucket : ℕ) (sought : Item) (into cutoff : ℕ) (p f : P
           events_f = moved_then b took_by (Freed (number f) bucket false ∷ own) f q s taking
               (subst (λ k. AddsEvents b (Freed k bucket false ∷ own) q s) (m.same ∙ taking.same) (moved_then b own (Freed (number r) bucket false ∷ []) q r s m freed.moved))
 
-          done : (told : KeepRowAnswer) → (AfterLooks b sought.seg sought.row cutoff TakesOneBit p s → TriesForRow b sought.seg sought.row cutoff told p s)
+          done : (told : KeepRowAnswer) → (AfterLooks b sought.seg sought.row cutoff TakesOneBit p s → TriesForRow b sought.seg sought.row cutoff (has_room_in b.shape into p) told p s)
               → IsKeptRow b sought.seg sought.row into cutoff told p s → Kept told s
           done told tried answer =
               let takes = write_takes b bucket f q goes_f.quiet begins r s own added false m elsewhere still adds freed free none in
@@ -234,11 +233,11 @@ module _ (b : Board) (bucket : ℕ) (sought : Item) (into cutoff : ℕ) (p f : P
               }
 
         -- no word named it any more
-        pub row_went : has_room b.shape f ≡ true → (to : ℕ) (r s : Pass) → MovesRow b bucket sought into to false q r → AddsAtOnce b (Freed (number r) bucket false ∷ []) r s → (bucket_after b.shape (trace s) bucket).holder ≡ None → s.plain ≡ r.plain → memo s ≡ memo r → Kept kept.Left s
+        pub row_went : has_room_in b.shape into f ≡ true → (to : ℕ) (r s : Pass) → MovesRow b bucket sought into to false q r → AddsAtOnce b (Freed (number r) bucket false ∷ []) r s → (bucket_after b.shape (trace s) bucket).holder ≡ None → s.plain ≡ r.plain → memo s ≡ memo r → Kept kept.Left s
         row_went room to r s t freed free plain' same' =
             let m = t.moves.0 in let plain = t.moves.1 in
             let gone = gone_over b (Freed (number r) bucket false ∷ []) r s sought.seg sought.row freed.moved (tt, tt) (stored_q.own ∙ sym m.same) t.gone in
-            let room_p : has_room b.shape p ≡ true = subst (λ (y : PlainPart). has_room b.shape (record f { plain = y }) ≡ true) i.plain room in
+            let room_p : has_room_in b.shape into p ≡ true = subst (λ (y : PlainPart). has_room_in b.shape into (record f { plain = y }) ≡ true) i.plain room in
             done r s [] [] m (λ other apart. tt) tt (λ h. refl) tt tt t.segments t.memo (ap (λ (y : PlainPart). y.locked) plain) (ap (λ (y : PlainPart). y.is_holding) plain) freed free plain' same' kept.Left
             (λ bit. inr (bit, room_p, unnamed b.shape (trace s) sought.seg sought.row freed.moved.pass.lawful gone))
             (inr (inr (
@@ -258,7 +257,7 @@ module _ (b : Board) (bucket : ℕ) (sought : Item) (into cutoff : ℕ) (p f : P
             )))
 
         -- it was moved
-        module _ (to : ℕ) (next : IsNextRow b into to f) (r s : Pass) (t : MovesRow b bucket sought into to true q r) where
+        module _ (to : ℕ) (next : IsNextIn b into to f) (r s : Pass) (t : MovesRow b bucket sought into to true q r) where
           abbrev position_moved : ℕ
           position_moved = t.moves.1
 
@@ -322,17 +321,8 @@ module _ (b : Board) (bucket : ℕ) (sought : Item) (into cutoff : ℕ) (p f : P
 pub kept_place : (b : Board) (sought : Item) (segment row into cutoff : ℕ) (told : KeepRowAnswer) (p q : Pass) → (sought.seg ≡ segment) × (sought.row ≡ row) → KeepsRow b sought.seg sought.row into cutoff told p q → KeepsRow b segment row into cutoff told p q
 kept_place b sought segment row into cutoff told p q place k = subst (λ s. KeepsRow b s row into cutoff told p q) place.0 (subst (λ r. KeepsRow b sought.seg r into cutoff told p q) place.1 k)
 
-pub target_place : (sought : Item) (segment into : ℕ) (p : Pass) → sought.seg ≡ segment → IsKeepTarget segment into p → IsKeepTarget sought.seg into p
-target_place sought segment into p same target = subst (λ s. IsKeepTarget s into p) (sym same) target
-
--- the row that the pass stores into next is one of the current segment, which others don't change
-pub next_here : (b : Board) (segment into : ℕ) (p f : Pass) → f.plain ≡ p.plain → IsKeepTarget segment into p → (s row : ℕ) → (current_of f ≡ Some s) × (used_of f s ≡ Some row) × (row < b.shape.rows) → IsNextRow b into row f
-next_here b segment into p f plain target s row next =
-    let same : s ≡ into = same_Some s into (sym next.0 ∙ (ap (λ (y : PlainPart). y.current) plain ∙ target.current)) in record {
-      current = next.0 ∙ ap Some same;
-      used = ap (used_of f) (sym same) ∙ next.1;
-      fits = next.2;
-    }
+pub target_place : (sought : Item) (segment into : ℕ) (p : Pass) → sought.seg ≡ segment → IsMoveTarget segment into p → IsMoveTarget sought.seg into p
+target_place sought segment into p same target = subst (λ s. IsMoveTarget s into p) (sym same) target
 
 -- the bit can be given back
 pub may_release : (b : Board) (bucket : ℕ) (sought : Item) (into to : ℕ) (told : Bool) (q r : Pass) → MovesRow b bucket sought into to told q r → IsPassOf b r

@@ -4,6 +4,7 @@ pub mod Unlinking
 pub mod StoredRows
 pub mod KeyTries
 pub mod RowsOut
+pub mod EvictedRow
 pub mod Evictions
 pub mod Frequencies
 pub mod Relinking
@@ -14,4 +15,5 @@ pub mod Naming
 pub mod Carrying
 pub mod OneRow
 pub mod Keeping
+pub mod UnnamedRows
 pub mod StoodFacts

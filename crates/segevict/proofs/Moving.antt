@@ -14,21 +14,21 @@ use Rattle.segcore.proofs.Quiet.{quiet_row}
 use Rattle.segcore.proofs.Standing.{coherent}
 use Rattle.segbase.specs.declared.pass.PlainPart.{PlainPart}
 use Rattle.segbase.specs.Words.{AddsEvents, Board, deadline_of, home_bucket, number, own_segment, OwnSegment}
-use Rattle.segbase.specs.Words.{Pass, Place, position, trace, used_in, used_of, deadline_in, with_own, with_used}
+use Rattle.segbase.specs.Words.{Pass, Place, position, state_in, trace, used_in, used_of, deadline_in, with_own, with_used}
 use Rattle.segbase.proofs.Known.{counted, own_alike, owner_counted}
 use Rattle.segbase.proofs.Moves.{moved_then}
 use Rattle.segbase.proofs.Owned.{moved_still}
 use Rattle.segstore.specs.Words.{fills, HasCleanBit, Idles, IsReadable, KeepsSegments, memo}
-use Rattle.segstore.proofs.Keeping.{AreCalmIn, calm_in, in_table, keeps_named, keeps_plain, next_is_own}
+use Rattle.segstore.proofs.Keeping.{AreCalmIn, calm_in, in_table, keeps_named_in, keeps_plain, next_is_own}
 use Rattle.segstore.proofs.Keeping.{own_linked, same_used}
 use Rattle.segstore.proofs.Words.{at_place}
 use Rattle.segstore.proofs.UnderBit.{did_acts, moved_at, moved_bucket}
-use Rattle.segwrite.specs.Words.{IsEarlier, IsInChain, IsNextRow, one_more, Target}
+use Rattle.segwrite.specs.Words.{IsEarlier, IsInChain, one_more, Target}
 use Rattle.segwrite.proofs.Filling.{fills_calm, fills_nowhere}
 use Rattle.segwrite.proofs.Places.{chain_later, same_position}
 use Rattle.segwrite.proofs.Rising.{earlier_later}
 use Rattle.segevict.specs.Moving.{moves, MovesRow}
-use Rattle.segevict.specs.Target.{IsKeepTarget}
+use Rattle.segevict.specs.Target.{IsMoveTarget, IsNextIn}
 use Rattle.segevict.specs.Relinking.{HasRelinked, relinked, Relinks}
 use Rattle.segevict.specs.Rows.{IsNamedAt, IsStoredIn}
 use Rattle.segevict.proofs.Relinking.{relinked_gone}
@@ -64,7 +64,7 @@ same_deadlines b p s t used k is same =
 
 -- with f the pass after the search under the bit
 module _ (b : Board) (bucket : ℕ) (sought : Item) (into to : ℕ) (p f : Pass) (segments : KeepsSegments b p) (stored : IsStoredIn b bucket sought p) (clean : HasCleanBit b p bucket)
-    (target : IsKeepTarget sought.seg into p) (next : IsNextRow b into to p) (i : Idles b p f) where
+    (target : IsMoveTarget sought.seg into p) (next : IsNextIn b into to p) (i : Idles b p f) where
   pub stored_f : IsStoredIn b bucket sought f
   stored_f = stored_over b bucket sought [] p f i.moved tt stored
 
@@ -237,6 +237,6 @@ module _ (b : Board) (bucket : ℕ) (sought : Item) (into to : ℕ) (p f : Pass)
             unwritten = ap (λ u. u.written) bucket_now ∙ clean_c.unwritten;
             undrawn = ap (λ u. u.spare) bucket_now ∙ clean_c.undrawn;
           };
-          segments = keeps_named b e c r into to (refl, refl) done.did done.plain (ap (λ (x : PlainPart). x.current) (plain ∙ i.plain) ∙ next.current) used_c next.fits m.pass segments_c;
+          segments = keeps_named_in b e c r into to (refl, refl) done.did done.plain (ap (λ (x : PlainPart). state_in (own_segment x into)) (plain ∙ i.plain) ∙ target.in_use) used_c next.fits m.pass segments_c;
           memo = done.memo ∙ (same ∙ i.memo);
         }

@@ -6,7 +6,7 @@ use Rattle.segword.specs.Words.{Item, Shape}
 use Rattle.segmodel.specs.Words.{after, bucket_of, owner, StandsIn}
 use Rattle.segcore.specs.Event as event
 use Rattle.segcore.specs.Mark as mark
-use Rattle.segcore.specs.Words.{cached, Event, IsLawful, last_at, RowGone, Slot, slot}
+use Rattle.segcore.specs.Words.{cached, Event, IsLawful, last_at, RowAt, RowGone, Slot, slot}
 use Rattle.segcore.proofs.Caches.{has_value, stands_in}
 use Rattle.segcore.proofs.Coherent.{IsStanding}
 use Rattle.segcore.proofs.Marked.{entries_marked}
@@ -28,16 +28,24 @@ use Rattle.segevict.proofs.Unnamed.{gone_over}
 
 -- ---- a row
 
+-- an item is in a word now that names it
+named_at : (z : Shape) (h : List Event) (bucket at segment row : ℕ) → IsLawful z h → RowAt z bucket segment row h at → IsNamed z segment row (mark.marked h)
+named_at z h bucket at segment row l n =
+    let a : Slot = n.0 in
+    let st : IsStanding z h bucket at a = (coherent z h l).items bucket at a n.1 in record {
+      key = a.key;
+      stands = subst (λ s. StandsIn (after z (mark.entries (mark.marked h))) a.key s) n.2.0
+          (subst (λ entries. StandsIn (after z entries) a.key a.segment) (sym (entries_marked h)) (stands_in z (event.seen h) a.key a.segment (st.value, st.stands)));
+      last = st.last ∙ (λ t. Some (slot a.key (n.2.0 t) (n.2.1 t)));
+    }
+
+-- where no item names it, no word does
+pub gone_unless_named : (z : Shape) (h : List Event) (segment row : ℕ) → IsLawful z h → ¬ (IsNamed z segment row (mark.marked h)) → RowGone z segment row h
+gone_unless_named z h segment row l none bucket at a is es er = none (named_at z h bucket at segment row l (a, is, (es, er)))
+
 -- a word names it now
 named_now : (b : Board) (bucket : ℕ) (sought : Item) (f : Pass) → IsPassOf b f → (target : Target) → IsNamedAt b bucket sought target f → IsNamed b.shape sought.seg sought.row (marked f)
-named_now b bucket sought f is target n =
-    let z = b.shape in let h = trace f in let a : Slot = n.named.0 in let at = position z h target.place in
-    let st : IsStanding z h bucket at a = (coherent z h is.lawful).items bucket at a n.named.1 in record {
-      key = a.key;
-      stands = subst (λ s. StandsIn (after z (mark.entries (marked f))) a.key s) n.named.2.0
-          (subst (λ entries. StandsIn (after z entries) a.key a.segment) (sym (entries_marked h)) (stands_in z (event.seen h) a.key a.segment (st.value, st.stands)));
-      last = st.last ∙ (λ t. Some (slot a.key (n.named.2.0 t) (n.named.2.1 t)));
-    }
+named_now b bucket sought f is target n = named_at b.shape (trace f) bucket (position b.shape (trace f) target.place) sought.seg sought.row is.lawful n.named
 
 -- no word does, and so no item
 pub unnamed : (z : Shape) (h : List Event) (segment row : ℕ) → IsLawful z h → RowGone z segment row h → ¬ (IsNamed z segment row (mark.marked h))

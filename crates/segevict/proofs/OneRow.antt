@@ -1,32 +1,44 @@
 -- A keep of one row: the answer for a used row in the call's terms, and refusals before any step.
-use Rattle.std.proofs.Common.{◌≡◌, ℕ, ◌≤◌, ◌<◌, true, false, None, IsSome, [], refl, sym, ap, ◌∙◌, subst, inl, inr, ⊎_elim, arith}
+use Rattle.std.proofs.Common.{◌≡◌, ℕ, ◌≤◌, ◌<◌, ◌↔◌, Bool, true, false, None, Some, IsSome, option_and_then, [], refl, sym, ap, ◌∙◌, subst, inl, inr, ⊎_elim, arith}
 use Rattle.std.proofs.lemmas.Bool.{false≢true}
 use Rattle.std.proofs.lemmas.Option.{none-some}
 use Rattle.segmodel.specs.declared.answer.SegState.TheVariants.{InUse}
 use Rattle.segmodel.specs.Words.{bucket_of}
 use Rattle.segcore.specs.Words.{bounced}
 use Rattle.segbase.specs.declared.pass.PlainPart.{PlainPart}
-use Rattle.segbase.specs.Words.{Board, count, marked, Pass, state_of, trace}
+use Rattle.segbase.specs.Words.{Board, count, current_of, marked, Pass, state_of, trace, used_of}
 use Rattle.segbase.proofs.Moves.{moved_count}
-use Rattle.segstore.specs.Words.{ChangesNothing, has_room, IsQuiet, TakesNoBit}
+use Rattle.segstore.specs.Words.{ChangesNothing, has_room, is_below, IsQuiet, KeepsSegments, TakesNoBit}
 use Rattle.segstore.proofs.Idling.{goes_same}
 use Rattle.segevict.specs.declared.retention.KeepRowAnswer.{KeepRowAnswer}
 use Rattle.segevict.specs.declared.retention.KeepRowAnswer.TheVariants as kept
 use Rattle.segevict.specs.Moving.{IsKeptRow, KeepsRow}
-use Rattle.segevict.specs.OneRow.{CostsOfKeepRow, HasRow, IsKeepRowAnswer, KeepsItem, TriesForRow}
-use Rattle.segevict.specs.Target.{IsKeepTarget}
+use Rattle.segevict.specs.OneRow.{CostsOfKeepRow, IsKeepRowAnswer, KeepsItem, KeepsItemInto, KeepsTo, TriesForRow}
+use Rattle.segevict.specs.Rows.{HasRow}
+use Rattle.segevict.specs.Target.{has_room_in, IsKeepTarget, IsMoveTarget}
 use Rattle.segevict.proofs.Frequencies.{had_at, had_seen}
 use Rattle.segevict.proofs.AfterRow.{idle_changes, left_changes, uses_one}
 use Rattle.segevict.proofs.Carrying.{carried}
 use Rattle.segevict.proofs.Naming.{unnamed}
 
+-- ---- the segment to move into
+
+-- the current segment is one to move into if it is a keep's
+pub move_target : (b : Board) (segment into : ℕ) (p : Pass) → KeepsSegments b p → IsKeepTarget segment into p → IsMoveTarget segment into p
+move_target b segment into p k target = record { in_use = k.in_use into target.current; other = target.other; deadlines = target.deadlines }
+
+-- whether it has a row left
+pub room_now : (b : Board) (into : ℕ) (p : Pass) → current_of p ≡ Some into → has_room_in b.shape into p ≡ has_room b.shape p
+room_now b into p current = ap (λ o. is_below b.shape.rows (option_and_then (used_of p) o)) (sym current)
+
 -- ---- a used row
 
-module _ (b : Board) (segment row into cutoff : ℕ) (p r : Pass) (quiet : IsQuiet b p) (has : HasRow segment row p) (target : IsKeepTarget segment into p) where
-  answers : (told : KeepRowAnswer) → KeepsRow b segment row into cutoff told p r → IsKeepRowAnswer b.shape segment row cutoff told p r
-  answers kept.Moved k = let a = k.answer in
-      (into, target, uses_one into p r a.11 k.memo, (a.1.key, carried b segment row into cutoff p a.0 r a.1 a.3 a.4 a.5 a.6 a.9 a.2.steps a.7 a.8 a.10))
-  answers kept.Left k = (
+module _ (b : Board) (segment row into cutoff : ℕ) (p r : Pass) (quiet : IsQuiet b p) where
+  -- with this segment to move into
+  kept_to : (IsTarget : ℕ → Type 0) → IsTarget into → (told : KeepRowAnswer) → KeepsRow b segment row into cutoff told p r → KeepsTo b.shape segment row cutoff IsTarget (has_room_in b.shape into r) told p r
+  kept_to IsTarget target kept.Moved k = let a = k.answer in
+      (into, target, uses_one into p r a.11 k.memo, (a.1.key, carried b segment row into cutoff p a.0 r a.1 a.3 a.4 a.5 a.6 a.9 a.2.steps a.7 a.8 a.10 a.12))
+  kept_to IsTarget target kept.Left k = (
     into,
     target,
     left_changes b segment row into cutoff p r quiet k,
@@ -38,24 +50,24 @@ module _ (b : Board) (segment row into cutoff : ℕ) (p r : Pass) (quiet : IsQui
         some)
         k.answer,
   )
-  answers kept.NoRoom k =
+  kept_to IsTarget target kept.NoRoom k =
       let s = k.answer.0 in
       let none = idle_changes b p r quiet s.idles in inr (
         into,
         target,
         none,
-        subst (λ (x : PlainPart). has_room b.shape (record p { plain = x }) ≡ false) (sym none.plain) k.answer.1,
+        subst (λ (x : PlainPart). has_room_in b.shape into (record p { plain = x }) ≡ false) (sym none.plain) k.answer.1,
         (s.key, had_at b segment row (λ n. cutoff ≤ n) p r s (marked r) (marked r) ([], refl) ([], refl)),
         s.looks,
       )
-  answers kept.Busy k =
+  kept_to IsTarget target kept.Busy k =
       let a = k.answer in let f = a.0 in let s = a.1 in let bucket = bucket_of b.shape s.key in
       let looked = idle_changes b p f quiet s.idles in
       let none : ChangesNothing p r = record { entries = a.4.entries ∙ looked.entries; plain = a.4.plain ∙ looked.plain; memo = a.4.memo ∙ looked.memo } in (
         into,
         target,
         none,
-        subst (λ (x : PlainPart). has_room b.shape (record p { plain = x }) ≡ true) (sym none.plain) a.3,
+        subst (λ (x : PlainPart). has_room_in b.shape into (record p { plain = x }) ≡ true) (sym none.plain) a.3,
         (
           s.key,
           had_seen b segment row (λ n. cutoff ≤ n) p f r s a.2.steps,
@@ -65,72 +77,129 @@ module _ (b : Board) (segment row into cutoff : ℕ) (p r : Pass) (quiet : IsQui
               a.5,
         ),
       )
-  answers kept.NotYours k = absurd k.answer
-  answers kept.NotUsed k = absurd k.answer
+  kept_to IsTarget target kept.NotYours k = absurd k.answer
+  kept_to IsTarget target kept.NotUsed k = absurd k.answer
 
-  pub row_answered : (told : KeepRowAnswer) → KeepsRow b segment row into cutoff told p r → KeepsItem b segment row cutoff told p r
-  row_answered told k = record {
-    on = k.on;
-    answer = answers told k;
-    not_yours = (
+  module _ (has : HasRow segment row p) (told : KeepRowAnswer) (k : KeepsRow b segment row into cutoff told p r) where
+    none_not_yours : (told ≡ kept.NotYours) ↔ (state_of p segment ≡ None)
+    none_not_yours = (
       (λ is. absurd (subst (λ t. IsKeptRow b segment row into cutoff t p r) is k.answer)),
       (λ none. absurd (none-some InUse (sym none ∙ has.0))),
-    );
-    not_used = (
+    )
+
+    none_not_used : (told ≡ kept.NotUsed) ↔ (IsSome (state_of p segment) × ¬ (HasRow segment row p))
+    none_not_used = (
       (λ is. absurd (subst (λ t. IsKeptRow b segment row into cutoff t p r) is k.answer)),
       (λ without. absurd (without.1 has)),
-    );
-    costs = record {
-      tries = k.tried;
-      draws_nothing = k.draws_nothing;
-      reads_nothing = k.reads_nothing;
-    };
-  }
+    )
+
+  -- into the current segment
+  module _ (has : HasRow segment row p) (target : IsKeepTarget segment into p) where
+    abbrev IsHere : ℕ → Type 0
+    IsHere n = IsKeepTarget segment n p
+
+    -- the room of the segment is what the pass has
+    with_room : (told : KeepRowAnswer) → r.plain ≡ p.plain → KeepsTo b.shape segment row cutoff IsHere (has_room_in b.shape into r) told p r → KeepsTo b.shape segment row cutoff IsHere (has_room b.shape r) told p r
+    with_room told same = subst (λ room. KeepsTo b.shape segment row cutoff IsHere room told p r) (room_now b into r (ap (λ (x : PlainPart). x.current) same ∙ target.current))
+
+    answers : (told : KeepRowAnswer) → KeepsRow b segment row into cutoff told p r → IsKeepRowAnswer b.shape segment row cutoff told p r
+    answers kept.Moved k = kept_to IsHere target kept.Moved k
+    answers kept.Left k = kept_to IsHere target kept.Left k
+    answers kept.NoRoom k = with_room kept.NoRoom (idle_changes b p r quiet k.answer.0.idles).plain (kept_to IsHere target kept.NoRoom k)
+    answers kept.Busy k = let is = kept_to IsHere target kept.Busy k in with_room kept.Busy is.2.plain is
+    answers kept.NotYours k = absurd k.answer
+    answers kept.NotUsed k = absurd k.answer
+
+    pub row_answered : (told : KeepRowAnswer) → KeepsRow b segment row into cutoff told p r → KeepsItem b segment row cutoff told p r
+    row_answered told k = record {
+      on = k.on;
+      answer = answers told k;
+      not_yours = none_not_yours has told k;
+      not_used = none_not_used has told k;
+      costs = record {
+        tries = subst (λ room. TriesForRow b segment row cutoff room told p r) (room_now b into p target.current) k.tried;
+        draws_nothing = k.draws_nothing;
+        reads_nothing = k.reads_nothing;
+      };
+    }
+
+  -- into one that the caller names
+  module _ (has : HasRow segment row p) (target : IsMoveTarget segment into p) where
+    pub row_answered_into : (told : KeepRowAnswer) → KeepsRow b segment row into cutoff told p r → KeepsItemInto b segment row cutoff into told p r
+    row_answered_into told k = record {
+      on = k.on;
+      answer = kept_to (λ other. (other ≡ into) × IsMoveTarget segment into p) (refl, target) told k;
+      not_yours = none_not_yours has told k;
+      not_used = none_not_used has told k;
+      costs = record {
+        tries = k.tried;
+        draws_nothing = k.draws_nothing;
+        reads_nothing = k.reads_nothing;
+      };
+    }
 
 -- ---- refused before any step
 
 module _ (b : Board) (segment row cutoff : ℕ) (p : Pass) (quiet : IsQuiet b p) where
-  costs_none : (told : KeepRowAnswer) → TriesForRow b segment row cutoff told p p → CostsOfKeepRow b segment row cutoff told p p
-  costs_none told tries = record { tries = tries; draws_nothing = λ bucket. refl; reads_nothing = refl }
-
   none_tried : TakesNoBit p p
   none_tried = record { taken = refl; bounced = λ bucket. refl }
 
-  pub row_not_yours : state_of p segment ≡ None → KeepsItem b segment row cutoff kept.NotYours p p
-  row_not_yours none = record {
-    on = goes_same b p quiet;
-    answer = refl;
-    not_yours = ((λ is. none), (λ nobody. refl));
-    not_used = (
+  costs_none : (room : Bool) (told : KeepRowAnswer) → TriesForRow b segment row cutoff room told p p → CostsOfKeepRow b segment row cutoff room told p p
+  costs_none room told tries = record { tries = tries; draws_nothing = λ bucket. refl; reads_nothing = refl }
+
+  -- of these answers neither is the other, nor NoRoom
+  refused_not_yours : state_of p segment ≡ None → ((kept.NotYours ≡ kept.NotYours) ↔ (state_of p segment ≡ None)) × ((kept.NotYours ≡ kept.NotUsed) ↔ (IsSome (state_of p segment) × ¬ (HasRow segment row p)))
+  refused_not_yours none = (
+    ((λ is. none), (λ nobody. refl)),
+    (
       (λ is. let no : kept.NotYours ≡ kept.NotUsed = is in cc),
       (λ without. absurd (false≢true (subst IsSome none without.0))),
-    );
-    costs = costs_none kept.NotYours none_tried;
-  }
+    ),
+  )
 
-  pub row_not_used : IsSome (state_of p segment) → ¬ (HasRow segment row p) → KeepsItem b segment row cutoff kept.NotUsed p p
-  row_not_used some without = record {
-    on = goes_same b p quiet;
-    answer = refl;
-    not_yours = (
+  refused_not_used : IsSome (state_of p segment) → ¬ (HasRow segment row p) → ((kept.NotUsed ≡ kept.NotYours) ↔ (state_of p segment ≡ None)) × ((kept.NotUsed ≡ kept.NotUsed) ↔ (IsSome (state_of p segment) × ¬ (HasRow segment row p)))
+  refused_not_used some without = (
+    (
       (λ is. let no : kept.NotUsed ≡ kept.NotYours = is in cc),
       (λ none. absurd (false≢true (subst IsSome none some))),
-    );
-    not_used = ((λ is. (some, without)), (λ all. refl));
-    costs = costs_none kept.NotUsed none_tried;
-  }
+    ),
+    ((λ is. (some, without)), (λ all. refl)),
+  )
 
-  pub row_no_target : HasRow segment row p → ((into : ℕ) → ¬ (IsKeepTarget segment into p)) → KeepsItem b segment row cutoff kept.NoRoom p p
-  row_no_target has nowhere = record {
-    on = goes_same b p quiet;
-    answer = inl (nowhere, refl);
-    not_yours = (
+  refused_no_room : HasRow segment row p → ((kept.NoRoom ≡ kept.NotYours) ↔ (state_of p segment ≡ None)) × ((kept.NoRoom ≡ kept.NotUsed) ↔ (IsSome (state_of p segment) × ¬ (HasRow segment row p)))
+  refused_no_room has = (
+    (
       (λ is. let no : kept.NoRoom ≡ kept.NotYours = is in cc),
       (λ none. absurd (none-some InUse (sym none ∙ has.0))),
-    );
-    not_used = (
+    ),
+    (
       (λ is. let no : kept.NoRoom ≡ kept.NotUsed = is in cc),
       (λ without. absurd (without.1 has)),
-    );
-    costs = costs_none kept.NoRoom none_tried;
-  }
+    ),
+  )
+
+  pub row_not_yours : state_of p segment ≡ None → KeepsItem b segment row cutoff kept.NotYours p p
+  row_not_yours none = let is = refused_not_yours none in
+      record { on = goes_same b p quiet; answer = refl; not_yours = is.0; not_used = is.1; costs = costs_none (has_room b.shape p) kept.NotYours none_tried }
+
+  pub row_not_used : IsSome (state_of p segment) → ¬ (HasRow segment row p) → KeepsItem b segment row cutoff kept.NotUsed p p
+  row_not_used some without = let is = refused_not_used some without in
+      record { on = goes_same b p quiet; answer = refl; not_yours = is.0; not_used = is.1; costs = costs_none (has_room b.shape p) kept.NotUsed none_tried }
+
+  pub row_no_target : HasRow segment row p → ((into : ℕ) → ¬ (IsKeepTarget segment into p)) → KeepsItem b segment row cutoff kept.NoRoom p p
+  row_no_target has nowhere = let is = refused_no_room has in
+      record { on = goes_same b p quiet; answer = inl (nowhere, refl); not_yours = is.0; not_used = is.1; costs = costs_none (has_room b.shape p) kept.NoRoom none_tried }
+
+  -- where the caller names a segment
+  module _ (into : ℕ) where
+    pub into_not_yours : state_of p segment ≡ None → KeepsItemInto b segment row cutoff into kept.NotYours p p
+    into_not_yours none = let is = refused_not_yours none in
+        record { on = goes_same b p quiet; answer = refl; not_yours = is.0; not_used = is.1; costs = costs_none (has_room_in b.shape into p) kept.NotYours none_tried }
+
+    pub into_not_used : IsSome (state_of p segment) → ¬ (HasRow segment row p) → KeepsItemInto b segment row cutoff into kept.NotUsed p p
+    into_not_used some without = let is = refused_not_used some without in
+        record { on = goes_same b p quiet; answer = refl; not_yours = is.0; not_used = is.1; costs = costs_none (has_room_in b.shape into p) kept.NotUsed none_tried }
+
+    pub into_no_target : HasRow segment row p → ¬ (IsMoveTarget segment into p) → KeepsItemInto b segment row cutoff into kept.NoRoom p p
+    into_no_target has nowhere = let is = refused_no_room has in
+        record { on = goes_same b p quiet; answer = inl ((λ other is. nowhere is.1), refl); not_yours = is.0; not_used = is.1; costs = costs_none (has_room_in b.shape into p) kept.NoRoom none_tried }

@@ -20,8 +20,8 @@ use Rattle.segstore.specs.Words.{ChangesNothing, DrawsNothing, GoesOn, Idles, Is
 use Rattle.segstore.specs.Words.{KeepsSegments, memo, ReadsNothing, TookToWrite}
 use Rattle.segstore.proofs.Keeping.{AreCalm, AreCalmIn, calm_in, keeps_plain, own_linked}
 use Rattle.segwrite.specs.Words.{Target}
-use Rattle.segevict.specs.declared.eviction.RowAnswer.{RowAnswer}
-use Rattle.segevict.specs.declared.eviction.RowAnswer.TheVariants as row_answer
+use Rattle.segevict.specs.declared.eviction.EvictRowAnswer.{EvictRowAnswer}
+use Rattle.segevict.specs.declared.eviction.EvictRowAnswer.TheVariants as evict_row
 use Rattle.segevict.specs.Rows.{IsStoredIn, IsNamedAt, FindsRow, KeepsGone}
 use Rattle.segevict.specs.Tries.{StoodAtRow, TriesFor}
 use Rattle.segevict.specs.Unlinking.{TakesRow, EvictsRow}
@@ -108,7 +108,7 @@ module _ (b : Board) (bucket : ℕ) (sought : Item) (p f : Pass) (quiet : IsQuie
       (subst (λ k. count (bounced k) q ≤ count (bounced k) f + 64) stored.home met) (λ other apart. others other (λ same. apart (same ∙ stored.home))))
 
   -- no word names the row
-  pub row_is_gone : RowGone b.shape sought.seg sought.row (trace f) → EvictsRow b sought.seg sought.row row_answer.Gone p f
+  pub row_is_gone : RowGone b.shape sought.seg sought.row (trace f) → EvictsRow b sought.seg sought.row evict_row.Left p f
   row_is_gone gone = record {
     on = goes_looking;
     plain = i.plain;
@@ -120,7 +120,7 @@ module _ (b : Board) (bucket : ℕ) (sought : Item) (p f : Pass) (quiet : IsQuie
   }
 
   -- the bit can't be had
-  pub row_is_barred : (q : Pass) (target : Target) → IsNamedAt b bucket sought target f → GoesOn b f q × ChangesNothing f q × IsBusy bucket f q × DrawsNothing f q × ReadsNothing f q → EvictsRow b sought.seg sought.row row_answer.Busy p q
+  pub row_is_barred : (q : Pass) (target : Target) → IsNamedAt b bucket sought target f → GoesOn b f q × ChangesNothing f q × IsBusy bucket f q × DrawsNothing f q × ReadsNothing f q → EvictsRow b sought.seg sought.row evict_row.Busy p q
   row_is_barred q target n busy = record {
     on = goes_then b p f q goes_looking busy.0;
     plain = busy.1.plain ∙ i.plain;
@@ -200,7 +200,7 @@ module _ (b : Board) (bucket : ℕ) (sought : Item) (p f : Pass) (quiet : IsQuie
 
     -- the word was cleared
     pub row_is_evicted : (target : Target) → IsNamedAt b bucket sought target f → (r s : Pass) → TakesRow b bucket sought true q r → AddsAtOnce b (Freed (number r) bucket false ∷ []) r s → (bucket_after b.shape (trace s) bucket).holder ≡ None → r.plain ≡ q.plain → memo r ≡ memo q → s.plain ≡ r.plain → memo s ≡ memo r
-        → EvictsRow b sought.seg sought.row row_answer.Evicted p s
+        → EvictsRow b sought.seg sought.row evict_row.Evicted p s
     row_is_evicted target n r s t freed free plain same plain' same' =
         let key = t.takes.0 in let own : List Event = Unlinked (number q) key t.takes.1 (Evicts sought.seg) ∷ [] in let added : List Entry = Evicted (number q) key sought.seg ∷ [] in
         let elsewhere : (other : ℕ) → bucket ≢ other → NoneAt b.shape other own = λ other apart. (ne_eqb (bucket_of b.shape key) other (λ e. apart (t.takes.2 ∙ e)), tt) in
@@ -228,7 +228,7 @@ module _ (b : Board) (bucket : ℕ) (sought : Item) (p f : Pass) (quiet : IsQuie
 
     -- it was gone meanwhile
     pub row_went : (target : Target) → IsNamedAt b bucket sought target f → (r s : Pass) → TakesRow b bucket sought false q r → AddsAtOnce b (Freed (number r) bucket false ∷ []) r s → (bucket_after b.shape (trace s) bucket).holder ≡ None → r.plain ≡ q.plain → memo r ≡ memo q → s.plain ≡ r.plain → memo s ≡ memo r
-        → EvictsRow b sought.seg sought.row row_answer.Gone p s
+        → EvictsRow b sought.seg sought.row evict_row.Left p s
     row_went target n r s t freed free plain same plain' same' = record {
       on = goes_all r s [] [] t.takes tt (λ other apart. tt) tt (λ h. refl) freed free plain same plain' same';
       plain = plain_all r s [] [] t.takes tt (λ other apart. tt) tt (λ h. refl) freed free plain same plain' same';
@@ -253,5 +253,5 @@ pub found_some : (b : Board) (bucket : ℕ) (sought : Item) (o : Option Target) 
 found_some b bucket sought None p finds t = absurd (false≢true t)
 found_some b bucket sought (Some target) p finds t = (target, finds)
 
-pub of_place : (b : Board) (sought : Item) (segment row : ℕ) (told : RowAnswer) (p q : Pass) → (sought.seg ≡ segment) × (sought.row ≡ row) → EvictsRow b sought.seg sought.row told p q → EvictsRow b segment row told p q
+pub of_place : (b : Board) (sought : Item) (segment row : ℕ) (told : EvictRowAnswer) (p q : Pass) → (sought.seg ≡ segment) × (sought.row ≡ row) → EvictsRow b sought.seg sought.row told p q → EvictsRow b segment row told p q
 of_place b sought segment row told p q place e = subst (λ s. EvictsRow b s row told p q) place.0 (subst (λ r. EvictsRow b sought.seg r told p q) place.1 e)

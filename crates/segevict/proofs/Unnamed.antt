@@ -5,8 +5,9 @@ use Rattle.std.proofs.lemmas.List.{length-append}
 use Rattle.std.proofs.lemmas.Option.{none-some}
 use Rattle.segword.specs.Words.{Shape}
 use Rattle.segmodel.specs.Words.{Begins, bucket_of, owner}
-use Rattle.segcore.specs.Words.{bucket_after, by, Event, IsLawful, row_after, RowAt, RowGone}
+use Rattle.segcore.specs.Words.{bucket_after, by, Event, IsLawful, NoneRefills, Row, row_after, RowAt, RowGone}
 use Rattle.segcore.proofs.Searches.{row_first, row_moves}
+use Rattle.segcore.proofs.Segments.{row_since}
 use Rattle.segcore.proofs.Standing.{coherent}
 use Rattle.segbase.specs.Words.{AddsEvents, Board, number, own_of, Pass, trace}
 use Rattle.segstore.proofs.Keeping.{AreCalmIn, calm_parts, calm_rest, own_linked}
@@ -39,6 +40,13 @@ gone_lasts z (e ∷ more) h p s r l calm own gone =
 pub gone_over : (b : Board) (own : List Event) (p q : Pass) (s r : ℕ) → AddsEvents b own p q → AreCalmIn s own → owner b.shape s ≡ number p → RowGone b.shape s r (trace p) → RowGone b.shape s r (trace q)
 gone_over b own p q s r m calm mine gone =
     subst (RowGone b.shape s r) (sym m.goes_on) (gone_lasts b.shape m.more (trace p) (number p) s r (subst (IsLawful b.shape) m.goes_on m.pass.lawful) (subst (AreCalmIn s) (sym m.adds) calm) mine gone)
+
+-- a linked row that none names is named by none before a refilling
+pub gone_since : (z : Shape) (more h : List Event) (s r : ℕ) (k : List ℕ) → IsLawful z (more ++ h) → NoneRefills s more → (row_after h s r).linked ≡ Some k → RowGone z s r h → RowGone z s r (more ++ h)
+gone_since z [] h s r k l none on gone = gone
+gone_since z (e ∷ more) h s r k l none on gone =
+    let now = row_since z (e ∷ more) h s r k l none on in let before = row_since z more h s r k l.0 none.1 on in
+    one_gone z e (more ++ h) s r l (ap (λ (u : Row). u.linked) (now ∙ sym before)) (gone_since z more h s r k l.0 none.1 on gone)
 
 -- ---- one may name it
 

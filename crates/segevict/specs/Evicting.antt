@@ -6,15 +6,13 @@ use Rattle.segmodel.specs.declared.entry.Entry.TheVariants as entry
 use Rattle.segmodel.specs.declared.answer.EvictAnswer.TheVariants as evict
 use Rattle.segmodel.specs.declared.answer.SegState.TheVariants.{InUse, Evicted}
 use Rattle.segmodel.specs.Words.{after, but_for, Entry, EvictAnswer, NoneStandsIn}
-use Rattle.segcore.specs.Words.{linked_in}
 use Rattle.segbase.specs.declared.pass.PlainPart.{PlainPart}
-use Rattle.segbase.specs.Words.{Board, marked, mine, number, Pass, seen, state_of}
+use Rattle.segbase.specs.Words.{Board, mine, number, Pass, seen, state_of}
 use Rattle.segbase.specs.Words.{used_of, with_current, with_state}
 use Rattle.segstore.specs.Words.{DrawsNothing, GoesOn, memo, ReadsNothing}
-use Rattle.segevict.specs.declared.eviction.RowAnswer.{RowAnswer}
-use Rattle.segevict.specs.declared.eviction.RowAnswer.TheVariants as row_answer
-use Rattle.segevict.specs.Naming.{IsNamed}
-use Rattle.segevict.specs.Tries.{IsInTheWay, StoodAtRow, StoodIn, TriesFor}
+use Rattle.segevict.specs.declared.eviction.EvictRowAnswer.TheVariants as evict_row
+use Rattle.segevict.specs.EvictedRow.{EvictsItem}
+use Rattle.segevict.specs.Tries.{IsInTheWay, StoodIn, TriesFor}
 
 -- each of the entries is an eviction by the pass of a key out of the segment
 abbrev pub AreEvictions : ℕ → ℕ → List Entry → Type 0
@@ -52,73 +50,56 @@ IsEvictAnswer shape segment (evict.Busy count) p q =
 
 -- ---- rows in their order
 
--- Evicted, Gone: the row's key was taken out by one entry, or nothing was done;
--- no item names the row any more.
--- Busy: the bucket of the row's key was in the way.
-abbrev pub IsRowOut : Shape → ℕ → ℕ → RowAnswer → Pass → Pass → Type 0
-IsRowOut shape segment row row_answer.Evicted p q =
-    ((key : List ℕ)
-    × (linked_in (marked p) segment row ≡ Some key)
-    × (mine q ≡ entry.Evicted (number p) key segment ∷ mine p))
-    × ¬ (IsNamed shape segment row (marked q))
-IsRowOut shape segment row row_answer.Gone p q =
-    (mine q ≡ mine p) × ¬ (IsNamed shape segment row (marked q))
-IsRowOut shape segment row row_answer.Busy p q =
-    (mine q ≡ mine p) × IsInTheWay shape (StoodAtRow shape segment row p q) p q
-
--- A row is gone over. The pass tries for a bit only for the row's key, and only once.
-pub record EvictsItem (b : Board) (segment row : ℕ) (told : RowAnswer) (p q : Pass)
-    : Type 0 where
-  pub on : GoesOn b p q
-  pub plain : q.plain ≡ p.plain
-  pub memo : memo q ≡ memo p
-  pub draws_nothing : DrawsNothing p q
-  pub reads_nothing : ReadsNothing p q
-  pub tries : TriesFor b.shape (StoodAtRow b.shape segment row p q) 1 p q
-  pub answer : IsRowOut b.shape segment row told p q
-
--- this number of rows was gone over, from the first on, and this number of their keys was taken out
-abbrev pub EvictsOver : Board → ℕ → ℕ → ℕ → Pass → Pass → Type 0
-EvictsOver b segment zero count p q = (count ≡ 0) × (q ≡ p)
-EvictsOver b segment (suc row) count p q =
+-- This number of rows was gone over, from this one on, each by an evict of one row.
+-- This number of their keys was taken out.
+abbrev pub EvictsOver : Board → ℕ → ℕ → ℕ → ℕ → Pass → Pass → Type 0
+EvictsOver b segment from zero count p q = (count ≡ 0) × (q ≡ p)
+EvictsOver b segment from (suc rows) count p q =
     (middle : Pass)
-    × (((before : ℕ) × (count ≡ before + 1) × EvictsOver b segment row before p middle
-    × EvictsItem b segment row row_answer.Evicted middle q)
-    ⊎ (EvictsOver b segment row count p middle
-    × EvictsItem b segment row row_answer.Gone middle q))
+    × (((before : ℕ) × (count ≡ before + 1) × EvictsOver b segment from rows before p middle
+    × EvictsItem b segment (from + rows) evict_row.Evicted middle q)
+    ⊎ (EvictsOver b segment from rows count p middle
+    × EvictsItem b segment (from + rows) evict_row.Left middle q))
 
--- All used rows of the segment are gone over, or those up to one that stops the evict.
--- Nothing is stored in the segment from the first row on.
-abbrev pub EvictsInOrder : Board → ℕ → EvictAnswer → Pass → Pass → Type 0
-EvictsInOrder b segment (evict.Evicted count) p q =
-    (used : ℕ) × (last : Pass)
-    × (used_of p segment ≡ Some used)
-    × EvictsOver b segment used count (record p { plain = ended segment p.plain }) last
+-- All used rows of the segment from this one on are gone over, or those up to one that stops
+-- the evict. Nothing is stored in the segment from the first of them on.
+abbrev pub EvictsInOrder : Board → ℕ → ℕ → EvictAnswer → Pass → Pass → Type 0
+EvictsInOrder b segment from (evict.Evicted count) p q =
+    (rows : ℕ) × (last : Pass)
+    × (used_of p segment ≡ Some (from + rows))
+    × EvictsOver b segment from rows count (record p { plain = ended segment p.plain }) last
     × (q ≡ record last { plain = with_state segment Evicted last.plain })
-EvictsInOrder b segment (evict.Busy count) p q =
-    (used : ℕ) × (row : ℕ) × (middle : Pass)
+EvictsInOrder b segment from (evict.Busy count) p q =
+    (used : ℕ) × (rows : ℕ) × (middle : Pass)
     × (used_of p segment ≡ Some used)
-    × (row < used)
-    × EvictsOver b segment row count (record p { plain = ended segment p.plain }) middle
-    × EvictsItem b segment row row_answer.Busy middle q
-EvictsInOrder b segment evict.NotYours p q = ⊥
+    × (from + rows < used)
+    × EvictsOver b segment from rows count (record p { plain = ended segment p.plain }) middle
+    × EvictsItem b segment (from + rows) evict_row.Busy middle q
+EvictsInOrder b segment from evict.NotYours p q = ⊥
 
 -- ---- what it costs
 
--- The rows of a segment in use are gone over in their order, each once.
--- The pass tried for bits for no more keys than the segment has used rows.
+-- The rows of a segment in use are gone over in their order from this one on, each once.
+-- The pass tried for bits for no more keys than there are used rows from there on.
 -- It draws no overflow bucket, and does nothing of what readers do.
-pub record CostsOfEvict (b : Board) (segment : ℕ) (told : EvictAnswer) (p q : Pass) : Type 0 where
-  pub order : state_of p segment ≡ Some InUse → EvictsInOrder b segment told p q
+pub record CostsOfEvict (b : Board) (segment from : ℕ) (told : EvictAnswer) (p q : Pass)
+    : Type 0 where
+  pub order : state_of p segment ≡ Some InUse → EvictsInOrder b segment from told p q
   pub tries : (rows : ℕ)
-      → used_of p segment ≡ Some rows
+      → used_of p segment ≡ Some (from + rows)
       → TriesFor b.shape (λ key. StoodIn b.shape segment key p q) rows p q
   pub draws_nothing : DrawsNothing p q
   pub reads_nothing : ReadsNothing p q
 
--- an evict has this answer, which is NotYours exactly if the segment isn't one of the pass's own
-pub record EvictsSegment (b : Board) (segment : ℕ) (told : EvictAnswer) (p q : Pass) : Type 0 where
+-- An evict from this row on has this answer,
+-- which is NotYours exactly if the segment isn't one of the pass's own.
+pub record EvictsRest (b : Board) (segment from : ℕ) (told : EvictAnswer) (p q : Pass)
+    : Type 0 where
   pub on : GoesOn b p q
   pub answer : IsEvictAnswer b.shape segment told p q
   pub not_yours : (told ≡ evict.NotYours) ↔ (state_of p segment ≡ None)
-  pub costs : CostsOfEvict b segment told p q
+  pub costs : CostsOfEvict b segment from told p q
+
+-- an evict begins at the first row
+abbrev pub EvictsSegment : Board → ℕ → EvictAnswer → Pass → Pass → Type 0
+EvictsSegment b segment told p q = EvictsRest b segment 0 told p q

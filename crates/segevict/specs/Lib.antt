@@ -1,3 +1,4 @@
+pub mod EvictedRow
 pub mod Evicting
 pub mod Frequencies
 pub mod Keeping

@@ -8,13 +8,14 @@ use Rattle.segword.specs.Words.{Item}
 use Rattle.segbase.specs.Words.{AddsEvents, Board, HasStep, number, Pass, trace, used_of}
 use Rattle.segbase.specs.Words.{with_own}
 use Rattle.segstore.specs.Words.{AddsEntry, bounces, ChangesNothing, DrawsNothing, fills, GoesOn}
-use Rattle.segstore.specs.Words.{has_room, HasCleanBit, Idles, IsBusy, KeepsSegments, memo}
+use Rattle.segstore.specs.Words.{HasCleanBit, Idles, IsBusy, KeepsSegments, memo}
 use Rattle.segstore.specs.Words.{ReadsNothing}
 use Rattle.segwrite.specs.Words.{one_more}
 use Rattle.segevict.specs.declared.retention.KeepRowAnswer.{KeepRowAnswer}
 use Rattle.segevict.specs.declared.retention.KeepRowAnswer.TheVariants as kept
 use Rattle.segevict.specs.Frequencies.{WasOften}
 use Rattle.segevict.specs.OneRow.{TriesForRow}
+use Rattle.segevict.specs.Target.{has_room_in}
 use Rattle.segevict.specs.Tries.{TriesFor}
 
 -- ---- what is seen of a row without the bit
@@ -91,13 +92,14 @@ IsKeptRow b segment row into cutoff kept.Left p q =
     ⊎ ((f : Pass) × (s : SeesRow b segment row (λ frequency. cutoff ≤ frequency) p f) × (times : ℕ)
     × AddsEvents b (under_bit (number f) (bucket_of b.shape s.key) times []) f q
     × ChangesNothing p q × RowGone b.shape segment row (trace q) × (times < 64)
-    × (has_room b.shape p ≡ true))
+    × (has_room_in b.shape into p ≡ true))
 IsKeptRow b segment row into cutoff kept.NoRoom p q =
-    SeesRow b segment row (λ frequency. cutoff ≤ frequency) p q × (has_room b.shape p ≡ false)
+    SeesRow b segment row (λ frequency. cutoff ≤ frequency) p q
+    × (has_room_in b.shape into p ≡ false)
 IsKeptRow b segment row into cutoff kept.Busy p q =
     (f : Pass) × (s : SeesRow b segment row (λ frequency. cutoff ≤ frequency) p f)
     × GoesOn b f q
-    × (has_room b.shape p ≡ true)
+    × (has_room_in b.shape into p ≡ true)
     × ChangesNothing f q
     × IsBusy (bucket_of b.shape s.key) f q
 IsKeptRow b segment row into cutoff _ p q = ⊥
@@ -111,5 +113,5 @@ pub record KeepsRow (b : Board) (segment row into cutoff : ℕ) (told : KeepRowA
   pub draws_nothing : DrawsNothing p q
   pub reads_nothing : ReadsNothing p q
   pub tries : TriesFor b.shape (WasOften b.shape segment cutoff p q) 1 p q
-  pub tried : TriesForRow b segment row cutoff told p q
+  pub tried : TriesForRow b segment row cutoff (has_room_in b.shape into p) told p q
   pub answer : IsKeptRow b segment row into cutoff told p q

@@ -1,10 +1,11 @@
 -- The rows of a pass's own segments: which of them items name, and how many.
-use Rattle.std.specs.Prelude.{◌≡◌, ◌⊎◌, ℕ, zero, suc, ◌+◌, ◌*◌, ◌≤◌, Bool, true, false, List, Option, Some, None}
+use Rattle.std.specs.Prelude.{◌≡◌, ◌⊎◌, ℕ, zero, suc, ◌+◌, ◌*◌, ◌<◌, ◌≤◌, Bool, true, false, List, Option, Some, None}
 use Rattle.segword.specs.Words.{Shape}
 use Rattle.segmodel.specs.Words.{after, Begins, StandsIn}
 use Rattle.segcore.specs.Words.{entries, last_at, Mark, RowGone, slot}
 use Rattle.segcore.specs.Mark as mark
 use Rattle.segbase.specs.Words.{marked, number, Pass, SinceFirst, trace, used_of}
+use Rattle.segevict.specs.Rows.{IsUsedRow}
 
 -- ---- a row
 
@@ -25,6 +26,12 @@ pub record WasNamed (shape : Shape) (segment row : ℕ) (old new : List Mark) : 
 abbrev pub WasNamedIn : Shape → ℕ → ℕ → Pass → Pass → Type 0
 WasNamedIn shape segment row p q =
     SinceFirst p q (λ start. WasNamed shape segment row (mark.marked start) (marked q))
+
+-- The rows of the segment below this one are used, and no item names them.
+-- So it stays until the segment is refilled.
+abbrev pub AreUnnamed : Shape → ℕ → ℕ → Pass → Type 0
+AreUnnamed shape segment from p =
+    (row : ℕ) → row < from → IsUsedRow segment row p × ¬ (IsNamed shape segment row (marked p))
 
 -- a search along the chain of the row's key tells it: an item names the row now, or no word does
 abbrev pub ReturnsNamed : Shape → ℕ → ℕ → Bool → Pass → Type 0

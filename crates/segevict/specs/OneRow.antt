@@ -1,32 +1,27 @@
 -- What a keep of one row answers: what became of the row's item, or what was in the way.
-use Rattle.std.specs.Prelude.{◌≡◌, ◌↔◌, ◌⊎◌, ℕ, ◌<◌, ◌≤◌, List, ◌∷◌, true, false, Some, None, IsSome}
+use Rattle.std.specs.Prelude.{◌≡◌, ◌↔◌, ◌⊎◌, ℕ, ◌<◌, ◌≤◌, List, ◌∷◌, Bool, true, false, None, IsSome, Some}
 use Rattle.segword.specs.Words.{Shape}
 use Rattle.segmodel.specs.declared.entry.Entry.TheVariants as entry
-use Rattle.segmodel.specs.declared.answer.SegState.TheVariants.{InUse}
 use Rattle.segmodel.specs.Words.{Begins, bucket_of}
 use Rattle.segcore.specs.Mark.{at, enters}
 use Rattle.segcore.specs.Mark as mark
 use Rattle.segcore.specs.Words.{frequency_in, Mark}
 use Rattle.segbase.specs.Words.{Board, HasStep, marked, mine, number, Pass, SinceFirst}
 use Rattle.segbase.specs.Words.{state_of, used_of}
-use Rattle.segstore.specs.Words.{ChangesNothing, DrawsNothing, GoesOn, has_room, IsBusy, ReadsNothing}
-use Rattle.segstore.specs.Words.{TakesNoBit, TakesOneBit}
+use Rattle.segstore.specs.Words.{ChangesNothing, DrawsNothing, GoesOn, has_room, IsBusy}
+use Rattle.segstore.specs.Words.{ReadsNothing, TakesNoBit, TakesOneBit}
 use Rattle.segevict.specs.declared.retention.KeepRowAnswer.{KeepRowAnswer}
 use Rattle.segevict.specs.declared.retention.KeepRowAnswer.TheVariants as kept
 use Rattle.segevict.specs.Frequencies.{HadFrequency, HadThen}
 use Rattle.segevict.specs.Naming.{IsNamed}
-use Rattle.segevict.specs.Rows.{IsUsedRow}
-use Rattle.segevict.specs.Target.{IsKeepTarget, UsesRows}
+use Rattle.segevict.specs.Rows.{HasRow}
+use Rattle.segevict.specs.Target.{has_room_in, IsKeepTarget, IsMoveTarget, UsesRows}
 use Rattle.segevict.specs.Tries.{IsInTheWay}
-
--- the segment is in use, and the row is one of its used rows
-abbrev pub HasRow : ℕ → ℕ → Pass → Type 0
-HasRow segment row p = (state_of p segment ≡ Some InUse) × IsUsedRow segment row p
 
 -- At a moment after the call's first step the key's item named the row,
 -- and its frequency was the cutoff or over it.
 -- Later it came to name the next row of the other segment, by one entry.
--- It has the frequency that it had just before.
+-- It has the frequency that it had just before. No item names the row any more.
 pub record CarriesItem (shape : Shape) (segment row cutoff into : ℕ) (p q : Pass) (key : List ℕ)
     : Type 0 where
   pub before : List Mark
@@ -40,34 +35,49 @@ pub record CarriesItem (shape : Shape) (segment row cutoff into : ℕ) (p q : Pa
   pub comes : Begins (enters (entry.Moved (number p) key segment into)
       ∷ at key into to position (frequency_in before segment row) ∷ before) (marked q)
   pub entries : mine q ≡ entry.Moved (number p) key segment into ∷ mine p
+  pub left : ¬ (IsNamed shape segment row (marked q))
 
+-- What a keep of one row comes to that can move items into segments of which this is so.
+-- There the pass has a row left or not.
 -- Moved: the row named an item of the cutoff's frequency or a higher one,
--- and by one entry the item came to name a new row of the current segment.
+-- and by one entry the item came to name a new row of the other segment.
 -- Left: no item names the row, or its item was below the cutoff at a moment of the call.
 -- NoRoom: there is no segment to move into;
 -- or by a look of the call the item is still there, and no row is left for it.
 -- Busy: there is a row, but the item's bucket was in the way.
-abbrev pub IsKeepRowAnswer : Shape → ℕ → ℕ → ℕ → KeepRowAnswer → Pass → Pass → Type 0
-IsKeepRowAnswer shape segment row cutoff kept.Moved p q =
-    (into : ℕ) × IsKeepTarget segment into p × UsesRows into 1 p q
+abbrev pub KeepsTo : Shape → ℕ → ℕ → ℕ → (ℕ → Type 0) → Bool → KeepRowAnswer → Pass → Pass → Type 0
+KeepsTo shape segment row cutoff IsTarget room kept.Moved p q =
+    (into : ℕ) × IsTarget into × UsesRows into 1 p q
     × ((key : List ℕ) × CarriesItem shape segment row cutoff into p q key)
-IsKeepRowAnswer shape segment row cutoff kept.Left p q =
-    (into : ℕ) × IsKeepTarget segment into p × ChangesNothing p q
+KeepsTo shape segment row cutoff IsTarget room kept.Left p q =
+    (into : ℕ) × IsTarget into × ChangesNothing p q
     × (¬ (IsNamed shape segment row (marked q))
     ⊎ ((key : List ℕ) × HadThen shape segment row (λ frequency. frequency < cutoff) p q key))
-IsKeepRowAnswer shape segment row cutoff kept.NoRoom p q =
-    (((into : ℕ) → ¬ (IsKeepTarget segment into p)) × (q ≡ p))
-    ⊎ ((into : ℕ) × IsKeepTarget segment into p × ChangesNothing p q
-    × (has_room shape q ≡ false)
+KeepsTo shape segment row cutoff IsTarget room kept.NoRoom p q =
+    (((into : ℕ) → ¬ (IsTarget into)) × (q ≡ p))
+    ⊎ ((into : ℕ) × IsTarget into × ChangesNothing p q
+    × (room ≡ false)
     × ((key : List ℕ)
     × HadFrequency shape segment row (λ frequency. cutoff ≤ frequency) (marked q) (marked q) key)
     × HasStep p q)
-IsKeepRowAnswer shape segment row cutoff kept.Busy p q =
-    (into : ℕ) × IsKeepTarget segment into p × ChangesNothing p q
-    × (has_room shape q ≡ true)
+KeepsTo shape segment row cutoff IsTarget room kept.Busy p q =
+    (into : ℕ) × IsTarget into × ChangesNothing p q
+    × (room ≡ true)
     × IsInTheWay shape (HadThen shape segment row (λ frequency. cutoff ≤ frequency) p q) p q
-IsKeepRowAnswer shape segment row cutoff kept.NotYours p q = q ≡ p
-IsKeepRowAnswer shape segment row cutoff kept.NotUsed p q = q ≡ p
+KeepsTo shape segment row cutoff IsTarget room kept.NotYours p q = q ≡ p
+KeepsTo shape segment row cutoff IsTarget room kept.NotUsed p q = q ≡ p
+
+-- it moves items into the current segment
+abbrev pub IsKeepRowAnswer : Shape → ℕ → ℕ → ℕ → KeepRowAnswer → Pass → Pass → Type 0
+IsKeepRowAnswer shape segment row cutoff told p q =
+    KeepsTo shape segment row cutoff (λ into. IsKeepTarget segment into p) (has_room shape q)
+    told p q
+
+-- it moves items into this segment alone
+abbrev pub IsKeepRowIntoAnswer : Shape → ℕ → ℕ → ℕ → ℕ → KeepRowAnswer → Pass → Pass → Type 0
+IsKeepRowIntoAnswer shape segment row cutoff into told p q =
+    KeepsTo shape segment row cutoff (λ other. (other ≡ into) × IsMoveTarget segment into p)
+    (has_room_in shape into q) told p q
 
 -- ---- what it costs
 
@@ -82,22 +92,23 @@ AfterLooks b segment row cutoff Does p q =
     × GoesOn b seen q
     × Does (bucket_of b.shape key) seen q
 
--- The pass tries for a bit only after such looks, and only if there is a row.
+-- The pass tries for a bit only after such looks, and only if there is a row to move into.
 -- If it took the bit and left the row, no item names the row any more.
-abbrev pub TriesForRow : Board → ℕ → ℕ → ℕ → KeepRowAnswer → Pass → Pass → Type 0
-TriesForRow b segment row cutoff kept.Moved p q = AfterLooks b segment row cutoff TakesOneBit p q
-TriesForRow b segment row cutoff kept.Left p q =
+abbrev pub TriesForRow : Board → ℕ → ℕ → ℕ → Bool → KeepRowAnswer → Pass → Pass → Type 0
+TriesForRow b segment row cutoff room kept.Moved p q =
+    AfterLooks b segment row cutoff TakesOneBit p q
+TriesForRow b segment row cutoff room kept.Left p q =
     TakesNoBit p q
     ⊎ (AfterLooks b segment row cutoff TakesOneBit p q
-    × (has_room b.shape p ≡ true) × ¬ (IsNamed b.shape segment row (marked q)))
-TriesForRow b segment row cutoff kept.Busy p q = AfterLooks b segment row cutoff IsBusy p q
-TriesForRow b segment row cutoff _ p q = TakesNoBit p q
+    × (room ≡ true) × ¬ (IsNamed b.shape segment row (marked q)))
+TriesForRow b segment row cutoff room kept.Busy p q = AfterLooks b segment row cutoff IsBusy p q
+TriesForRow b segment row cutoff room _ p q = TakesNoBit p q
 
 -- The pass tried for one bit at most.
 -- It draws no overflow bucket, and does nothing of what readers do.
-pub record CostsOfKeepRow (b : Board) (segment row cutoff : ℕ) (told : KeepRowAnswer) (p q : Pass)
-    : Type 0 where
-  pub tries : TriesForRow b segment row cutoff told p q
+pub record CostsOfKeepRow (b : Board) (segment row cutoff : ℕ) (room : Bool) (told : KeepRowAnswer)
+    (p q : Pass) : Type 0 where
+  pub tries : TriesForRow b segment row cutoff room told p q
   pub draws_nothing : DrawsNothing p q
   pub reads_nothing : ReadsNothing p q
 
@@ -110,4 +121,15 @@ pub record KeepsItem (b : Board) (segment row cutoff : ℕ) (told : KeepRowAnswe
   pub not_yours : (told ≡ kept.NotYours) ↔ (state_of p segment ≡ None)
   pub not_used : (told ≡ kept.NotUsed)
       ↔ (IsSome (state_of p segment) × ¬ (HasRow segment row p))
-  pub costs : CostsOfKeepRow b segment row cutoff told p q
+  pub costs : CostsOfKeepRow b segment row cutoff (has_room b.shape p) told p q
+
+-- A keep of one row into this segment has this answer.
+-- It is NotYours and NotUsed exactly where a keep of one row is.
+pub record KeepsItemInto (b : Board) (segment row cutoff into : ℕ) (told : KeepRowAnswer)
+    (p q : Pass) : Type 0 where
+  pub on : GoesOn b p q
+  pub answer : IsKeepRowIntoAnswer b.shape segment row cutoff into told p q
+  pub not_yours : (told ≡ kept.NotYours) ↔ (state_of p segment ≡ None)
+  pub not_used : (told ≡ kept.NotUsed)
+      ↔ (IsSome (state_of p segment) × ¬ (HasRow segment row p))
+  pub costs : CostsOfKeepRow b segment row cutoff (has_room_in b.shape into p) told p q

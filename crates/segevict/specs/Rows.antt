@@ -1,10 +1,11 @@
 -- The rows of a segment of the pass's own, each with the word of a chain that names it.
 use Rattle.std.specs.Prelude.{◌≡◌, ℕ, ◌<◌, List, Option, Some, MatchOption}
 use Rattle.segword.specs.Words.{IsSameItem, Item, item_word}
+use Rattle.segmodel.specs.declared.answer.SegState.TheVariants.{InUse}
 use Rattle.segmodel.specs.Words.{Begins, bucket_of, owner, tag_of}
 use Rattle.segcore.specs.Words.{row_after, RowAt, RowGone, word}
 use Rattle.segbase.specs.Words.{Board, cell_at, number, Pass, position, trace}
-use Rattle.segbase.specs.Words.{used_of}
+use Rattle.segbase.specs.Words.{state_of, used_of}
 use Rattle.segwrite.specs.Words.{IsInChain, Target}
 
 -- ---- rows
@@ -12,6 +13,10 @@ use Rattle.segwrite.specs.Words.{IsInChain, Target}
 -- the row is one of those of the pass's segment that are used
 abbrev pub IsUsedRow : ℕ → ℕ → Pass → Type 0
 IsUsedRow segment row p = (used : ℕ) × (used_of p segment ≡ Some used) × (row < used)
+
+-- the segment is in use, and the row is one of its used rows
+abbrev pub HasRow : ℕ → ℕ → Pass → Type 0
+HasRow segment row p = (state_of p segment ≡ Some InUse) × IsUsedRow segment row p
 
 -- The item, its frequency aside,
 -- is that of a key that was linked to a row of the pass's own in this filling.

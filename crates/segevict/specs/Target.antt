@@ -1,8 +1,26 @@
 -- Where a keep moves items to, and what the pass keeps of the rows that it uses there.
-use Rattle.std.specs.Prelude.{◌≡◌, ◌≢◌, ℕ, ◌+◌, Some}
-use Rattle.segbase.specs.Words.{current_of, deadline_of, is_holding_of, locked_of, Pass, state_of}
-use Rattle.segbase.specs.Words.{used_of}
-use Rattle.segstore.specs.Words.{memo}
+use Rattle.std.specs.Prelude.{◌≡◌, ◌≢◌, ℕ, ◌+◌, ◌<◌, Bool, Some}
+use Rattle.segword.specs.Words.{Shape}
+use Rattle.segmodel.specs.declared.answer.SegState.TheVariants.{InUse}
+use Rattle.segbase.specs.Words.{Board, current_of, deadline_of, is_holding_of, locked_of, Pass}
+use Rattle.segbase.specs.Words.{state_of, used_of}
+use Rattle.segstore.specs.Words.{is_below, memo}
+
+-- Items of the segment can be moved into this one, of the pass's own: it is in use,
+-- it is not the same, and it has the same deadline.
+pub record IsMoveTarget (segment into : ℕ) (p : Pass) : Type 0 where
+  pub in_use : state_of p into ≡ Some InUse
+  pub other : segment ≢ into
+  pub deadlines : deadline_of p segment ≡ deadline_of p into
+
+-- whether not all rows of the segment are used
+abbrev pub has_room_in : Shape → ℕ → Pass → Bool
+has_room_in shape segment p = is_below shape.rows (used_of p segment)
+
+-- the row is the first one of the segment that isn't used
+pub record IsNextIn (b : Board) (segment row : ℕ) (p : Pass) : Type 0 where
+  pub used : used_of p segment ≡ Some row
+  pub fits : row < b.shape.rows
 
 -- items of the segment can be moved into this one: it is current, it is not the same,
 -- and it has the same deadline

@@ -7,8 +7,8 @@ use Rattle.segcore.specs.declared.event.Event.TheVariants.{Unlinked}
 use Rattle.segcore.specs.Words.{linked_in, row_after, RowGone}
 use Rattle.segcore.specs.declared.event.Leaving.TheVariants.{Evicts}
 use Rattle.segbase.specs.Words.{AddsEvents, Board, marked, mine, number, Pass, trace}
-use Rattle.segevict.specs.declared.eviction.RowAnswer.{RowAnswer}
-use Rattle.segevict.specs.declared.eviction.RowAnswer.TheVariants as row_answer
+use Rattle.segevict.specs.declared.eviction.EvictRowAnswer.{EvictRowAnswer}
+use Rattle.segevict.specs.declared.eviction.EvictRowAnswer.TheVariants as evict_row
 use Rattle.segstore.specs.Words.{DrawsNothing, GoesOn, HasCleanBit, memo, ReadsNothing}
 use Rattle.segevict.specs.Rows.{KeepsGone}
 use Rattle.segevict.specs.Tries.{IsInTheWay, StoodAtRow, TriesFor}
@@ -33,21 +33,23 @@ pub record TakesRow (b : Board) (bucket : ℕ) (item : Item) (told : Bool) (p q 
 
 -- ---- a row
 
-abbrev pub IsRowAnswer : Board → ℕ → ℕ → RowAnswer → Pass → Pass → Type 0
-IsRowAnswer b segment row row_answer.Evicted p q =
+abbrev pub IsRowAnswer : Board → ℕ → ℕ → EvictRowAnswer → Pass → Pass → Type 0
+IsRowAnswer b segment row evict_row.Evicted p q =
     KeepsGone b segment p q
     × RowGone b.shape segment row (trace q)
     × ((key : List ℕ)
     × (linked_in (marked p) segment row ≡ Some key)
     × (mine q ≡ entry.Evicted (number p) key segment ∷ mine p))
-IsRowAnswer b segment row row_answer.Gone p q =
+IsRowAnswer b segment row evict_row.Left p q =
     KeepsGone b segment p q × RowGone b.shape segment row (trace q) × (mine q ≡ mine p)
-IsRowAnswer b segment row row_answer.Busy p q =
+IsRowAnswer b segment row evict_row.Busy p q =
     (mine q ≡ mine p) × IsInTheWay b.shape (StoodAtRow b.shape segment row p q) p q
+IsRowAnswer b segment row _ p q = ⊥
 
 -- The key of a row is taken out, or gone already, or the bit of its bucket can't be taken.
 -- The pass tries for a bit only for that key, and only once.
-pub record EvictsRow (b : Board) (segment row : ℕ) (told : RowAnswer) (p q : Pass) : Type 0 where
+pub record EvictsRow (b : Board) (segment row : ℕ) (told : EvictRowAnswer) (p q : Pass)
+    : Type 0 where
   pub on : GoesOn b p q
   pub plain : q.plain ≡ p.plain
   pub memo : memo q ≡ memo p

@@ -1,12 +1,15 @@
 -- The words of this crate that others use, from one place.
-pub use Rattle.segevict.specs.Evicting.{AreEvictions, ended, EvictsSegment, IsEvictAnswer}
-pub use Rattle.segevict.specs.Evicting.{TakesOut}
+pub use Rattle.segevict.specs.EvictedRow.{EvictsItem, IsEvictRowAnswer, TakesKeyOut}
+pub use Rattle.segevict.specs.Evicting.{AreEvictions, ended, EvictsRest, EvictsSegment}
+pub use Rattle.segevict.specs.Evicting.{IsEvictAnswer, TakesOut}
 pub use Rattle.segevict.specs.Frequencies.{HadFrequency, HadThen, WasOften, WasSeldom}
 pub use Rattle.segevict.specs.Keeping.{AreMoves, AreSeldom, GoesInOrder, GoesOver, IsKeepAnswer}
 pub use Rattle.segevict.specs.Keeping.{KeepsItems, MovesAway, MovesItems}
 pub use Rattle.segevict.specs.KeptRows.{LacksBit, LacksRoom, LeavesItsItem, MovesItsItem}
-pub use Rattle.segevict.specs.Naming.{AreNamed, CountsRows, IsNamed, own_at, sum_below, SumsUp}
-pub use Rattle.segevict.specs.Naming.{Tallies, used_at, WasNamed}
-pub use Rattle.segevict.specs.OneRow.{CarriesItem, HasRow, IsKeepRowAnswer, KeepsItem}
-pub use Rattle.segevict.specs.Target.{IsKeepTarget, UsesRows}
+pub use Rattle.segevict.specs.Naming.{AreNamed, AreUnnamed, CountsRows, IsNamed, own_at}
+pub use Rattle.segevict.specs.Naming.{sum_below, SumsUp, Tallies, used_at, WasNamed}
+pub use Rattle.segevict.specs.OneRow.{CarriesItem, IsKeepRowAnswer, IsKeepRowIntoAnswer}
+pub use Rattle.segevict.specs.OneRow.{KeepsItem, KeepsItemInto, KeepsTo}
+pub use Rattle.segevict.specs.Rows.{HasRow}
+pub use Rattle.segevict.specs.Target.{has_room_in, IsKeepTarget, IsMoveTarget, UsesRows}
 pub use Rattle.segevict.specs.Tries.{IsInTheWay, StoodIn}

@@ -1,29 +1,37 @@
 //! Evictions: the keys that stand in a segment of the pass's own are taken out of it,
-//! one after the other.
+//! one after the other, all of them or those of some rows.
 ghost use Rattle.std.specs.Prelude.{◌≡◌, ◌≢◌, Some};
 ghost use Rattle.segmodel.specs.declared.answer.SegState.TheVariants.{InUse};
 ghost use Rattle.segmodel.specs.declared.answer.EvictAnswer.TheVariants.{NotYours};
 ghost use Rattle.segbase.specs.Words.{current_of, IsPassOf, state_of};
 ghost use Rattle.segstore.specs.Words.{GoesOn, HasCleanBit, IsQuiet, memo};
-ghost use Rattle.segevict.specs.Evicting.{CostsOfEvict, ended, EvictsSegment, IsEvictAnswer};
+ghost use Rattle.segevict.specs.EvictedRow.{EvictsItem};
+ghost use Rattle.segevict.specs.Evicting.{CostsOfEvict, ended, EvictsRest, EvictsSegment};
+ghost use Rattle.segevict.specs.Evicting.{IsEvictAnswer};
+ghost use Rattle.segevict.specs.Naming.{AreUnnamed};
 ghost use Rattle.segevict.specs.Rows.{IsUsedRow, IsStoredIn};
 ghost use Rattle.segevict.specs.Unlinking.{TakesRow, EvictsRow};
 
-use crate::row::{find_row, item_of_row};
+use crate::row::{find_row, has_row, item_of_row};
 use segbase::{Board, Pass};
 use segmodel::{EvictAnswer, SegState};
 use segstore::take_to_write;
 use segword::Item;
 use segwrite::clear;
 
-// What became of the key of a row.
-pub(crate) enum RowAnswer {
-    // The key was taken out of the segment.
+/// What became of the key of a row.
+#[derive(Clone, Copy, Debug, PartialEq, Eq)]
+pub enum EvictRowAnswer {
+    /// The key was taken out of the segment.
     Evicted,
-    // The key didn't stand there any more.
-    Gone,
-    // The bit of the key's bucket was found set at each try, or the pass itself has the bucket locked.
+    /// No item names the row any more.
+    Left,
+    /// The bit of the key's bucket was found set at each try, or the pass itself has the bucket locked.
     Busy,
+    /// The segment isn't one of the pass's own.
+    NotYours,
+    /// The segment isn't in use, or the row isn't one of its used rows.
+    NotUsed,
 }
 
 // Lets the pass store nothing more into the segment.
@@ -42,6 +50,16 @@ pub fn evict(board: &Board, pass: &mut Pass, segment: u32) -> EvictAnswer
     requires quiet { IsQuiet board.now pass.old }
     ensures evicts { EvictsSegment board.now segment result pass.old pass.new }
 {
+    evict_rest(board, pass, segment, 0)
+}
+
+/// Takes out the keys of a segment as an evict does, but goes over its rows from this one on.
+/// No item names a row before it.
+pub fn evict_rest(board: &Board, pass: &mut Pass, segment: u32, from: u32) -> EvictAnswer
+    requires quiet { IsQuiet board.now pass.old }
+    requires unnamed { AreUnnamed board.now.shape segment from pass.old }
+    ensures evicts { EvictsRest board.now segment from result pass.old pass.new }
+{
     let Some(state) = pass.state(segment) else {
         return EvictAnswer::NotYours;
     };
@@ -49,51 +67,70 @@ pub fn evict(board: &Board, pass: &mut Pass, segment: u32) -> EvictAnswer
         return EvictAnswer::Evicted(0);
     }
     end_storing(pass, segment);
-    evict_rows(board, pass, segment)
+    evict_rows(board, pass, segment, from)
 }
 
-// Takes out the keys of the rows of a segment in which nothing is stored any more.
-fn evict_rows(board: &Board, pass: &mut Pass, segment: u32) -> EvictAnswer
+// Takes out the keys of the rows from this one on.
+// Nothing is stored in the segment any more.
+fn evict_rows(board: &Board, pass: &mut Pass, segment: u32, from: u32) -> EvictAnswer
     requires quiet { IsQuiet board.now pass.old }
     requires in_use { state_of pass.old segment ≡ Some InUse }
     requires ended { current_of pass.old ≢ Some segment }
+    requires unnamed { AreUnnamed board.now.shape segment from pass.old }
     ensures on { GoesOn board.now pass.old pass.new }
     ensures answer { IsEvictAnswer board.now.shape segment result pass.old pass.new }
-    ensures costs { CostsOfEvict board.now segment result pass.old pass.new }
+    ensures costs { CostsOfEvict board.now segment from result pass.old pass.new }
     ensures yours { result ≢ NotYours }
 {
     let used = pass.used(segment).unwrap();
     let mut evicted = 0;
-    for row in 0..used {
-        match evict_row(board, pass, segment, row) {
-            RowAnswer::Evicted => evicted += 1,
-            RowAnswer::Gone => {}
-            RowAnswer::Busy => return EvictAnswer::Busy(evicted),
+    for row in from..used {
+        match evict_used_row(board, pass, segment, row) {
+            EvictRowAnswer::Evicted => evicted += 1,
+            EvictRowAnswer::Left => {}
+            EvictRowAnswer::Busy => return EvictAnswer::Busy(evicted),
+            EvictRowAnswer::NotYours | EvictRowAnswer::NotUsed => unreachable!(),
         }
     }
     pass.set_state(segment, SegState::Evicted);
     EvictAnswer::Evicted(evicted)
 }
 
-// Takes out the key of a row, if it stands there. The bit of the key's bucket is taken only then.
-fn evict_row(board: &Board, pass: &mut Pass, segment: u32, row: u32) -> RowAnswer
+/// Takes out the key of one row of a segment of the pass's own, as an evict does with each row.
+/// The segment stays in use, and the row used. If it is current, it stays so.
+pub fn evict_row(board: &Board, pass: &mut Pass, segment: u32, row: u32) -> EvictRowAnswer
+    requires quiet { IsQuiet board.now pass.old }
+    ensures evicts { EvictsItem board.now segment row result pass.old pass.new }
+{
+    if pass.state(segment).is_none() {
+        return EvictRowAnswer::NotYours;
+    }
+    if !has_row(pass, segment, row) {
+        return EvictRowAnswer::NotUsed;
+    }
+    evict_used_row(board, pass, segment, row)
+}
+
+// Takes out the key of a used row, if it stands there.
+// The bit of the key's bucket is taken only then.
+fn evict_used_row(board: &Board, pass: &mut Pass, segment: u32, row: u32) -> EvictRowAnswer
     requires quiet { IsQuiet board.now pass.old }
     requires used { IsUsedRow segment row pass.old }
     ensures evicts { EvictsRow board.now segment row result pass.old pass.new }
 {
     let (bucket, item) = item_of_row(board, pass, segment, row);
     if find_row(board, pass, bucket, item).is_none() {
-        return RowAnswer::Gone;
+        return EvictRowAnswer::Left;
     }
     if !take_to_write(board, pass, bucket) {
-        return RowAnswer::Busy;
+        return EvictRowAnswer::Busy;
     }
     let is_evicted = clear_row(board, pass, bucket, item);
     board.release(pass, bucket, false);
     if is_evicted {
-        RowAnswer::Evicted
+        EvictRowAnswer::Evicted
     } else {
-        RowAnswer::Gone
+        EvictRowAnswer::Left
     }
 }
 

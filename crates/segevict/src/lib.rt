@@ -8,6 +8,6 @@ mod named;
 mod retention;
 mod row;
 
-pub use eviction::evict;
+pub use eviction::{EvictRowAnswer, evict, evict_rest, evict_row};
 pub use named::{RowCounts, count_rows};
-pub use retention::{KeepRowAnswer, keep, keep_row};
+pub use retention::{KeepRowAnswer, keep, keep_row, keep_row_into};

@@ -1,22 +1,21 @@
 //! Items kept over an eviction to come: those of a segment that were read often
 //! are moved into the segment that the pass stores into.
-ghost use Rattle.std.specs.Prelude.{◌≡◌, ℕ, MatchOption, Some, true, false};
+ghost use Rattle.std.specs.Prelude.{◌≡◌, ◌≢◌, ℕ, MatchOption, Some, true, false};
 ghost use Rattle.segmodel.specs.declared.answer.SegState.TheVariants.{InUse};
 ghost use Rattle.segcore.specs.Words.{Slot};
-ghost use Rattle.segbase.specs.Words.{IsPassOf, state_of};
+ghost use Rattle.segbase.specs.Words.{deadline_of, IsPassOf, state_of};
 ghost use Rattle.segstore.specs.Words.{HasCleanBit, IsQuiet, KeepsSegments};
-ghost use Rattle.segwrite.specs.Words.{IsNextRow};
 ghost use Rattle.segevict.specs.Keeping.{KeepsItems};
 ghost use Rattle.segevict.specs.Moving.{KeepsRow, MovesRow};
-ghost use Rattle.segevict.specs.OneRow.{HasRow, KeepsItem};
+ghost use Rattle.segevict.specs.OneRow.{KeepsItem, KeepsItemInto};
 ghost use Rattle.segevict.specs.Relinking.{HasRelinked, Relinks, TriesToRelink};
 ghost use Rattle.segevict.specs.Rows.{IsUsedRow, IsStoredIn};
-ghost use Rattle.segevict.specs.Target.{IsKeepTarget};
+ghost use Rattle.segevict.specs.Target.{has_room_in, IsKeepTarget, IsMoveTarget, IsNextIn};
 
-use crate::row::{find_row, item_of_row};
+use crate::row::{find_row, has_row, item_of_row};
 use segbase::{Board, Pass};
 use segmodel::{KeepAnswer, SegState};
-use segstore::{RowRef, copy_row, next_row, take_to_write};
+use segstore::{RowRef, copy_row, take_to_write};
 use segword::Item;
 use segwrite::Target;
 
@@ -27,7 +26,7 @@ pub enum KeepRowAnswer {
     Moved,
     /// The item was read too seldom, or doesn't stand there any more.
     Left,
-    /// No other segment with the same deadline is current, or it has no row left.
+    /// There is no segment to move the item into, or it has no row left.
     NoRoom,
     /// The bit of the item's bucket was found set at each try, or the pass itself has the bucket locked.
     Busy,
@@ -70,20 +69,52 @@ pub fn keep_row(board: &Board, pass: &mut Pass, segment: u32, row: u32, cutoff: 
         return KeepRowAnswer::NotUsed;
     }
     match keep_target(pass, segment) {
-        Some(into) => keep_row_into(board, pass, RowRef { segment, row }, into, cutoff),
+        Some(into) => keep_used_row(board, pass, RowRef { segment, row }, into, cutoff),
         None => KeepRowAnswer::NoRoom,
     }
 }
 
-// Whether the segment is in use, and the row is one of its used rows.
-fn has_row(pass: &Pass, segment: u32, row: u32) -> bool
-    ensures yes { result ≡ true → HasRow segment row pass.now }
-    ensures no { result ≡ false → ¬ (HasRow segment row pass.now) }
+/// Moves the item of one row so into the segment that the caller names.
+/// That is another segment in use of the pass's own, with the same deadline. Any other is NoRoom.
+pub fn keep_row_into(
+    board: &Board,
+    pass: &mut Pass,
+    row: RowRef,
+    cutoff: u8,
+    into: u32,
+) -> KeepRowAnswer
+    requires quiet { IsQuiet board.now pass.old }
+    ensures keeps { KeepsItemInto board.now row.segment row.row cutoff into result
+        pass.old pass.new }
 {
-    let Some(used) = pass.used(segment) else {
-        return false;
-    };
-    pass.state(segment) == Some(SegState::InUse) && row < used
+    if pass.state(row.segment).is_none() {
+        return KeepRowAnswer::NotYours;
+    }
+    if !has_row(pass, row.segment, row.row) {
+        return KeepRowAnswer::NotUsed;
+    }
+    if !is_move_target(pass, row.segment, into) {
+        return KeepRowAnswer::NoRoom;
+    }
+    keep_used_row(board, pass, row, into, cutoff)
+}
+
+// Whether items of a segment can be moved into this one.
+fn is_move_target(pass: &Pass, segment: u32, into: u32) -> bool
+    ensures yes { result ≡ true → IsMoveTarget segment into pass.now }
+    ensures no { result ≡ false → ¬ (IsMoveTarget segment into pass.now) }
+{
+    pass.state(into) == Some(SegState::InUse) && is_alike(pass, segment, into)
+}
+
+// Whether they are two segments, with the same deadline.
+fn is_alike(pass: &Pass, segment: u32, into: u32) -> bool
+    ensures yes { result ≡ true → (segment ≢ into)
+        × (deadline_of pass.now segment ≡ deadline_of pass.now into) }
+    ensures no { result ≡ false → ¬ ((segment ≢ into)
+        × (deadline_of pass.now segment ≡ deadline_of pass.now into)) }
+{
+    into != segment && pass.deadline(into) == pass.deadline(segment)
 }
 
 // The current segment, if items of this one can be moved into it.
@@ -92,8 +123,7 @@ fn keep_target(pass: &Pass, segment: u32) -> Option<u32>
         (λ into. IsKeepTarget segment into pass.now) }
 {
     let into = pass.current()?;
-    let is_target = into != segment && pass.deadline(into) == pass.deadline(segment);
-    is_target.then_some(into)
+    is_alike(pass, segment, into).then_some(into)
 }
 
 // Moves the items of the rows of a segment, row after row.
@@ -106,7 +136,7 @@ fn keep_rows(board: &Board, pass: &mut Pass, segment: u32, into: u32, cutoff: u8
     let used = pass.used(segment).unwrap();
     let mut kept = 0;
     for row in 0..used {
-        match keep_row_into(board, pass, RowRef { segment, row }, into, cutoff) {
+        match keep_used_row(board, pass, RowRef { segment, row }, into, cutoff) {
             KeepRowAnswer::Moved => kept += 1,
             KeepRowAnswer::Left => {}
             KeepRowAnswer::NoRoom => return KeepAnswer::NoRoom(kept),
@@ -119,7 +149,7 @@ fn keep_rows(board: &Board, pass: &mut Pass, segment: u32, into: u32, cutoff: u8
 
 // Moves the item of a used row into this segment, if it was read often enough.
 // The bit of the item's bucket is taken only then.
-fn keep_row_into(
+fn keep_used_row(
     board: &Board,
     pass: &mut Pass,
     row: RowRef,
@@ -128,7 +158,7 @@ fn keep_row_into(
 ) -> KeepRowAnswer
     requires quiet { IsQuiet board.now pass.old }
     requires used { IsUsedRow row.segment row.row pass.old }
-    requires target { IsKeepTarget row.segment into pass.old }
+    requires target { IsMoveTarget row.segment into pass.old }
     ensures keeps { KeepsRow board.now row.segment row.row into cutoff result pass.old pass.new }
 {
     let (bucket, item) = item_of_row(board, pass, row.segment, row.row);
@@ -138,7 +168,7 @@ fn keep_row_into(
     if Item::unpack(seen.word).unwrap().freq < cutoff {
         return KeepRowAnswer::Left;
     }
-    let Ok(next) = next_row(board, pass) else {
+    let Some(next) = next_row_in(board, pass, into) else {
         return KeepRowAnswer::NoRoom;
     };
     if !take_to_write(board, pass, bucket) {
@@ -146,7 +176,7 @@ fn keep_row_into(
     }
     let to = RowRef {
         segment: into,
-        row: next.row,
+        row: next,
     };
     let is_moved = move_row(board, pass, bucket, item, to);
     board.release(pass, bucket, false);
@@ -157,6 +187,15 @@ fn keep_row_into(
     }
 }
 
+// The first row of a segment that isn't used.
+fn next_row_in(board: &Board, pass: &Pass, segment: u32) -> Option<u32>
+    ensures next { MatchOption result (has_room_in board.now.shape segment pass.now ≡ false)
+        (λ row. IsNextIn board.now segment row pass.now) }
+{
+    let used = pass.used(segment)?;
+    (used < board.shape().rows).then_some(used)
+}
+
 // Moves the item of a row into this row of another segment, under the bit of its bucket.
 // Returns false if no word names the row any more.
 fn move_row(board: &Board, pass: &mut Pass, bucket: u32, item: Item, to: RowRef) -> bool
@@ -164,8 +203,8 @@ fn move_row(board: &Board, pass: &mut Pass, bucket: u32, item: Item, to: RowRef)
     requires segments { KeepsSegments board.now pass.old }
     requires stored { IsStoredIn board.now bucket item pass.old }
     requires bit { HasCleanBit board.now pass.old bucket }
-    requires target { IsKeepTarget item.seg to.segment pass.old }
-    requires next { IsNextRow board.now to.segment to.row pass.old }
+    requires target { IsMoveTarget item.seg to.segment pass.old }
+    requires next { IsNextIn board.now to.segment to.row pass.old }
     ensures moves { MovesRow board.now bucket item to.segment to.row result pass.old pass.new }
 {
     let Some(target) = find_row(board, pass, bucket, item) else {

@@ -1,13 +1,25 @@
 //! Rows of a segment of the pass's own: whose key was stored in each, and which word names it.
-ghost use Rattle.std.specs.Prelude.{◌≡◌, ◌<◌, Option};
+ghost use Rattle.std.specs.Prelude.{◌≡◌, ◌<◌, Option, true, false};
 ghost use Rattle.segbase.specs.Words.{HasStep, IsPassOf};
 ghost use Rattle.segstore.specs.Words.{Idles, IsQuiet};
-ghost use Rattle.segevict.specs.Rows.{IsUsedRow, IsStoredIn, FindsRow};
+ghost use Rattle.segevict.specs.Rows.{HasRow, IsUsedRow, IsStoredIn, FindsRow};
 
 use segbase::{Board, Pass, Place};
+use segmodel::SegState;
 use segstore::next_place;
 use segword::{Item, hash, same_item, tag_of};
 use segwrite::Target;
+
+// Whether the segment is in use, and the row is one of its used rows.
+pub(crate) fn has_row(pass: &Pass, segment: u32, row: u32) -> bool
+    ensures yes { result ≡ true → HasRow segment row pass.now }
+    ensures no { result ≡ false → ¬ (HasRow segment row pass.now) }
+{
+    let Some(used) = pass.used(segment) else {
+        return false;
+    };
+    pass.state(segment) == Some(SegState::InUse) && row < used
+}
 
 // The bucket and the item of the key that was stored in a row. The frequency is left open.
 pub(crate) fn item_of_row(board: &Board, pass: &mut Pass, segment: u32, row: u32) -> (u32, Item)

@@ -14,3 +14,4 @@ pub mod Listing
 pub mod Ended
 pub mod Commands
 pub mod OrderFacts
+pub mod UnnamedRows

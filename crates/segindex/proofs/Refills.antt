@@ -1,5 +1,5 @@
 -- A refill in the terms of its answer.
-use Rattle.std.proofs.Common.{◌≡◌, ◌≢◌, ℕ, IsSome, ◌<◌, Bool, true, false, cond, eqb, List, [], ◌∷◌, Some, None, refl, sym, ap, ◌∙◌, subst, inl, inr, ⊎_elim, arith}
+use Rattle.std.proofs.Common.{◌≡◌, ◌≢◌, ℕ, IsSome, ◌<◌, Bool, true, false, cond, eqb, List, [], ◌∷◌, Option, Some, None, refl, sym, ap, ◌∙◌, subst, inl, inr, ⊎_elim, arith}
 use Rattle.std.proofs.lemmas.Bool.{cases_eq, cases_Bool, cond-true, cond-false, eq-eqb, false≢true}
 use Rattle.std.proofs.lemmas.Option.{same_Some, none-some}
 use Rattle.segmodel.specs.Words.{RefillAnswer, SegState}
@@ -13,9 +13,9 @@ use Rattle.segbase.specs.Words.{AddsEvents, Board, holding, mine, number, own_of
 use Rattle.segbase.specs.Words.{state_in, state_of, trace, used_in, used_of}
 use Rattle.segbase.proofs.Moves.{moved_inside, moved_mine}
 use Rattle.segbase.proofs.Owned.{state_there}
-use Rattle.segstore.specs.Words.{CostsNothing, FillsAnew, GoesOn, Idles, is_held_in, IsOutcome}
+use Rattle.segstore.specs.Words.{CostsNothing, FillsWith, GoesOn, Idles, is_held_in, IsOutcomeWith}
 use Rattle.segstore.specs.Words.{IsQuiet, KeepsSegments}
-use Rattle.segindex.specs.Refilling.{IsBeingRead, IsRefillAnswer, Refills}
+use Rattle.segindex.specs.Refilling.{IsBeingRead, IsRefillAnswerWith, Refills}
 use Rattle.segstore.proofs.Keeping.{refilled_state, refilled_used, others_state, others_used}
 use Rattle.segstore.proofs.Bits.{bit_before}
 use Rattle.segstore.proofs.Draws.{moved_undrawn}
@@ -26,8 +26,8 @@ use Rattle.segstore.proofs.Costs.{costs_nothing, idle_costs_nothing}
 
 -- ---- quiet again
 
-fills_settles : (b : Board) (s d : ℕ) (p q : Pass) → FillsAnew b s d p q → KeepsSegments b q → StaysQuiet b (Refilled (number p) s d ∷ []) p q
-fills_settles b s d p q f segments = record {
+fills_settles : (b : Board) (s d : ℕ) (c : Option ℕ) (p q : Pass) → FillsWith b s d c p q → KeepsSegments b q → StaysQuiet b (Refilled (number p) s d ∷ []) p q
+fills_settles b s d c p q f segments = record {
   moved = f.moved;
   memo = f.memo;
   locked_of = ap (λ (x : PlainPart). x.locked) f.plain;
@@ -39,11 +39,11 @@ fills_settles b s d p q f segments = record {
   stays = λ t there. (there, there);
 }
 
-pub refill_goes_on : (b : Board) (s d : ℕ) (r : RefillAnswer) (p q : Pass) → IsQuiet b p → IsOutcome b s d r p q → KeepsSegments b q → GoesOn b p q
-refill_goes_on b s d refill.Refilled p q quiet is k = let own = Refilled (number p) s d ∷ [] in goes_on b own p q is.moved (quiet_again b own p q quiet (fills_settles b s d p q is k))
-refill_goes_on b s d refill.NotYours p q quiet is k = rw is (goes_same b p quiet)
-refill_goes_on b s d refill.NotEvicted p q quiet is k = rw is (goes_same b p quiet)
-refill_goes_on b s d refill.Held p q quiet is k = goes_nowhere b p q quiet is.0.moved is.0.plain is.0.memo
+pub refill_goes_on : (b : Board) (s d : ℕ) (c : Option ℕ) (r : RefillAnswer) (p q : Pass) → IsQuiet b p → IsOutcomeWith b s d c r p q → KeepsSegments b q → GoesOn b p q
+refill_goes_on b s d c refill.Refilled p q quiet is k = let own = Refilled (number p) s d ∷ [] in goes_on b own p q is.moved (quiet_again b own p q quiet (fills_settles b s d c p q is k))
+refill_goes_on b s d c refill.NotYours p q quiet is k = rw is (goes_same b p quiet)
+refill_goes_on b s d c refill.NotEvicted p q quiet is k = rw is (goes_same b p quiet)
+refill_goes_on b s d c refill.Held p q quiet is k = goes_nowhere b p q quiet is.0.moved is.0.plain is.0.memo
 
 -- ---- the answer
 
@@ -58,24 +58,24 @@ is_read b s other p q quiet i there = ⊎_elim
     (λ ne. inl (other, ne, there))
     (cases_eq other (number q))
 
-pub refill_answers : (b : Board) (s d : ℕ) (r : RefillAnswer) (p q : Pass) → IsQuiet b p → IsOutcome b s d r p q → IsRefillAnswer s d r p q
-refill_answers b s d refill.Refilled p q quiet is = record {
+pub refill_answers : (b : Board) (s d : ℕ) (c : Option ℕ) (r : RefillAnswer) (p q : Pass) → IsQuiet b p → IsOutcomeWith b s d c r p q → IsRefillAnswerWith s d c r p q
+refill_answers b s d c refill.Refilled p q quiet is = record {
   entry = moved_mine b (Refilled (number p) s d ∷ []) p q is.moved ∙ cond-true (eqb (number p) (number p)) (entry.Refilled (number p) s d ∷ mine p) (mine p) (eq-eqb (number p) (number p) refl);
   own = is.own;
   plain = is.plain;
   memo = is.memo;
   once = is.once;
 }
-refill_answers b s d refill.NotYours p q quiet is = is
-refill_answers b s d refill.NotEvicted p q quiet is = is
-refill_answers b s d refill.Held p q quiet is = (does_nothing b p q quiet is.0.moved is.0.plain is.0.memo, is_read b s is.1.0 p q quiet is.0 is.1.1, is.2, is.3)
+refill_answers b s d c refill.NotYours p q quiet is = is
+refill_answers b s d c refill.NotEvicted p q quiet is = is
+refill_answers b s d c refill.Held p q quiet is = (does_nothing b p q quiet is.0.moved is.0.plain is.0.memo, is_read b s is.1.0 p q quiet is.0 is.1.1, is.2, is.3)
 
-pub refill_costs_nothing : (b : Board) (s d : ℕ) (r : RefillAnswer) (p q : Pass) → IsOutcome b s d r p q → CostsNothing p q
-refill_costs_nothing b s d refill.Refilled p q is = let own = Refilled (number p) s d ∷ [] in
+pub refill_costs_nothing : (b : Board) (s d : ℕ) (c : Option ℕ) (r : RefillAnswer) (p q : Pass) → IsOutcomeWith b s d c r p q → CostsNothing p q
+refill_costs_nothing b s d c refill.Refilled p q is = let own = Refilled (number p) s d ∷ [] in
     costs_nothing p q (took_none b own p q is.moved refl (λ bucket. refl)) (moved_undrawn b own p q is.moved (tt, tt)) (no_reader b own p q is.moved (tt, tt))
-refill_costs_nothing b s d refill.NotYours p q is = rw is refl
-refill_costs_nothing b s d refill.NotEvicted p q is = rw is refl
-refill_costs_nothing b s d refill.Held p q is = idle_costs_nothing b p q is.0.moved
+refill_costs_nothing b s d c refill.NotYours p q is = rw is refl
+refill_costs_nothing b s d c refill.NotEvicted p q is = rw is refl
+refill_costs_nothing b s d c refill.Held p q is = idle_costs_nothing b p q is.0.moved
 
 -- ---- what is known of the segments
 
@@ -113,9 +113,9 @@ abbrev is_evicted : SegState → Bool
 is_evicted Evicted = true
 is_evicted state = false
 
-pub refill_held : (b : Board) (s d : ℕ) (r : RefillAnswer) (p q : Pass) → IsQuiet b p → IsOutcome b s d r p q → (r ≡ refill.NotYours → state_of p s ≡ None) → (r ≡ refill.NotEvicted → state_of p s ≡ Some InUse) → state_of p s ≡ Some Evicted → is_held_in (holding p) s ≡ true → r ≡ refill.Held
-refill_held b s d refill.Refilled p q quiet is yours used evicted held =
+pub refill_held : (b : Board) (s d : ℕ) (c : Option ℕ) (r : RefillAnswer) (p q : Pass) → IsQuiet b p → IsOutcomeWith b s d c r p q → (r ≡ refill.NotYours → state_of p s ≡ None) → (r ≡ refill.NotEvicted → state_of p s ≡ Some InUse) → state_of p s ≡ Some Evicted → is_held_in (holding p) s ≡ true → r ≡ refill.Held
+refill_held b s d c refill.Refilled p q quiet is yours used evicted held =
     absurd (stays_unfilled b s d p q is.moved (subst (λ n. 0 < n) (sym (quiet.inside s ∙ ap (λ t. cond t 1 0) held)) (omega arith)))
-refill_held b s d refill.NotYours p q quiet is yours used evicted held = absurd (none-some Evicted (sym (yours refl) ∙ evicted))
-refill_held b s d refill.NotEvicted p q quiet is yours used evicted held = absurd (false≢true (ap is_evicted (same_Some InUse Evicted (sym (used refl) ∙ evicted))))
-refill_held b s d refill.Held p q quiet is yours used evicted held = refl
+refill_held b s d c refill.NotYours p q quiet is yours used evicted held = absurd (none-some Evicted (sym (yours refl) ∙ evicted))
+refill_held b s d c refill.NotEvicted p q quiet is yours used evicted held = absurd (false≢true (ap is_evicted (same_Some InUse Evicted (sym (used refl) ∙ evicted))))
+refill_held b s d c refill.Held p q quiet is yours used evicted held = refl

@@ -10,4 +10,5 @@ pub mod Probing
 pub mod Refilling
 pub mod Stats
 pub mod Steps
+pub mod UnnamedRows
 pub mod Words

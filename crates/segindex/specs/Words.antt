@@ -6,8 +6,9 @@ pub use Rattle.segindex.specs.LaterReads.{NotedIsRead, StoodIsRead, StoredStands
 pub use Rattle.segindex.specs.Meeting.{Meets, MeetsPass}
 pub use Rattle.segindex.specs.Noting.{CopiesNote, LearnsNote, MakesNote}
 pub use Rattle.segindex.specs.Probing.{IsReadSince}
-pub use Rattle.segindex.specs.Refilling.{IsBeingRead, IsRefillAnswer, Refills}
+pub use Rattle.segindex.specs.Refilling.{IsBeingRead, IsRefillAnswer, Refills, RefillsAside}
 pub use Rattle.segindex.specs.Stats.{ReturnsStats}
+pub use Rattle.segindex.specs.UnnamedRows.{EvictedIsUnnamed, MovedIsUnnamed, UnnamedStay}
 pub use Rattle.segbase.specs.Words.{IsNoteOf, IsNoteOf-prop, Note, number, Pass, seen, seen_of}
 pub use Rattle.segstore.specs.Words.{IsQuiet, IsQuiet-prop}
 pub use Rattle.segread.specs.Words.{IsHoldOf, IsHoldOf-prop}

@@ -9,6 +9,7 @@ ghost use Rattle.segindex.specs.Laws.{KeptAllLeavesNone, NothingIsStirred, Write
 ghost use Rattle.segindex.specs.Laws.{CasFailsWhereWrittenSince, CasCalledLaterFails};
 ghost use Rattle.segindex.specs.LaterReads.{NotedIsRead, SeenIsRead, StoodIsRead, StoredStands};
 ghost use Rattle.segindex.specs.Order.{CallsHaveAnOrder, PointsAreInOrder};
+ghost use Rattle.segindex.specs.UnnamedRows.{EvictedIsUnnamed, MovedIsUnnamed, UnnamedStay};
 ghost use Rattle.segindex.specs.Steps.{NoGetWithoutAStep, NoGetsWithoutAStep, NoHoldWithoutAStep};
 
 /// What a quiet pass has seen is a history of a cache of one thread, with marks.
@@ -37,6 +38,17 @@ pub fn quiet_pass()
 /// A keep with the cutoff 0 that returns Kept leaves no key in the segment.
 pub fn keep_of_all()
     ensures { KeptAllLeavesNone }
+{}
+
+/// Rows of a pass's own segment that no item names stay so until the pass refills the segment,
+/// whatever calls the pass makes meanwhile.
+/// So a pass that clears rows one by one can evict the rest of the segment from the next row on.
+/// Each evict of the next row that is Evicted or Left makes them one more,
+/// and so does each keep of it that is Moved.
+pub fn unnamed_rows_stay()
+    ensures stay { UnnamedStay }
+    ensures evicted { EvictedIsUnnamed }
+    ensures moved { MovedIsUnnamed }
 {}
 
 /// If an index has one pass, each entry that the pass has seen is its own.

@@ -24,15 +24,15 @@ pub use close::OutOfMemory;
 pub use index::Index;
 pub use laws::{
     calls_are_in_order, cas_fails_where_written, keep_of_all, one_pass, quiet_pass,
-    readers_take_a_step, replies_at_a_moment, what_stood_is_read,
+    readers_take_a_step, replies_at_a_moment, unnamed_rows_stay, what_stood_is_read,
 };
 pub use segbase::{MakeFault, Note, Pass};
-pub use segevict::KeepRowAnswer;
+pub use segevict::{EvictRowAnswer, KeepRowAnswer};
 pub use segmodel::{
     Answer, Command, DeleteAnswer, EvictAnswer, GetAnswer, GetsAnswer, KeepAnswer, RefillAnswer,
     Request, WriteAnswer,
 };
 pub use segread::{HeldRow, Hold, HoldAnswer, hold_stays, row_of_hold};
-pub use segstore::LockAnswer;
+pub use segstore::{LockAnswer, RowRef};
 pub use segword::{Key, Shape, ShapeFault, Value};
 pub use table_stats::IndexStats;

@@ -1,14 +1,16 @@
-//! The calls on segments: evict, keep, of all rows or of one, and refill.
+//! The calls on segments: evict and keep, of all rows or of one, and refill.
 use crate::index::Index;
 use segbase::Pass;
-use segevict::KeepRowAnswer;
+use segevict::{EvictRowAnswer, KeepRowAnswer};
 use segmodel::{EvictAnswer, KeepAnswer, RefillAnswer};
+use segstore::RowRef;
 
 impl Index {
     ghost use Rattle.segstore.specs.Words.{IsQuiet};
-    ghost use Rattle.segevict.specs.Words.{EvictsSegment, KeepsItem, KeepsItems};
-    ghost use Rattle.segindex.specs.Index.{board_of};
-    ghost use Rattle.segindex.specs.Refilling.{RefillsSegment};
+    ghost use Rattle.segevict.specs.Words.{AreUnnamed, EvictsItem, EvictsRest, EvictsSegment};
+    ghost use Rattle.segevict.specs.Words.{KeepsItem, KeepsItemInto, KeepsItems};
+    ghost use Rattle.segindex.specs.Index.{board_of, shape_of};
+    ghost use Rattle.segindex.specs.Refilling.{RefillsAside, RefillsSegment};
 
     /// Takes every key out of a segment of the pass's own, so that it can be refilled.
     /// From then on nothing is stored there before a refill, even if the evict is Busy.
@@ -18,6 +20,27 @@ impl Index {
         ensures evicts { EvictsSegment (board_of self.now) segment result pass.old pass.new }
     {
         segevict::evict(&self.board, pass, segment)
+    }
+
+    /// Takes the key of one row out of a segment of the pass's own, as an evict does with each row.
+    /// The segment stays in use and the row used. A current segment stays current.
+    /// After Evicted or Left no item names the row any more.
+    pub fn evict_row(&self, pass: &mut Pass, segment: u32, row: u32) -> EvictRowAnswer
+        requires quiet { IsQuiet (board_of self.now) pass.old }
+        ensures evicts { EvictsItem (board_of self.now) segment row result pass.old pass.new }
+    {
+        segevict::evict_row(&self.board, pass, segment, row)
+    }
+
+    /// Takes out the keys of a segment as an evict does, but goes over its rows from this one on.
+    /// No item names a row before it: for each, an `evict_row` was Evicted or Left,
+    /// or a keep Moved, and the segment wasn't refilled since.
+    pub fn evict_rest(&self, pass: &mut Pass, segment: u32, from: u32) -> EvictAnswer
+        requires quiet { IsQuiet (board_of self.now) pass.old }
+        requires unnamed { AreUnnamed (shape_of self.now) segment from pass.old }
+        ensures evicts { EvictsRest (board_of self.now) segment from result pass.old pass.new }
+    {
+        segevict::evict_rest(&self.board, pass, segment, from)
     }
 
     /// Moves the items of a segment of the pass's own whose frequency is at least the cutoff.
@@ -42,6 +65,23 @@ impl Index {
         segevict::keep_row(&self.board, pass, segment, row, cutoff)
     }
 
+    /// Moves the item of one row as `keep_row` does, but into a segment that the caller names:
+    /// another one in use of the pass's own, with the same deadline. Any other is NoRoom.
+    /// If the answer is Moved, the item's new row is the last used one of that segment.
+    pub fn keep_row_into(
+        &self,
+        pass: &mut Pass,
+        row: RowRef,
+        cutoff: u8,
+        into: u32,
+    ) -> KeepRowAnswer
+        requires quiet { IsQuiet (board_of self.now) pass.old }
+        ensures keeps { KeepsItemInto (board_of self.now) row.segment row.row cutoff into result
+            pass.old pass.new }
+    {
+        segevict::keep_row_into(&self.board, pass, row, cutoff, into)
+    }
+
     /// Makes a segment of the pass's own the one that the pass stores into, up to a deadline.
     /// A segment that is in use is refused, and so is one of which an item is read or held.
     pub fn refill(&self, pass: &mut Pass, segment: u32, deadline: u32) -> RefillAnswer
@@ -50,5 +90,14 @@ impl Index {
             pass.old pass.new }
     {
         segstore::refill(&self.board, pass, segment, deadline)
+    }
+    /// Refills a segment of the pass's own, and leaves the one that the pass stores into.
+    /// So the refilled one can be filled by `keep_row_into`.
+    pub fn refill_aside(&self, pass: &mut Pass, segment: u32, deadline: u32) -> RefillAnswer
+        requires pass { IsQuiet (board_of self.now) pass.old }
+        ensures refills { RefillsAside (board_of self.now) segment deadline result
+            pass.old pass.new }
+    {
+        segstore::refill_aside(&self.board, pass, segment, deadline)
     }
 }

@@ -19,10 +19,10 @@ use Rattle.segcore.proofs.Readers.{still_empty, empty_stays}
 use Rattle.segbase.specs.declared.pass.PlainPart.{PlainPart}
 use Rattle.segbase.specs.Words.{with_deadline, AddsAtOnce, AddsEvents, Board, current_of, IsPassOf, number, own_of, deadline_of, deadline_in}
 use Rattle.segbase.specs.Words.{own_segment, OwnSegment, Pass, seen, state_in, state_of, trace}
-use Rattle.segbase.specs.Words.{used_in, used_of, with_state, with_used}
+use Rattle.segbase.specs.Words.{used_in, used_of, with_current, with_state, with_used}
 use Rattle.segbase.proofs.Known.{state_set, used_set, state_apart, used_apart, state_kept, used_kept, owner_stated, owner_counted, deadline_set, owner_lasting, state_lasting, used_lasting, deadline_counted, deadline_apart, deadline_stated}
 use Rattle.segbase.proofs.Owned.{owner_of, owns_state, state_there, used_there, moved_still, deadline_there}
-use Rattle.segstore.specs.Refilling.{refilled}
+use Rattle.segstore.specs.Refilling.{refilled, refilled_aside}
 use Rattle.segstore.specs.Segments.{KeepsSegments}
 use Rattle.segstore.proofs.Rows.{stepped_row}
 
@@ -254,11 +254,11 @@ named_deadline (Linked p q t i n) h segment row s at = refl
 named_deadline (Relinked p k f j t i n) h segment row s at = refl
 named_deadline e h segment row s at = absurd at
 
--- the next row was linked, or an item moved there, and it was then counted as used
-pub keeps_named : (b : Board) (e : Event) (p r : Pass) (segment row : ℕ) → ComesToName segment row e → AddsAtOnce b (e ∷ []) p r → r.plain ≡ p.plain
-    → current_of p ≡ Some segment → used_of p segment ≡ Some row → row < b.shape.rows
+-- the next row of a segment in use was linked, or an item moved there, and it was then counted as used
+pub keeps_named_in : (b : Board) (e : Event) (p r : Pass) (segment row : ℕ) → ComesToName segment row e → AddsAtOnce b (e ∷ []) p r → r.plain ≡ p.plain
+    → state_of p segment ≡ Some InUse → used_of p segment ≡ Some row → row < b.shape.rows
     → IsPassOf b p → KeepsSegments b p → KeepsSegments b (record r { plain = with_used segment (row + 1) r.plain })
-keeps_named b e p r segment row at d same current used lt is k =
+keeps_named_in b e p r segment row at d same in_use used lt is k =
     let q : Pass = record r { plain = with_used segment (row + 1) r.plain } in
     let own = owns_used b p segment row is used in
     let now : used_of q segment ≡ Some (row + 1) = used_set r.plain segment (row + 1) (known r segment row (same_used p r segment same ∙ used)) in
@@ -286,9 +286,15 @@ keeps_named b e p r segment row at d same current used lt is k =
       in_use = λ s is'. states s ∙ k.in_use s (sym (ap (λ (x : PlainPart). x.current) same) ∙ is');
       unused = λ s state is' not.
           let before : state_of p s ≡ Some state = sym (states s) ∙ is' in
-          let other : segment ≢ s = λ e. not (same_Some state InUse (sym before ∙ (ap (state_of p) (sym e) ∙ k.in_use segment current))) in
+          let other : segment ≢ s = λ e. not (same_Some state InUse (sym before ∙ (ap (state_of p) (sym e) ∙ in_use))) in
           empty_then b e p r s d (owns_stated b p s state is before) (named_calm e segment row s at other) (k.unused s state before not);
     }
+
+-- so it is of the current segment
+pub keeps_named : (b : Board) (e : Event) (p r : Pass) (segment row : ℕ) → ComesToName segment row e → AddsAtOnce b (e ∷ []) p r → r.plain ≡ p.plain
+    → current_of p ≡ Some segment → used_of p segment ≡ Some row → row < b.shape.rows
+    → IsPassOf b p → KeepsSegments b p → KeepsSegments b (record r { plain = with_used segment (row + 1) r.plain })
+keeps_named b e p r segment row at d same current used lt is k = keeps_named_in b e p r segment row at d same (k.in_use segment current) used lt is k
 
 -- what is known of the segments after a refilling
 module _ (x : PlainPart) (segment deadline : ℕ) where
@@ -325,13 +331,13 @@ module _ (x : PlainPart) (segment deadline : ℕ) where
   pub others_last : (s : ℕ) → s ≢ segment → deadline_in (own_segment (refilled segment deadline x) s) ≡ deadline_in (own_segment x s)
   others_last s ne = deadline_counted taken segment 0 s ∙ (deadline_stated dated segment InUse s ∙ deadline_apart x segment deadline s ne)
 
--- the segment was refilled, and is in use, current, with no row used
-pub keeps_refilled : (b : Board) (p r : Pass) (segment deadline : ℕ) (state : SegState) → AddsAtOnce b (Refilled (number p) segment deadline ∷ []) p r → r.plain ≡ p.plain → state_of p segment ≡ Some state
-    → IsPassOf b p → KeepsSegments b p → KeepsSegments b (record r { plain = refilled segment deadline r.plain })
-keeps_refilled b p r segment deadline state d same was is k =
-    let q : Pass = record r { plain = refilled segment deadline r.plain } in let e = Refilled (number p) segment deadline in
+-- the segment was refilled, and is in use, with no row used
+pub keeps_refilled : (b : Board) (p r : Pass) (segment deadline : ℕ) (state : SegState) → AddsAtOnce b (Refilled (number p) segment deadline ∷ []) p r → r.plain ≡ p.plain → state_of p segment ≡ Some state → state ≢ InUse
+    → IsPassOf b p → KeepsSegments b p → KeepsSegments b (record r { plain = refilled_aside segment deadline r.plain })
+keeps_refilled b p r segment deadline state d same was other_state is k =
+    let q : Pass = record r { plain = refilled_aside segment deadline r.plain } in let e = Refilled (number p) segment deadline in
     let there_now : IsSome (own_segment r.plain segment) = sym (state_there (own_segment r.plain segment)) ∙ ap is_some (same_states p r segment same ∙ was) in
-    let still = moved_still b _ p r (refilled segment deadline r.plain) d.moved (refilled_owner r.plain segment deadline) in
+    let still = moved_still b _ p r (refilled_aside segment deadline r.plain) d.moved (refilled_owner r.plain segment deadline) in
     let known_owner : (s n : ℕ) → deadline_of q s ≡ Some n → owner b.shape s ≡ number p = (λ s n there. owns_lasting b q s n still.pass there ∙ still.same) in
     let now : state_of q segment ≡ Some InUse = refilled_state r.plain segment deadline there_now in
     let empty : used_of q segment ≡ Some 0 = refilled_used r.plain segment deadline there_now in
@@ -354,9 +360,22 @@ keeps_refilled b p r segment deadline state d same was is k =
           (λ other. let before : deadline_of p s ≡ Some n = sym (others_last r.plain segment deadline s (λ x. other (sym x)) ∙ same_deadlines p r s same) ∙ there in
           same_cached b.shape (trace p) (trace r) s (lasts ∙ cond-false (eqb segment s) deadline (segment_of.deadline_of (trace p) s) (ne_eqb segment s other)) ∙ k.deadlines s n before)
           (cases_eq segment s);
-      in_use = λ s is'. ap (state_of q) (sym (same_Some segment s is')) ∙ now;
+      in_use = λ s is'.
+          let before : state_of p s ≡ Some InUse = k.in_use s (sym (ap (λ (x : PlainPart). x.current) same) ∙ is') in
+          let other : s ≢ segment = λ x. other_state (same_Some state InUse (sym was ∙ (ap (state_of p) (sym x) ∙ before))) in
+          others_state r.plain segment deadline s other ∙ (same_states p r s same ∙ before);
       unused = λ s n is' not.
           let other : segment ≢ s = λ x. not (same_Some n InUse (sym is' ∙ (ap (state_of q) (sym x) ∙ now))) in
           let before : state_of p s ≡ Some n = sym (others_state r.plain segment deadline s (λ x. other (sym x)) ∙ same_states p r s same) ∙ is' in
           empty_then b e p r s d (owns_stated b p s n is before) other (k.unused s n before not);
     }
+
+-- and then it is the current one
+pub keeps_current : (b : Board) (p : Pass) (segment : ℕ) → state_of p segment ≡ Some InUse → KeepsSegments b p → KeepsSegments b (record p { plain = with_current (Some segment) p.plain })
+keeps_current b p segment in_use k = record {
+  few = k.few;
+  rows = k.rows;
+  deadlines = k.deadlines;
+  in_use = λ s is. ap (state_of p) (sym (same_Some segment s is)) ∙ in_use;
+  unused = k.unused;
+}

@@ -1,5 +1,5 @@
 -- A refill: it may be tried, what stops it, and what it leaves.
-use Rattle.std.proofs.Common.{◌≡◌, ◌≢◌, ℕ, ◌+◌, ◌*◌, ◌^◌, ◌<◌, Bool, true, false, cond, eqb, List, [], ◌∷◌, ◌++◌, Some, refl, sym, ap, ◌∙◌, subst, arith}
+use Rattle.std.proofs.Common.{◌≡◌, ◌≢◌, ℕ, ◌+◌, ◌*◌, ◌^◌, ◌<◌, Bool, true, false, cond, eqb, List, [], ◌∷◌, ◌++◌, Option, Some, refl, sym, ap, ◌∙◌, subst, arith}
 use Rattle.std.proofs.lemmas.Bool.{cond-true, cond-false, eq-eqb, false≢true}
 use Rattle.segmodel.specs.Words.{SegState}
 use Rattle.segmodel.specs.declared.answer.RefillAnswer.TheVariants.{Held}
@@ -10,14 +10,16 @@ use Rattle.segcore.specs.Segment.{deadline_of as deadline_of_trace}
 use Rattle.segcore.proofs.Readers.{some_reader}
 use Rattle.segcore.proofs.Quiet.{own_deadline}
 use Rattle.segcore.proofs.Deadlines.{deadline_seen}
-use Rattle.segbase.specs.Words.{AddsAtOnce, AddsEvents, AsksReaders, Board, HasStep, IsPassOf, deadline_of, number, Pass, state_of}
+use Rattle.segbase.specs.declared.pass.PlainPart.{PlainPart}
+use Rattle.segbase.specs.Words.{AddsAtOnce, AddsEvents, AsksReaders, Board, current_of, HasStep, IsPassOf, deadline_of, number, own_segment, Pass, state_in, state_of}
 use Rattle.segbase.specs.Words.{Stepped, trace, with_current, with_deadline, with_state, with_used}
 use Rattle.segbase.proofs.Known.{state_lasting}
 use Rattle.segbase.proofs.Moves.{stays}
+use Rattle.segbase.proofs.Owned.{moved_still, state_there}
 use Rattle.segbase.proofs.Stepping.{starts}
 use Rattle.segstore.specs.Segments.{KeepsSegments}
-use Rattle.segstore.specs.Refilling.{Idles, IsOutcome, refilled, TakesOneStep}
-use Rattle.segstore.proofs.Keeping.{in_table, keeps_plain, owns_stated, owns_lasting, same_states}
+use Rattle.segstore.specs.Refilling.{FillsWith, Idles, IsOutcomeWith, refilled_aside, TakesOneStep}
+use Rattle.segstore.proofs.Keeping.{in_table, keeps_current, keeps_plain, owns_stated, owns_lasting, refilled_state, same_states}
 
 pub idles : (b : Board) (p : Pass) → IsPassOf b p → Idles b p p
 idles b p is = record { moved = stays b p is; plain = refl; memo = refl }
@@ -57,12 +59,12 @@ pub did_refill : (b : Board) (p q : Pass) (s deadline : ℕ) (t : Bool) → t �
 did_refill b p q s deadline t y d = subst (λ es. AddsAtOnce b es p q) (cond-true t (Refilled (number p) s deadline ∷ []) [] y) d
 
 -- what a refill leaves that was stopped by a reader
-pub held : (b : Board) (p q : Pass) (s deadline : ℕ) (t : Bool) → IsPassOf b p → KeepsSegments b p → AsksReaders b s deadline t p q → t ≡ false
-    → IsOutcome b s deadline Held p q × KeepsSegments b q
-held b p q s deadline t is k asks f =
+pub held : (b : Board) (p q : Pass) (s deadline : ℕ) (current : Option ℕ) (t : Bool) → IsPassOf b p → KeepsSegments b p → AsksReaders b s deadline t p q → t ≡ false
+    → IsOutcomeWith b s deadline current Held p q × KeepsSegments b q
+held b p q s deadline current t is k asks f =
     let same : q ≡ asks.now = asks.keeps ∙ cond-false t (record asks.now { plain = with_deadline s deadline asks.now.plain }) asks.now f in
     let out = is_read b p asks.now s asks.old deadline asks.found t is k asks.knew asks.step asks.told f in
-    subst (λ r. IsOutcome b s deadline Held p r × KeepsSegments b r) (sym same) (out, keeps_plain b [] p asks.now out.0.moved tt out.0.plain k)
+    subst (λ r. IsOutcomeWith b s deadline current Held p r × KeepsSegments b r) (sym same) (out, keeps_plain b [] p asks.now out.0.moved tt out.0.plain k)
 
 -- what one leaves that no reader stopped, but for the setters
 module _ (b : Board) (p q : Pass) (s deadline : ℕ) (asks : AsksReaders b s deadline true p q) where
@@ -74,8 +76,24 @@ module _ (b : Board) (p q : Pass) (s deadline : ℕ) (asks : AsksReaders b s dea
       ap (λ (r : Pass). state_of r s) asks.keeps ∙ (state_lasting asks.now.plain s deadline s ∙ (same_states p asks.now s asks.step.plain ∙ was))
 
 -- the setters of a refilling
-pub set_anew : (s deadline : ℕ) (r q one two three : Pass) → q ≡ record r { plain = with_deadline s deadline r.plain } → one ≡ record q { plain = with_state s InUse q.plain }
-    → two ≡ record one { plain = with_used s 0 one.plain } → three ≡ record two { plain = with_current (Some s) two.plain } → three ≡ record r { plain = refilled s deadline r.plain }
-set_anew s deadline r q one two three dated first second third =
-    third ∙ ap (λ (q : Pass). record q { plain = with_current (Some s) q.plain })
-    (second ∙ ap (λ (q : Pass). record q { plain = with_used s 0 q.plain }) (first ∙ ap (λ (q : Pass). record q { plain = with_state s InUse q.plain }) dated))
+pub set_anew : (s deadline : ℕ) (r q one two : Pass) → q ≡ record r { plain = with_deadline s deadline r.plain } → one ≡ record q { plain = with_state s InUse q.plain }
+    → two ≡ record one { plain = with_used s 0 one.plain } → two ≡ record r { plain = refilled_aside s deadline r.plain }
+set_anew s deadline r q one two dated first second =
+    second ∙ ap (λ (q : Pass). record q { plain = with_used s 0 q.plain }) (first ∙ ap (λ (q : Pass). record q { plain = with_state s InUse q.plain }) dated)
+
+-- a segment that was refilled is made current
+module _ (b : Board) (s deadline : ℕ) (p q : Pass) where
+  abbrev made_current : Pass
+  made_current = record q { plain = with_current (Some s) q.plain }
+
+  pub refilled_current : FillsWith b s deadline (current_of p) p q → FillsWith b s deadline (Some s) p made_current
+  refilled_current f = record {
+    own = f.own;
+    moved = moved_still b _ p q made_current.plain f.moved refl;
+    plain = ap (with_current (Some s)) f.plain;
+    memo = f.memo;
+    once = f.once;
+  }
+
+  pub current_kept : FillsWith b s deadline (current_of p) p q → KeepsSegments b q → KeepsSegments b made_current
+  current_kept f = keeps_current b q s (ap (λ (x : PlainPart). state_in (own_segment x s)) f.plain ∙ refilled_state p.plain s deadline (sym (state_there (own_segment p.plain s)) ∙ f.own))

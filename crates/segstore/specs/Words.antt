@@ -11,7 +11,8 @@ pub use Rattle.segstore.specs.Props.{IsQuiet-prop, KeepsSegments-prop}
 pub use Rattle.segstore.specs.Quiet.{is_held_in, IsHold, IsLock, IsQuiet, MayEnterAny}
 pub use Rattle.segstore.specs.Reading.{IsReadable, IsReader, IsReaderIn, LeavesSegment, OnlyLooks}
 pub use Rattle.segstore.specs.Reading.{ReadsRow}
-pub use Rattle.segstore.specs.Refilling.{FillsAnew, Idles, IsOutcome, refilled, TakesOneStep}
+pub use Rattle.segstore.specs.Refilling.{FillsWith, Idles, IsOutcome, IsOutcomeWith, refilled}
+pub use Rattle.segstore.specs.Refilling.{refilled_aside, TakesOneStep}
 unfoldable pub use Rattle.segstore.specs.Rows.{fills}
 pub use Rattle.segstore.specs.Rows.{StoresRow}
 pub use Rattle.segstore.specs.Segments.{has_room, is_below, KeepsSegments}

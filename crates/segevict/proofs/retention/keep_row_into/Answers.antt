@@ -1,120 +1,24 @@
-use Rattle.std.proofs.Common.{refl}
-use Rattle.std.proofs.lemmas.Bool.{false≢true}
-use Rattle.segstore.proofs.Seconds.{unpacked}
-use Rattle.segbase.proofs.Starting.{has_later}
-use Rattle.segwrite.proofs.Places.{idles_then}
-use Rattle.segevict.proofs.RowsOut.{quiet_looking}
-use Rattle.segevict.proofs.Seeking.{stored_over}
-use Rattle.segevict.proofs.KeptRows.{has_row, kept_place, may_release, next_here, next_q, row_busy, row_gone, row_moved, row_no_room, row_seldom, row_went, segments_q, stored_q, target_place, target_q}
+use Rattle.std.proofs.Common.{rules, refl}
+use Rattle.segevict.proofs.OneRow.{into_no_target, into_not_used, into_not_yours, row_answered_into}
 use Rattle.segevict.proofs.retention.keep_row_into.Goals as goal
 
-pub returns-in_default : goal.returns-in_default
-returns-in_default c = let b = c.args.board.now in let r = c.item_of_row-bucket in let f = c.find_row in
-    let i = idles_then b c.args.pass.now r.new.pass f.new.pass r.ensures.idles f.ensures.idles in
-    let first = has_later c.args.pass.now r.new.pass f.new.pass r.ensures.idles.moved.same r.ensures.idles.moved.steps f.ensures.looks in
-    let stored = stored_over b r.result.0 r.result.1 _ r.new.pass f.new.pass f.ensures.idles.moved tt r.ensures.stored in record {
-      keeps = kept_place b r.result.1 c.args.row.segment c.args.row.row c.args.into c.args.cutoff _ _ _ r.ensures.place
-          (row_gone b r.result.0 r.result.1 c.args.into c.args.cutoff c.args.pass.now f.new.pass c.requires.quiet i first stored c.in_default.ensures.finds);
-    }
+pub returns-then-is_none : goal.returns-then-is_none
+returns-then-is_none c = let r = c.args.row in record {
+  keeps = into_not_yours c.args.board.now r.segment r.row c.args.cutoff c.args.pass.now c.requires.quiet c.args.into (search rules);
+}
 
-pub returns-then-unwrap-cutoff : goal.returns-then-unwrap-cutoff
-returns-then-unwrap-cutoff c = let b = c.args.board.now in let r = c.item_of_row-bucket in let f = c.find_row in
-    let i = idles_then b c.args.pass.now r.new.pass f.new.pass r.ensures.idles f.ensures.idles in
-    let first = has_later c.args.pass.now r.new.pass f.new.pass r.ensures.idles.moved.same r.ensures.idles.moved.steps f.ensures.looks in
-    let stored = stored_over b r.result.0 r.result.1 _ r.new.pass f.new.pass f.ensures.idles.moved tt r.ensures.stored in
-    let word = unpacked c.unpack.result c.unwrap.result c.in-Some.seen.word c.unpack.ensures.some c.unwrap.ensures in record {
-      keeps = kept_place b r.result.1 c.args.row.segment c.args.row.row c.args.into c.args.cutoff _ _ _ r.ensures.place
-          (row_seldom b r.result.0 r.result.1 c.args.into c.args.cutoff c.args.pass.now f.new.pass c.requires.quiet i first stored c.in-Some.seen c.in-Some.ensures.finds c.unwrap.result word c.if-unwrap-cutoff.true);
-    }
+pub returns-then-not-has_row : goal.returns-then-not-has_row
+returns-then-not-has_row c = let r = c.args.row in record {
+  keeps = into_not_used c.args.board.now r.segment r.row c.args.cutoff c.args.pass.now c.requires.quiet c.args.into (search rules) (c.if-not-has_row.ensures.no refl);
+}
 
-pub returns-in_default-next_row : goal.returns-in_default-next_row
-returns-in_default-next_row c = let b = c.args.board.now in let r = c.item_of_row-bucket in let f = c.find_row in
-    let i = idles_then b c.args.pass.now r.new.pass f.new.pass r.ensures.idles f.ensures.idles in
-    let first = has_later c.args.pass.now r.new.pass f.new.pass r.ensures.idles.moved.same r.ensures.idles.moved.steps f.ensures.looks in
-    let stored = stored_over b r.result.0 r.result.1 _ r.new.pass f.new.pass f.ensures.idles.moved tt r.ensures.stored in
-    let word = unpacked c.unpack.result c.unwrap.result c.in-Some.seen.word c.unpack.ensures.some c.unwrap.ensures in record {
-      keeps = kept_place b r.result.1 c.args.row.segment c.args.row.row c.args.into c.args.cutoff _ _ _ r.ensures.place
-          (row_no_room b r.result.0 r.result.1 c.args.into c.args.cutoff c.args.pass.now f.new.pass c.requires.quiet i first stored c.in-Some.seen c.in-Some.ensures.finds c.unwrap.result word c.if-unwrap-cutoff.false
-          (c.in_default-next_row.ensures.no_room.0 refl));
-    }
+pub returns-then-not-is_move_target : goal.returns-then-not-is_move_target
+returns-then-not-is_move_target c = let r = c.args.row in record {
+  keeps = into_no_target c.args.board.now r.segment r.row c.args.cutoff c.args.pass.now c.requires.quiet c.args.into (c.if-not-has_row.ensures.yes refl) (c.if-not-is_move_target.ensures.no refl);
+}
 
-pub take_to_write-requires-clause-pass : goal.take_to_write-requires-clause-pass
-take_to_write-requires-clause-pass c = let b = c.args.board.now in let r = c.item_of_row-bucket in let f = c.find_row in
-    let i = idles_then b c.args.pass.now r.new.pass f.new.pass r.ensures.idles f.ensures.idles in
-    let first = has_later c.args.pass.now r.new.pass f.new.pass r.ensures.idles.moved.same r.ensures.idles.moved.steps f.ensures.looks in
-    let stored = stored_over b r.result.0 r.result.1 _ r.new.pass f.new.pass f.ensures.idles.moved tt r.ensures.stored in
-    quiet_looking b r.result.0 r.result.1 c.args.pass.now f.new.pass c.requires.quiet i first stored
-
-pub returns-then-not-take_to_write : goal.returns-then-not-take_to_write
-returns-then-not-take_to_write c = let b = c.args.board.now in let r = c.item_of_row-bucket in let f = c.find_row in
-    let i = idles_then b c.args.pass.now r.new.pass f.new.pass r.ensures.idles f.ensures.idles in
-    let first = has_later c.args.pass.now r.new.pass f.new.pass r.ensures.idles.moved.same r.ensures.idles.moved.steps f.ensures.looks in
-    let stored = stored_over b r.result.0 r.result.1 _ r.new.pass f.new.pass f.ensures.idles.moved tt r.ensures.stored in
-    let word = unpacked c.unpack.result c.unwrap.result c.in-Some.seen.word c.unpack.ensures.some c.unwrap.ensures in record {
-      keeps = kept_place b r.result.1 c.args.row.segment c.args.row.row c.args.into c.args.cutoff _ _ _ r.ensures.place
-          (row_busy b r.result.0 r.result.1 c.args.into c.args.cutoff c.args.pass.now f.new.pass c.requires.quiet i first stored c.in-Some.seen c.in-Some.ensures.finds c.unwrap.result word c.if-unwrap-cutoff.false
-          c.take_to_write.new.pass (has_row b f.new.pass (λ none. false≢true (c.in-Ok.ensures.no_room.1 none))) c.if-not-take_to_write.ensures.takes);
-    }
-
-pub move_row-is_moved-requires-clause-segments : goal.move_row-is_moved-requires-clause-segments
-move_row-is_moved-requires-clause-segments c = let b = c.args.board.now in let r = c.item_of_row-bucket in let f = c.find_row in
-    let i = idles_then b c.args.pass.now r.new.pass f.new.pass r.ensures.idles f.ensures.idles in
-    let first = has_later c.args.pass.now r.new.pass f.new.pass r.ensures.idles.moved.same r.ensures.idles.moved.steps f.ensures.looks in
-    let stored = stored_over b r.result.0 r.result.1 _ r.new.pass f.new.pass f.ensures.idles.moved tt r.ensures.stored in
-    let word = unpacked c.unpack.result c.unwrap.result c.in-Some.seen.word c.unpack.ensures.some c.unwrap.ensures in
-    segments_q b r.result.0 r.result.1 c.args.into c.args.cutoff c.args.pass.now f.new.pass c.requires.quiet i first stored c.in-Some.seen c.in-Some.ensures.finds c.unwrap.result word c.if-unwrap-cutoff.false c.take_to_write.new.pass c.if-not-take_to_write.ensures.takes
-
-pub move_row-is_moved-requires-clause-stored : goal.move_row-is_moved-requires-clause-stored
-move_row-is_moved-requires-clause-stored c = let b = c.args.board.now in let r = c.item_of_row-bucket in let f = c.find_row in
-    let i = idles_then b c.args.pass.now r.new.pass f.new.pass r.ensures.idles f.ensures.idles in
-    let first = has_later c.args.pass.now r.new.pass f.new.pass r.ensures.idles.moved.same r.ensures.idles.moved.steps f.ensures.looks in
-    let stored = stored_over b r.result.0 r.result.1 _ r.new.pass f.new.pass f.ensures.idles.moved tt r.ensures.stored in
-    let word = unpacked c.unpack.result c.unwrap.result c.in-Some.seen.word c.unpack.ensures.some c.unwrap.ensures in
-    stored_q b r.result.0 r.result.1 c.args.into c.args.cutoff c.args.pass.now f.new.pass c.requires.quiet i first stored c.in-Some.seen c.in-Some.ensures.finds c.unwrap.result word c.if-unwrap-cutoff.false c.take_to_write.new.pass c.if-not-take_to_write.ensures.takes
-
-pub move_row-is_moved-requires-clause-target : goal.move_row-is_moved-requires-clause-target
-move_row-is_moved-requires-clause-target c = let b = c.args.board.now in let r = c.item_of_row-bucket in let f = c.find_row in
-    let i = idles_then b c.args.pass.now r.new.pass f.new.pass r.ensures.idles f.ensures.idles in
-    let first = has_later c.args.pass.now r.new.pass f.new.pass r.ensures.idles.moved.same r.ensures.idles.moved.steps f.ensures.looks in
-    let stored = stored_over b r.result.0 r.result.1 _ r.new.pass f.new.pass f.ensures.idles.moved tt r.ensures.stored in
-    let word = unpacked c.unpack.result c.unwrap.result c.in-Some.seen.word c.unpack.ensures.some c.unwrap.ensures in
-    target_q b r.result.0 r.result.1 c.args.into c.args.cutoff c.args.pass.now f.new.pass c.requires.quiet i first stored c.in-Some.seen c.in-Some.ensures.finds c.unwrap.result word c.if-unwrap-cutoff.false c.take_to_write.new.pass c.if-not-take_to_write.ensures.takes
-    (target_place r.result.1 c.args.row.segment c.args.into c.args.pass.now r.ensures.place.0 c.requires.target)
-
-pub move_row-is_moved-requires-clause-next : goal.move_row-is_moved-requires-clause-next
-move_row-is_moved-requires-clause-next c = let b = c.args.board.now in let r = c.item_of_row-bucket in let f = c.find_row in
-    let i = idles_then b c.args.pass.now r.new.pass f.new.pass r.ensures.idles f.ensures.idles in
-    let first = has_later c.args.pass.now r.new.pass f.new.pass r.ensures.idles.moved.same r.ensures.idles.moved.steps f.ensures.looks in
-    let stored = stored_over b r.result.0 r.result.1 _ r.new.pass f.new.pass f.ensures.idles.moved tt r.ensures.stored in
-    let word = unpacked c.unpack.result c.unwrap.result c.in-Some.seen.word c.unpack.ensures.some c.unwrap.ensures in
-    next_q b r.result.0 r.result.1 c.args.into c.args.cutoff c.args.pass.now f.new.pass c.requires.quiet i first stored c.in-Some.seen c.in-Some.ensures.finds c.unwrap.result word c.if-unwrap-cutoff.false c.take_to_write.new.pass c.if-not-take_to_write.ensures.takes
-    c.in-Ok.next.row (next_here b c.args.row.segment c.args.into c.args.pass.now f.new.pass i.plain c.requires.target _ _ c.in-Ok.ensures.next)
-
-pub release-requires : goal.release-requires
-release-requires c = let t = c.move_row-is_moved.ensures.moves in
-    (may_release c.args.board.now c.item_of_row-bucket.result.0 c.item_of_row-bucket.result.1 c.args.into c.in-Ok.next.row c.move_row-is_moved.result c.take_to_write.new.pass c.move_row-is_moved.new.pass t, (t.bit.bit, t.bit.unwritten, t.bit.undrawn, tt))
-
-pub returns-then-is_moved : goal.returns-then-is_moved
-returns-then-is_moved c = let b = c.args.board.now in let r = c.item_of_row-bucket in let f = c.find_row in
-    let i = idles_then b c.args.pass.now r.new.pass f.new.pass r.ensures.idles f.ensures.idles in
-    let first = has_later c.args.pass.now r.new.pass f.new.pass r.ensures.idles.moved.same r.ensures.idles.moved.steps f.ensures.looks in
-    let stored = stored_over b r.result.0 r.result.1 _ r.new.pass f.new.pass f.ensures.idles.moved tt r.ensures.stored in
-    let word = unpacked c.unpack.result c.unwrap.result c.in-Some.seen.word c.unpack.ensures.some c.unwrap.ensures in
-    let next = next_here b c.args.row.segment c.args.into c.args.pass.now f.new.pass i.plain c.requires.target _ _ c.in-Ok.ensures.next in
-    let step = c.release.ensures.step.1 in record {
-      keeps = kept_place b r.result.1 c.args.row.segment c.args.row.row c.args.into c.args.cutoff _ _ _ r.ensures.place
-          (row_moved b r.result.0 r.result.1 c.args.into c.args.cutoff c.args.pass.now f.new.pass c.requires.quiet i first stored c.in-Some.seen c.in-Some.ensures.finds c.unwrap.result word c.if-unwrap-cutoff.false
-          c.take_to_write.new.pass c.if-not-take_to_write.ensures.takes c.in-Ok.next.row next c.move_row-is_moved.new.pass c.release.new.pass c.if-is_moved.ensures.moves c.release.ensures.did c.release.ensures.free step.plain step.memo);
-    }
-
-pub returns-else-is_moved : goal.returns-else-is_moved
-returns-else-is_moved c = let b = c.args.board.now in let r = c.item_of_row-bucket in let f = c.find_row in
-    let i = idles_then b c.args.pass.now r.new.pass f.new.pass r.ensures.idles f.ensures.idles in
-    let first = has_later c.args.pass.now r.new.pass f.new.pass r.ensures.idles.moved.same r.ensures.idles.moved.steps f.ensures.looks in
-    let stored = stored_over b r.result.0 r.result.1 _ r.new.pass f.new.pass f.ensures.idles.moved tt r.ensures.stored in
-    let word = unpacked c.unpack.result c.unwrap.result c.in-Some.seen.word c.unpack.ensures.some c.unwrap.ensures in
-    let step = c.release.ensures.step.1 in record {
-      keeps = kept_place b r.result.1 c.args.row.segment c.args.row.row c.args.into c.args.cutoff _ _ _ r.ensures.place
-          (row_went b r.result.0 r.result.1 c.args.into c.args.cutoff c.args.pass.now f.new.pass c.requires.quiet i first stored c.in-Some.seen c.in-Some.ensures.finds c.unwrap.result word c.if-unwrap-cutoff.false
-          c.take_to_write.new.pass c.if-not-take_to_write.ensures.takes (has_row b f.new.pass (λ none. false≢true (c.in-Ok.ensures.no_room.1 none))) c.in-Ok.next.row c.move_row-is_moved.new.pass c.release.new.pass c.if-is_moved.ensures.moves c.release.ensures.did c.release.ensures.free step.plain step.memo);
-    }
+pub returns : goal.returns
+returns c = let r = c.args.row in record {
+  keeps = row_answered_into c.args.board.now r.segment r.row c.args.into c.args.cutoff c.args.pass.now c.keep_used_row.new.pass c.requires.quiet (c.if-not-has_row.ensures.yes refl)
+      (c.if-not-is_move_target.ensures.yes refl) c.keep_used_row.result c.keep_used_row.ensures.keeps;
+}

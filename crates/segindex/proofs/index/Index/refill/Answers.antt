@@ -1,3 +1,4 @@
+use Rattle.std.proofs.Common.{Some}
 use Rattle.segindex.proofs.Refills.{refill_goes_on, refill_answers, refill_costs_nothing, refill_held}
 use Rattle.segindex.proofs.index.Index.refill.Goals as goal
 
@@ -10,11 +11,11 @@ returns c =
     let told = c.refill.result in let r = c.refill.ensures in
     record {
       refills = record {
-        on = refill_goes_on b s c.args.deadline told p q c.requires.pass r.outcome r.segments;
-        answer = refill_answers b s c.args.deadline told p q c.requires.pass r.outcome;
+        on = refill_goes_on b s c.args.deadline (Some s) told p q c.requires.pass r.outcome r.segments;
+        answer = refill_answers b s c.args.deadline (Some s) told p q c.requires.pass r.outcome;
         not_yours = r.not_yours;
         in_use = r.in_use;
-        held = refill_held b s c.args.deadline told p q c.requires.pass r.outcome r.not_yours.0 r.in_use.0;
-        costs_nothing = refill_costs_nothing b s c.args.deadline told p q r.outcome;
+        held = refill_held b s c.args.deadline (Some s) told p q c.requires.pass r.outcome r.not_yours.0 r.in_use.0;
+        costs_nothing = refill_costs_nothing b s c.args.deadline (Some s) told p q r.outcome;
       };
     }
