@@ -201,23 +201,6 @@ impl<'i> Client<'i> {
         self.member.put(self.index, key, value)
     }
 
-    /// Takes the client apart from its index. `wake` joins them again.
-    pub fn rest(self) -> Member
-        ensures { result ≡ self.entry.member }
-    {
-        self.member
-    }
-
-    /// The client that `rest` took apart from this index.
-    #[inline(always)]
-    pub fn wake(index: &'i Index, member: Member) -> Client<'i>
-        requires member { IsMember index.now member }
-        ensures index { result.index.now ≡ index.now }
-        ensures member { result.member ≡ member }
-    {
-        Client { index, member }
-    }
-
     /// The hold of a row that was taken apart from its hold.
     pub fn hold_of_row(&self, row: HeldRow) -> Hold<'i>
         ensures { IsOfRow row result }
