@@ -109,7 +109,7 @@ typedef struct segcache_shape {
   uint32_t buckets;       /* a power of two, 65536 at most; a bucket has words for 7 keys */
   uint32_t overflow;      /* overflow buckets, 65536 at most, each for 6 keys more of one bucket */
   uint32_t passes;        /* clients, 1 to 64 */
-  uint32_t segments_each; /* segments of each client, 1 to 1024; one or two stay free, unless it keeps nothing */
+  uint32_t segments_each; /* segments of each client, 1 to 1024; one to a quarter stays free, unless it keeps nothing */
   uint32_t rows;          /* items that a segment has room for, 1 to 4096 */
   uint32_t first_version; /* the version that all buckets begin with; 0 will do */
 } segcache_shape;

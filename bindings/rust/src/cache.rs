@@ -17,7 +17,7 @@ pub struct Shape {
     pub overflow: u32,
     /// Clients, 1 to 64.
     pub passes: u32,
-    /// Segments of each client, 1 to 1,024. One or two stay free, unless the client keeps nothing.
+    /// Segments of each client, 1 to 1,024. One to a quarter stays free, unless the client keeps nothing.
     pub segments_each: u32,
     /// Items that a segment has room for, 1 to 4,096.
     pub rows: u32,

@@ -1,5 +1,5 @@
 -- Bounds on how many calls a put makes, and room that is made alone.
-use Rattle.std.proofs.Common.{◌+◌, ◌≤◌, arith}
+use Rattle.std.proofs.Common.{◌≤◌, arith}
 use Rattle.segword.specs.Words.{Shape}
 use Rattle.segclient.specs.PutParts.{most_for_put, most_for_room}
 use Rattle.segclient.specs.Putting.{most_calls}

@@ -6,6 +6,7 @@ pub mod Members
 pub mod Order
 pub mod Places
 pub mod Rooms
+pub mod Runs
 pub mod Setting
 pub mod Together
 pub mod Told

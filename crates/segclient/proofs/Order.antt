@@ -1,5 +1,5 @@
 -- A put's calls as a whole: sets, and room made between them.
-use Rattle.std.proofs.Common.{◌≡◌, ◌≢◌, ℕ, zero, suc, ◌+◌, ◌≤◌, Bool, true, false, List, [], ◌∷◌, ◌++◌, length, Option, refl, sym, ap, ◌∙◌, subst, inl, inr, append_assoc, length-append, arith}
+use Rattle.std.proofs.Common.{◌≡◌, ◌≢◌, ◌⊎◌, ℕ, zero, suc, ◌+◌, ◌≤◌, Bool, true, false, List, [], ◌∷◌, ◌++◌, length, Option, refl, sym, ap, ◌∙◌, subst, inl, inr, append_assoc, length-append, arith}
 use Rattle.std.specs.Prelude.{Contains}
 use Rattle.std.proofs.lemmas.Bool.{false≢true}
 use Rattle.std.proofs.lemmas.List.{append-nil}
@@ -16,8 +16,9 @@ use Rattle.segclient.specs.declared.put.PutAnswer.TheVariants as put
 use Rattle.segclient.specs.declared.room.Effort.{Effort}
 use Rattle.segclient.specs.PutCalls.{PutCall, sets, evicts, keeps, refills, Plan, Makes}
 use Rattle.segclient.specs.PutParts.{AreOpen, AreSets, busy_sets, effort_from, Empties, EndsSo, IsEffort, is_stale, MakesPut, MakesRoom, room_plan, Sets, SetsIfFresh, WasEmptied}
-use Rattle.segclient.specs.Putting.{SetsUntilFull}
+use Rattle.segclient.specs.Putting.{last_sets, SetsAtMost16, SetsUntilFull}
 use Rattle.segclient.proofs.Calls.{both, effort_more, effort_one, effort_then, no_effort, made_same, makes_same, makes_then, makes_within, one_more, refused_then, room_within, last_of, evicted_came}
+use Rattle.segclient.proofs.Runs.{apart_then, evict_then, few_sets, no_last, room_then, sets_then}
 
 -- ---- calls that don't store
 
@@ -145,6 +146,7 @@ as_many b plan moment most total told first effort p q enough same puts = record
   few = let few = puts.few in omega (arith, few, enough);
   comes = subst (IsEffort puts.calls) same puts.comes;
   ends = puts.ends;
+  tries = puts.tries;
   spares = puts.spares;
 }
 
@@ -162,6 +164,10 @@ more_none effort = ap (λ (n : ℕ). effort_from n (effort.kept + 0) (effort.key
 
 -- ---- a put that goes on
 
+no_sets_last : last_sets [] ≡ 0
+unfolding last_sets
+no_sets_last = refl
+
 module _ (b : Board) (plan : Plan) (moment : ℕ) where
   -- it made calls after which room may be made, since there is none for it
   pub record GoesOnSo (most : ℕ) (effort : Effort) (p q : Pass) : Type 0 where
@@ -171,6 +177,8 @@ module _ (b : Board) (plan : Plan) (moment : ℕ) where
     pub all_open : AreOpen calls
     pub comes : IsEffort calls effort
     pub lacks : is_stale moment p ≡ false → has_room b.shape p ≡ true → ⊥
+    pub tries : SetsAtMost16 calls
+    pub apart : (last_sets calls ≡ 0) ⊎ (has_room b.shape q ≡ false)
 
   -- a set that lacked room
   pub lacked : (p q : Pass) → SetsIfFresh b plan moment put.NoRoom p q → GoesOnSo 16 (effort_from 0 0 0) p q
@@ -181,6 +189,8 @@ module _ (b : Board) (plan : Plan) (moment : ℕ) where
     all_open = open_none;
     comes = no_effort;
     lacks = λ fresh left. false≢true (sym fresh ∙ late);
+    tries = few_sets [] (omega arith);
+    apart = inl no_sets_last;
   }
   lacked p q (inr one) = record {
     calls = one.calls;
@@ -188,7 +198,9 @@ module _ (b : Board) (plan : Plan) (moment : ℕ) where
     few = one.few;
     all_open = sets_open put.NoRoom one.calls no_room_stored one.are;
     comes = effort_sets put.NoRoom one.calls one.are;
-    lacks = λ fresh left. false≢true (sym (one.no_room refl) ∙ left);
+    lacks = λ fresh left. false≢true (sym (one.no_room refl).0 ∙ left);
+    tries = few_sets one.calls one.few;
+    apart = inr (one.no_room refl).1;
   }
 
   -- an answer that ends a put
@@ -200,6 +212,7 @@ module _ (b : Board) (plan : Plan) (moment : ℕ) where
     few = let few = one.few in omega (arith, few, enough);
     comes = effort_sets told one.calls one.are;
     ends = ends_sets b.shape (number p) told one.calls other one.are;
+    tries = few_sets one.calls one.few;
     spares = λ fresh left. until_sets told one.calls one.are;
   }
 
@@ -209,6 +222,10 @@ module _ (b : Board) (plan : Plan) (moment : ℕ) where
       pub wide : Makes b plan room.arranges.calls q r
       wide = makes_within b (room_plan plan.cutoff plan.deadline) plan (room_within plan.deadline plan plan.cutoff refl refl) room.arranges.calls q r room.arranges.makes
 
+      pub apart_by : (left : Bool) → has_room b.shape r ≡ left → (last_sets (room.arranges.calls ++ one.calls) ≡ 0) ⊎ (has_room b.shape r ≡ false)
+      apart_by true left = inl (apart_then b plan.cutoff plan.deadline room.arranges.calls one.calls q r room.arranges.makes one.apart left)
+      apart_by false full = inr full
+
       abbrev pub room_on : GoesOnSo (most + more) (both first effort) p r
       room_on = record {
         calls = room.arranges.calls ++ one.calls;
@@ -217,6 +234,8 @@ module _ (b : Board) (plan : Plan) (moment : ℕ) where
         all_open = open_then room.arranges.calls one.calls (room_open b plan.cutoff plan.deadline room.arranges.calls q r room.arranges.makes) one.all_open;
         comes = effort_then room.arranges.calls one.calls first effort one.comes room.arranges.comes;
         lacks = one.lacks;
+        tries = room_then b plan.cutoff plan.deadline room.arranges.calls one.calls q r room.arranges.makes one.tries;
+        apart = apart_by (has_room b.shape r) refl;
       }
 
       pub no_room_end : made ≡ false → MakesPut b plan moment (most + more) put.NoRoom (both first effort) p r
@@ -229,17 +248,23 @@ module _ (b : Board) (plan : Plan) (moment : ℕ) where
           λ segment own. refused_then segment room.arranges.calls one.calls (room.refused none segment (own ∙ sym (makes_same b plan one.calls p q one.makes))),
           room_on.all_open,
         );
+        tries = room_on.tries;
         spares = λ fresh left. absurd (one.lacks fresh left);
       }
 
+    apart_of : (last_sets one.calls ≡ 0) ⊎ (has_room b.shape q ≡ false) → has_room b.shape q ≡ true → last_sets one.calls ≡ 0
+    apart_of (inl none) left = none
+    apart_of (inr full) left = absurd (false≢true (sym full ∙ left))
+
     -- a set, for which room was made
-    pub sets_on : (told : PutAnswer) → told ≢ put.NoRoom → Sets b plan told q r → MakesPut b plan moment (most + 16) told first p r
-    sets_on told other last = record {
+    pub sets_on : (told : PutAnswer) → told ≢ put.NoRoom → has_room b.shape q ≡ true → Sets b plan told q r → MakesPut b plan moment (most + 16) told first p r
+    sets_on told other left last = record {
       calls = last.calls ++ one.calls;
       makes = makes_then b plan last.calls one.calls p q r one.makes last.makes;
       few = let long = length-append last.calls one.calls in let x = one.few in let y = last.few in omega (arith, long, x, y);
       comes = subst (IsEffort (last.calls ++ one.calls)) (more_none first) (effort_then last.calls one.calls first (effort_from 0 0 0) one.comes (effort_sets told last.calls last.are));
       ends = ends_then b.shape (number p) (number q) told last.calls one.calls (makes_same b plan one.calls p q one.makes) one.all_open (ends_sets b.shape (number q) told last.calls other last.are);
+      tries = sets_then last.calls one.calls (apart_of one.apart left) (few_sets last.calls last.few) one.tries;
       spares = λ fresh left. absurd (one.lacks fresh left);
     }
 
@@ -262,6 +287,7 @@ module _ (b : Board) (plan : Plan) (moment : ℕ) where
               (effort_then then.calls (evicts segment answer ∷ full.calls) (both first out) last (effort_then (evicts segment answer ∷ []) full.calls first out full.comes alone) then.comes);
           ends = ends_then b.shape (number p) (number r) told then.calls (evicts segment answer ∷ full.calls) (makes_same b plan (evicts segment answer ∷ full.calls) p r makes)
               (open_more (evicts segment answer) full.calls (evict_apart segment answer) full.ends.1) then.ends;
+          tries = sets_then then.calls (evicts segment answer ∷ full.calls) (no_last segment answer full.calls) then.tries (evict_then segment answer full.calls full.tries);
           spares = λ fresh left. until_then then.calls (evicts segment answer ∷ full.calls)
               (Contains-append_right (evicts segment answer ∷ []) full.calls (sets write.BucketFull) was_full)
               (until_evict segment answer full.calls was_full (full.spares fresh left));

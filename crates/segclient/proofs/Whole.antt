@@ -55,5 +55,6 @@ whole_put b plan moment most total told effort p q enough (puts, emptied) = reco
   comes = puts.comes;
   answer = answer_of b.shape (number p) told puts.calls puts.ends emptied;
   not_stored = λ other. open_of b.shape (number p) told puts.calls other puts.ends;
+  tries = puts.tries;
   spares = puts.spares;
 }

@@ -41,12 +41,13 @@ pub record Begins (shape : Shape) (least : Option ℕ) (p : Pass) (member : Memb
   pub stats : member.stats ≡ no_stats
 
 -- it has the same pass, with the same clock; what it puts expires as before,
--- and its puts keep what they kept before
+-- and its puts keep what they kept before, by queues if they did
 pub record KeepsSettings (old new : Member) : Type 0 where
   pub number : number new.pass ≡ number old.pass
   pub clock : new.clock ≡ old.clock
   pub time_to_live : new.time_to_live ≡ old.time_to_live
   pub cutoff : new.cutoff ≡ old.cutoff
+  pub queues : is_some new.segments.queues ≡ is_some old.segments.queues
 
 -- and it gives up the same segment next
 pub record Keeps (old new : Member) : Type 0 where

@@ -17,7 +17,7 @@ use Rattle.segclient.specs.declared.room.Effort.{Effort}
 use Rattle.segclient.specs.declared.stats.Stats.{Stats}
 use Rattle.segclient.specs.Counting.{with_more}
 use Rattle.segclient.specs.PutCalls.{PutCall, sets, evicts, Plan, came_to, refilled_segments, kept_items, evicted_keys, IsRefused, Makes, StoresUntil}
-use Rattle.segclient.specs.Putting.{IsPutAnswer, SetsUntilFull}
+use Rattle.segclient.specs.Putting.{IsPutAnswer, SetsAtMost16, SetsUntilFull}
 use Rattle.segclient.specs.Tallies.{evicted_by}
 
 -- ---- what calls came to
@@ -133,7 +133,8 @@ pub record Sets (b : Board) (plan : Plan) (told : PutAnswer) (p q : Pass) : Type
   pub makes : Makes b plan calls p q
   pub few : length calls ≤ 16
   pub are : AreSets told calls
-  pub no_room : told ≡ put.NoRoom → has_room b.shape p ≡ false
+  pub no_room : told ≡ put.NoRoom
+      → (has_room b.shape p ≡ false) × (has_room b.shape q ≡ false)
 
 -- sets at a moment, unless what the pass stores into has expired
 abbrev pub SetsIfFresh : Board → Plan → ℕ → PutAnswer → Pass → Pass → Type 0
@@ -172,6 +173,7 @@ pub record MakesPut (b : Board) (plan : Plan) (moment most : ℕ) (told : PutAns
   pub few : length calls ≤ most
   pub comes : IsEffort calls effort
   pub ends : EndsSo b.shape (number p) told calls
+  pub tries : SetsAtMost16 calls
   pub spares : Spares b.shape moment calls p
 
 -- after a set that found its bucket full a segment was evicted, before the last set
@@ -195,6 +197,7 @@ pub record PutsWhole (b : Board) (plan : Plan) (moment most : ℕ) (told : PutAn
   pub comes : IsEffort calls effort
   pub answer : IsPutAnswer b.shape (number p) told calls
   pub not_stored : told ≢ put.Stored → AreOpen calls
+  pub tries : SetsAtMost16 calls
   pub spares : Spares b.shape moment calls p
 
 -- ---- at most so many calls
@@ -203,9 +206,9 @@ pub record PutsWhole (b : Board) (plan : Plan) (moment most : ℕ) (told : PutAn
 abbrev pub most_in_turn : Shape → ℕ
 most_in_turn shape = 2 * shape.segments_each + 2
 
--- to arrange segments in queues: three times as many as there are, each over its rows
+-- to clear segments by queues: three times as many as there are, each over its rows
 abbrev pub most_in_queues : Shape → ℕ
-most_in_queues shape = 3 * shape.segments_each * (shape.rows + 1) + 2
+most_in_queues shape = 3 * shape.segments_each * (shape.rows + 1)
 
 -- to make room by any policy
 abbrev pub most_for_room : Shape → ℕ

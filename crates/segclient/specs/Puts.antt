@@ -12,7 +12,7 @@ use Rattle.segclient.specs.Counting.{counted, given_up_too}
 use Rattle.segclient.specs.Member.{KeepsSettings}
 use Rattle.segclient.specs.PutCalls.{IsRefused, Makes, PutCall, sets}
 use Rattle.segclient.specs.PutCalls.{StoresUntil}
-use Rattle.segclient.specs.Putting.{IsPutAnswer, most_calls, SetsUntilFull}
+use Rattle.segclient.specs.Putting.{IsPutAnswer, most_calls, SetsAtMost16, SetsUntilFull}
 use Rattle.segclient.specs.Tallies.{put_tally}
 
 -- The deadline of what a client refills now: the last multiple of half its time to live
@@ -23,6 +23,7 @@ deadline_of member =
     cond (nat_lt until (2 ^ 32 - 1)) (until - until % max 1 (member.time_to_live / 2)) (2 ^ 32 - 1)
 
 -- A put made these calls, for its request and by the client's settings.
+-- It makes at most 16 sets in a row.
 -- With a row left that can be read then, it makes room only once its bucket was full.
 -- Hold and lock are as they were, and the client counted the put, and what the calls came to.
 pub record Puts (key value : List ℕ) (told : PutAnswer) (b : Board) (old new : Member)
@@ -35,6 +36,7 @@ pub record Puts (key value : List ℕ) (told : PutAnswer) (b : Board) (old new :
   }) calls old.pass new.pass
   pub answer : IsPutAnswer b.shape (number old.pass) told calls
   pub not_stored : told ≢ put.Stored → All (λ call. call ≢ sets write.Stored) calls
+  pub tries : SetsAtMost16 calls
   pub spares : (until : ℕ)
       → StoresUntil until old.pass
       → old.clock < until

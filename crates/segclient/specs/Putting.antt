@@ -1,5 +1,5 @@
 -- What a put answers, by its calls.
-use Rattle.std.specs.Prelude.{◌≡◌, ◌≢◌, ℕ, ◌+◌, ◌*◌, List, [], ◌∷◌, ◌++◌, All, Contains, replicate}
+use Rattle.std.specs.Prelude.{◌≡◌, ◌≢◌, ℕ, ◌+◌, ◌*◌, ◌≤◌, List, [], ◌∷◌, ◌++◌, All, Contains, replicate}
 use Rattle.segword.specs.Words.{Shape}
 use Rattle.segmodel.specs.declared.answer.WriteAnswer.TheVariants as write
 use Rattle.segmodel.specs.Words.{EvictAnswer, owner}
@@ -30,6 +30,16 @@ SetsUntilFull [] = Unit {0}
 SetsUntilFull (sets told ∷ earlier) = SetsUntilFull earlier
 SetsUntilFull (call ∷ earlier) =
     Contains earlier (sets write.BucketFull) × SetsUntilFull earlier
+
+-- how many sets were made last, with no other call between
+unfoldable pub last_sets : List PutCall → ℕ
+last_sets (sets told ∷ earlier) = last_sets earlier + 1
+last_sets _ = 0
+
+-- No call is the 17th set in a row.
+unfoldable pub SetsAtMost16 : List PutCall → Type 0
+SetsAtMost16 [] = Unit {0}
+SetsAtMost16 (call ∷ earlier) = (last_sets (call ∷ earlier) ≤ 16) × SetsAtMost16 earlier
 
 -- at most so many calls
 abbrev pub most_calls : Shape → ℕ

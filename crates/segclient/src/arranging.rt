@@ -8,7 +8,7 @@ ghost use Rattle.segstore.specs.Words.{GoesOn, IsQuiet};
 ghost use Rattle.segclient.specs.PutParts.{Arranges, effort_from, most_in_queues};
 
 use crate::queues::{Queue, Queues};
-use crate::room::{Effort, has_room, moved_by};
+use crate::room::{Effort, moved_by};
 use crate::tally::{evicted_by, refilled_by};
 use segindex::{Index, KeepRowAnswer, Pass};
 
@@ -60,14 +60,9 @@ fn free_one(index: &Index, pass: &mut Pass, queues: &mut Queues) -> Effort
     Effort::none()
 }
 
-// Refills the free segment that was evicted before the others. One that is held comes last.
-fn refill(
-    index: &Index,
-    pass: &mut Pass,
-    queues: &mut Queues,
-    is_main: bool,
-    deadline: u32,
-) -> Effort
+// Refills the free segment that was evicted before the others, as a main one.
+// One that is held comes last.
+fn refill_main(index: &Index, pass: &mut Pass, queues: &mut Queues, deadline: u32) -> Effort
     requires quiet { IsQuiet (board_of index.now) pass.old }
     ensures on { GoesOn (board_of index.now) pass.old pass.new }
     ensures few { (result.refilled ≤ 1) × (result.kept ≡ 0) × (result.keys ≡ 0) }
@@ -78,7 +73,7 @@ fn refill(
         return Effort::none();
     };
     let told = index.refill(pass, segment, deadline);
-    queues.was_refilled(segment, is_main);
+    queues.was_refilled(segment, true);
     Effort {
         refilled: refilled_by(told),
         kept: 0,
@@ -250,7 +245,7 @@ fn take_step(index: &Index, pass: &mut Pass, queues: &mut Queues, room: Room, is
             effort: free_one(index, pass, queues),
         };
     }
-    let effort = refill(index, pass, queues, true, room.deadline);
+    let effort = refill_main(index, pass, queues, room.deadline);
     Step {
         is_open: effort.refilled > 0,
         effort,
@@ -258,14 +253,14 @@ fn take_step(index: &Index, pass: &mut Pass, queues: &mut Queues, room: Room, is
 }
 
 // If fewer than two segments are free, clears some until two are, of 64 or more segments three:
-// then most puts that make room clear none. Or the steps are used up.
-fn free_two(index: &Index, pass: &mut Pass, queues: &mut Queues, room: Room) -> Effort
+// then most puts that make room clear none. While a main one has rows left for what is moved,
+// it goes on until more than a quarter is free. Or the steps are used up.
+pub(crate) fn free_two(index: &Index, pass: &mut Pass, queues: &mut Queues, room: Room) -> Effort
     requires quiet { IsQuiet (board_of index.now) pass.old }
     ensures on { GoesOn (board_of index.now) pass.old pass.new }
     ensures few { (result.refilled < 2 ^ 20) × (result.kept < 2 ^ 56) × (result.keys < 2 ^ 56) }
     ensures arranges { Arranges (board_of index.now) (Some room.least) room.deadline
-        (3 * (shape_of index.now).segments_each * ((shape_of index.now).rows + 1))
-        result pass.old pass.new }
+        (most_in_queues (shape_of index.now)) result pass.old pass.new }
 {
     let mut is_open = false;
     let mut effort = Effort::none();
@@ -280,20 +275,4 @@ fn free_two(index: &Index, pass: &mut Pass, queues: &mut Queues, room: Room) -> 
         effort = effort.plus(step.effort);
     }
     effort
-}
-
-// Refills a segment for puts. If fewer than two are free, it clears others before.
-pub(crate) fn arrange(index: &Index, pass: &mut Pass, queues: &mut Queues, room: Room) -> Effort
-    requires quiet { IsQuiet (board_of index.now) pass.old }
-    ensures on { GoesOn (board_of index.now) pass.old pass.new }
-    ensures few { (result.refilled < 2 ^ 21) × (result.kept < 2 ^ 57) × (result.keys < 2 ^ 57) }
-    ensures arranges { Arranges (board_of index.now) (Some room.least) room.deadline
-        (most_in_queues (shape_of index.now)) result pass.old pass.new }
-{
-    let freed = free_two(index, pass, queues, room);
-    if queues.count(index, pass, Queue::Free) < 2 && has_room(index, pass) {
-        return freed;
-    }
-    let effort = freed.plus(free_one(index, pass, queues));
-    effort.plus(refill(index, pass, queues, false, room.deadline))
 }

@@ -156,7 +156,8 @@ impl<'i> Client<'i> {
     }
 
     /// Sets which items a put keeps: those whose frequency is the cutoff or over it.
-    /// None: it keeps nothing. The queues of `with_queues` are dropped, and don't come back.
+    /// None: it keeps nothing. The queues of `with_queues` are dropped, and don't come back:
+    /// from then on its segments are taken in turn, at first from the first one on.
     ///
     /// An item has the frequency 1 when it is stored, and gets raise it.
     /// Puts with a cutoff evict the next segment ahead of time,
@@ -192,8 +193,9 @@ impl<'i> Client<'i> {
     /// without being read, some times.
     /// By a cutoff, or keeping nothing, it takes the one that was filled before the others;
     /// one that can't be recycled is passed over until its next turn.
-    /// If the key's bucket is full, it evicts the oldest of its segments and tries once more.
-    /// A busy set is made again, 16 times in a row at most.
+    /// If the key's bucket is full, it evicts the oldest of its segments in use and tries once
+    /// more: by queues the oldest on probation, or else the oldest main one.
+    /// A set is made at most 16 times in a row, while it is busy.
     #[inline(always)]
     pub fn put(&mut self, key: &Key, value: &Value) -> PutAnswer
         ensures puts { MakesCall (Puts key.now value.now result) self.old self.new }

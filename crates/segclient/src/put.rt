@@ -1,5 +1,5 @@
 //! A set that makes room.
-ghost use Rattle.std.specs.Prelude.{◌≡◌, ◌<◌, ◌≤◌, ◌^◌, true};
+ghost use Rattle.std.specs.Prelude.{◌≡◌, ◌<◌, ◌≤◌, ◌^◌, is_some, true};
 ghost use Rattle.segbase.specs.Words.{number, Pass as BasePass};
 ghost use Rattle.segindex.specs.Words.{board_of, shape_of};
 ghost use Rattle.segstore.specs.Words.{GoesOn, IsQuiet};
@@ -22,7 +22,8 @@ pub enum PutAnswer {
     /// or held an item, or others were at work in the bucket of a key of it.
     /// Or the items that were kept used up the one that was refilled, and then no other could be.
     NoRoom,
-    /// No word of the bucket is left for a new key, also after an evict of the oldest segment.
+    /// No word of the bucket is left for a new key, also after an evict of the oldest segment
+    /// in use.
     BucketFull,
     /// The bucket is locked, or others were at work in it, at each of 16 sets in a row.
     Busy,
@@ -100,6 +101,7 @@ fn set_in_room(
     requires own { IsOwnRing (shape_of index.now) (number pass.old) segments.old.ring }
     ensures on { GoesOn (board_of index.now) pass.old pass.new }
     ensures own { IsOwnRing (shape_of index.now) (number pass.new) segments.new.ring }
+    ensures queues { is_some segments.new.queues ≡ is_some segments.old.queues }
     ensures few { (result.1.refilled < 2 ^ 30) × (result.1.kept < 2 ^ 60)
         × (result.1.keys < 2 ^ 59) }
     ensures sets { (start : BasePass)
@@ -133,6 +135,7 @@ fn put_at_last(
     requires own { IsOwnRing (shape_of index.now) (number pass.old) segments.old.ring }
     ensures on { GoesOn (board_of index.now) pass.old pass.new }
     ensures own { IsOwnRing (shape_of index.now) (number pass.new) segments.new.ring }
+    ensures queues { is_some segments.new.queues ≡ is_some segments.old.queues }
     ensures puts { (start : BasePass)
         → SetsIfFresh (board_of index.now) (plan_of order.entry) order.entry.policy.moment told
         start pass.old
@@ -143,7 +146,7 @@ fn put_at_last(
     let PutAnswer::BucketFull = told else {
         return (told, first);
     };
-    let emptied = first.plus(evict_oldest(index, pass, &mut segments.ring));
+    let emptied = first.plus(evict_oldest(index, pass, segments));
     let told = set_if_fresh(index, pass, order);
     let (told, last) = set_in_room(index, pass, segments, order, told);
     (told, emptied.plus(last))
@@ -161,6 +164,7 @@ fn put_once(
     requires own { IsOwnRing (shape_of index.now) (number pass.old) segments.old.ring }
     ensures on { GoesOn (board_of index.now) pass.old pass.new }
     ensures own { IsOwnRing (shape_of index.now) (number pass.new) segments.new.ring }
+    ensures queues { is_some segments.new.queues ≡ is_some segments.old.queues }
     ensures puts { PutsWhole (board_of index.now) (plan_of order.entry) order.entry.policy.moment
         (most_calls (shape_of index.now)) result.0 result.1 pass.old pass.new }
 {
@@ -182,6 +186,7 @@ fn put_in_queues(
     requires own { IsOwnRing (shape_of index.now) (number pass.old) segments.old.ring }
     ensures on { GoesOn (board_of index.now) pass.old pass.new }
     ensures own { IsOwnRing (shape_of index.now) (number pass.new) segments.new.ring }
+    ensures queues { is_some segments.new.queues ≡ is_some segments.old.queues }
     ensures puts { PutsWhole (board_of index.now) (plan_of order.entry) order.entry.policy.moment
         (most_calls (shape_of index.now)) result.0 result.1 pass.old pass.new }
 {
@@ -210,6 +215,7 @@ pub(crate) fn put_by(
     requires own { IsOwnRing (shape_of index.now) (number pass.old) segments.old.ring }
     ensures on { GoesOn (board_of index.now) pass.old pass.new }
     ensures own { IsOwnRing (shape_of index.now) (number pass.new) segments.new.ring }
+    ensures queues { is_some segments.new.queues ≡ is_some segments.old.queues }
     ensures puts { PutsWhole (board_of index.now) (plan_of order.entry) order.entry.policy.moment
         (most_calls (shape_of index.now)) result.0 result.1 pass.old pass.new }
 {

@@ -24,7 +24,8 @@ pub(crate) enum Queue {
     Main,
 }
 
-// What a segment in use is for, and its turn: the number of segments that changed queues before.
+// What a segment in use is for, and its turn. Segments that changed queues have later turns
+// than all before.
 #[derive(Clone, Copy)]
 struct Place {
     is_main: bool,
@@ -56,18 +57,25 @@ pub(crate) struct Queues {
 impl Queues {
     ghost use Rattle.segclient.specs.declared.queues.Queue.TheVariants.{Free};
 
-    // The queues of a new pass.
+    // The queues of a new pass. Its segments are free, and have their turns from the first one on,
+    // as in a ring.
     pub(crate) fn new(alloc: Global, shape: Shape) -> Result<Queues, AllocError> {
         let rows = shape.segments_each.saturating_mul(shape.rows) as usize;
         let place = Place {
             is_main: false,
             turn: 0,
         };
+        let mut places = vec![in alloc; place; shape.segments_each as usize]?;
+        for at in 0..shape.segments_each {
+            if let Some(place) = places.get_mut(at as usize) {
+                place.turn = u64::from(at);
+            }
+        }
         Ok(Queues {
             segments: shape.segments_each,
             rows: shape.rows,
-            turns: 0,
-            places: vec![in alloc; place; shape.segments_each as usize]?,
+            turns: u64::from(shape.segments_each),
+            places,
             needs: vec![in alloc; NEED_OF_NEW; rows]?,
             marks: vec![in alloc; 0u16; rows]?,
         })
@@ -135,6 +143,62 @@ impl Queues {
             }
         }
         oldest
+    }
+
+    // The segment in use that is given up before the others, the current one left out:
+    // the oldest on probation, or else the oldest main one.
+    pub(crate) fn oldest_in_use(&self, index: &Index, pass: &Pass) -> Option<u32>
+        requires quiet { IsQuiet (board_of index.now) pass.now }
+        ensures own { IfSome result (λ segment.
+            (owner (shape_of index.now) segment ≡ number pass.now)
+            × (current_of pass.now ≢ Some segment)) }
+    {
+        let on_probation = self.oldest(index, pass, Queue::Probation);
+        if on_probation.is_some() {
+            return on_probation;
+        }
+        self.oldest(index, pass, Queue::Main)
+    }
+
+    // The turn of the segment that changed queues last.
+    pub(crate) fn last_turn(&self) -> u64 {
+        self.turns
+    }
+
+    // The segment that came into the queue before the others, the current one left out,
+    // unless it came after this turn.
+    fn oldest_until(&self, index: &Index, pass: &Pass, queue: Queue, until: u64) -> Option<u32>
+        requires quiet { IsQuiet (board_of index.now) pass.now }
+        ensures own { IfSome result (λ segment.
+            (owner (shape_of index.now) segment ≡ number pass.now)
+            × (current_of pass.now ≢ Some segment)) }
+    {
+        let segment = self.oldest(index, pass, queue)?;
+        let (_, turn) = self.turn_of(pass, segment);
+        if turn > until {
+            return None;
+        }
+        Some(segment)
+    }
+
+    // The segment that is given up next, the current one left out: the oldest free one,
+    // or else the oldest on probation, or else the oldest main one.
+    // Those that came into their queues after this turn were tried already.
+    pub(crate) fn next_until(&self, index: &Index, pass: &Pass, until: u64) -> Option<u32>
+        requires quiet { IsQuiet (board_of index.now) pass.now }
+        ensures own { IfSome result (λ segment.
+            (owner (shape_of index.now) segment ≡ number pass.now)
+            × (current_of pass.now ≢ Some segment)) }
+    {
+        let free = self.oldest_until(index, pass, Queue::Free, until);
+        if free.is_some() {
+            return free;
+        }
+        let on_probation = self.oldest_until(index, pass, Queue::Probation, until);
+        if on_probation.is_some() {
+            return on_probation;
+        }
+        self.oldest_until(index, pass, Queue::Main, until)
     }
 
     // The segment was refilled, for puts or as a main one.

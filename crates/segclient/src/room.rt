@@ -1,6 +1,6 @@
 //! How a put makes room: it recycles segments of its own in the order in which they were filled,
 //! or by queues.
-ghost use Rattle.std.specs.Prelude.{◌≡◌, ◌≢◌, ◌+◌, ◌*◌, ◌<◌, ◌≤◌, ◌^◌, ℕ, true, Some, None};
+ghost use Rattle.std.specs.Prelude.{◌≡◌, ◌≢◌, ◌+◌, ◌*◌, ◌<◌, ◌≤◌, ◌^◌, ℕ, true, is_some, Some, None};
 ghost use Rattle.segmodel.specs.Words.{owner};
 ghost use Rattle.segbase.specs.Words.{current_of, number};
 ghost use Rattle.segstore.specs.Words.{GoesOn, has_room, IsQuiet};
@@ -10,15 +10,15 @@ ghost use Rattle.segclient.specs.PutParts.{Arranges, effort_from, Empties, Gives
 ghost use Rattle.segclient.specs.PutParts.{most_for_room, most_in_turn, StoresAsBefore};
 ghost use Rattle.segclient.specs.Rings.{IsOwnRing};
 
-use crate::arranging::{Room, arrange};
-use crate::queues::Queues;
+use crate::arranging::{Room, free_two};
+use crate::queues::{Queue, Queues};
 use crate::tally::evicted_by;
 use segindex::{Index, KeepRowAnswer, Pass};
 use segmodel::{EvictAnswer, RefillAnswer, SegState};
 use segpolicy::Ring;
 
-// The segments of a pass: in the order in which they are given up, and in queues,
-// if it keeps what was read by queues.
+// The segments of a pass. The ring has the order in which they are given up, unless the queues do,
+// by which a client keeps what was read.
 #[derive(Drop)]
 pub(crate) struct Segments {
     pub(crate) ring: Ring,
@@ -51,6 +51,17 @@ impl Effort {
             refilled: 0,
             kept: 0,
             keys: 0,
+        }
+    }
+
+    // No segment was refilled, and no item kept.
+    fn evicting(keys: u64) -> Effort
+        ensures { result ≡ record { refilled = 0; kept = 0; keys = keys } }
+    {
+        Effort {
+            refilled: 0,
+            kept: 0,
+            keys,
         }
     }
 
@@ -267,7 +278,46 @@ fn has_room_until(index: &Index, pass: &Pass, deadline: u32) -> bool
     has_room(index, pass)
 }
 
-// Makes room by the queues. If that left no row, it gives up segments in turn.
+// Gives up the first segment in the queues' order for which that comes about, for puts.
+// One that is refused comes last. The current one isn't given up.
+fn make_room_in_order(
+    index: &Index,
+    pass: &mut Pass,
+    queues: &mut Queues,
+    deadline: u32,
+) -> (bool, Effort)
+    requires quiet { IsQuiet (board_of index.now) pass.old }
+    ensures on { GoesOn (board_of index.now) pass.old pass.new }
+    ensures few { (result.1.refilled ≤ 1) × (result.1.kept ≡ 0) × (result.1.keys < 2 ^ 57) }
+    ensures arranges { Arranges (board_of index.now) None deadline
+        (most_in_turn (shape_of index.now)) result.1 pass.old pass.new }
+    ensures room { result.0 ≡ true → MakesRoom (board_of index.now) None deadline
+        (most_in_turn (shape_of index.now)) true result.1 pass.old pass.new }
+{
+    let until = queues.last_turn();
+    let mut keys = 0;
+    for tried in 0..index.shape().segments_each {
+        let Some(segment) = queues.next_until(index, pass, until) else {
+            return (false, Effort::evicting(keys));
+        };
+        let (is_refilled, more) = give_up(index, pass, segment, deadline);
+        keys += u64::from(more);
+        if is_refilled {
+            queues.was_refilled(segment, false);
+            let refilled = Effort {
+                refilled: 1,
+                kept: 0,
+                keys,
+            };
+            return (true, refilled);
+        }
+        queues.was_evicted(segment);
+    }
+    (false, Effort::evicting(keys))
+}
+
+// Makes room by the queues. If no segment could be given up in their order, each is tried
+// once more, and the current one at last.
 fn make_room_in_queues(
     index: &Index,
     pass: &mut Pass,
@@ -284,8 +334,14 @@ fn make_room_in_queues(
     ensures room { MakesRoom (board_of index.now) (Some room.least) room.deadline
         (most_for_room (shape_of index.now)) result.0 result.1 pass.old pass.new }
 {
-    let effort = arrange(index, pass, queues, room);
-    if has_room_until(index, pass, room.deadline) {
+    let cleared = free_two(index, pass, queues, room);
+    let is_scarce = queues.count(index, pass, Queue::Free) < 2;
+    if is_scarce && has_room_until(index, pass, room.deadline) {
+        return (true, cleared);
+    }
+    let (is_made, first) = make_room_in_order(index, pass, queues, room.deadline);
+    let effort = cleared.plus(first);
+    if is_made {
         return (true, effort);
     }
     let (is_made, last) = make_room(index, pass, ring, room.deadline);
@@ -308,6 +364,7 @@ pub(crate) fn make_room_by(
     requires own { IsOwnRing (shape_of index.now) (number pass.old) segments.old.ring }
     ensures on { GoesOn (board_of index.now) pass.old pass.new }
     ensures own { IsOwnRing (shape_of index.now) (number pass.new) segments.new.ring }
+    ensures queues { is_some segments.new.queues ≡ is_some segments.old.queues }
     ensures few { (result.1.refilled < 2 ^ 30) × (result.1.kept < 2 ^ 60)
         × (result.1.keys < 2 ^ 59) }
     ensures room { MakesRoom (board_of index.now) policy.cutoff policy.deadline
@@ -331,7 +388,7 @@ pub(crate) fn make_room_by(
 
 // The segment in use that was filled before all others of the pass, but for the one that it stores
 // into. That one only if it has no other. The ring goes once round.
-fn oldest(index: &Index, pass: &Pass, ring: &mut Ring) -> u32
+fn oldest_in_turn(index: &Index, pass: &Pass, ring: &mut Ring) -> u32
     requires quiet { IsQuiet (board_of index.now) pass.now }
     requires own { IsOwnRing (shape_of index.now) (number pass.now) ring.old }
     ensures ring { IsOwnRing (shape_of index.now) (number pass.now) ring.new }
@@ -352,17 +409,40 @@ fn oldest(index: &Index, pass: &Pass, ring: &mut Ring) -> u32
     oldest
 }
 
+// The oldest segment in use, but for the one that the pass stores into: by the queues, if there are
+// some, and else by the ring. The current one only if it has no other.
+fn oldest(index: &Index, pass: &Pass, segments: &mut Segments) -> u32
+    requires quiet { IsQuiet (board_of index.now) pass.now }
+    requires own { IsOwnRing (shape_of index.now) (number pass.now) segments.old.ring }
+    ensures ring { IsOwnRing (shape_of index.now) (number pass.now) segments.new.ring }
+    ensures queues { is_some segments.new.queues ≡ is_some segments.old.queues }
+    ensures own { owner (shape_of index.now) result ≡ number pass.now }
+    ensures alone { current_of pass.now ≡ Some result
+        → (other : ℕ) → owner (shape_of index.now) other ≡ number pass.now → other ≡ result }
+{
+    if let Some(queues) = segments.queues.as_ref() {
+        if let Some(segment) = queues.oldest_in_use(index, pass) {
+            return segment;
+        }
+    }
+    oldest_in_turn(index, pass, &mut segments.ring)
+}
+
 // Evicts the oldest segment, for the words that its keys have in their buckets.
-pub(crate) fn evict_oldest(index: &Index, pass: &mut Pass, ring: &mut Ring) -> Effort
+pub(crate) fn evict_oldest(index: &Index, pass: &mut Pass, segments: &mut Segments) -> Effort
     requires quiet { IsQuiet (board_of index.now) pass.old }
-    requires own { IsOwnRing (shape_of index.now) (number pass.old) ring.old }
+    requires own { IsOwnRing (shape_of index.now) (number pass.old) segments.old.ring }
     ensures on { GoesOn (board_of index.now) pass.old pass.new }
-    ensures own { IsOwnRing (shape_of index.now) (number pass.new) ring.new }
+    ensures own { IsOwnRing (shape_of index.now) (number pass.new) segments.new.ring }
+    ensures queues { is_some segments.new.queues ≡ is_some segments.old.queues }
     ensures few { (result.refilled ≡ 0) × (result.kept ≡ 0) × (result.keys < 2 ^ 32) }
     ensures empties { Empties (board_of index.now) result pass.old pass.new }
 {
-    let segment = oldest(index, pass, ring);
+    let segment = oldest(index, pass, segments);
     let keys = evicted_by(index.evict(pass, segment));
+    if let Some(queues) = segments.queues.as_mut() {
+        queues.was_evicted(segment);
+    }
     Effort {
         refilled: 0,
         kept: 0,

@@ -11,4 +11,4 @@ returns-then-count-eq0-clause-arranges c =
 pub returns-clause-arranges : goal.returns-clause-arranges
 returns-clause-arranges c =
     let b = board_of c.args.index.now in
-    arranges_as b (Some c.args.room.least) c.args.room.deadline 1 (b.shape.rows + 1) c.refill-effort.result c.refill-effort.result c.args.pass.now c.refill-effort.new.pass (omega arith) refl refl refl (c.refill-effort.ensures.arranges (Some c.args.room.least))
+    arranges_as b (Some c.args.room.least) c.args.room.deadline 1 (b.shape.rows + 1) c.refill_main-effort.result c.refill_main-effort.result c.args.pass.now c.refill_main-effort.new.pass (omega arith) refl refl refl (c.refill_main-effort.ensures.arranges (Some c.args.room.least))

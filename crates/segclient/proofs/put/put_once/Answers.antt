@@ -1,4 +1,4 @@
-use Rattle.std.proofs.Common.{◌≢◌, sym, ◌∙◌, subst, arith}
+use Rattle.std.proofs.Common.{◌≢◌, refl, sym, ◌∙◌, subst, arith}
 use Rattle.segindex.specs.Words.{board_of}
 use Rattle.segevict.proofs.RowsOut.{goes_then}
 use Rattle.segclient.specs.declared.put.PutAnswer.TheVariants as put
@@ -25,6 +25,7 @@ returns-in-Stored c =
     record {
       on = first.ensures.on;
       own = subst (λ n. IsOwnRing b.shape n c.args.segments.now.ring) (sym first.ensures.on.same) c.requires.own;
+      queues = refl;
       puts = whole_put b plan moment (most_for_put b.shape) (most_calls b.shape) first.result c.none.result c.args.pass.now first.new.pass (put_few b.shape) (
         subst (λ e. MakesPut b plan moment (most_for_put b.shape) first.result e c.args.pass.now first.new.pass) (sym c.none.ensures)
             (sets_end b plan moment (most_for_put b.shape) first.result c.args.pass.now first.new.pass (omega arith) (λ e. stored_apart (sym c.in-Stored.is ∙ e)) first.ensures.sets),

@@ -1,4 +1,4 @@
-use Rattle.std.proofs.Common.{◌≢◌, ◌+◌, sym, ap, ◌∙◌, subst, arith}
+use Rattle.std.proofs.Common.{◌≢◌, ◌+◌, refl, sym, ap, ◌∙◌, subst, arith}
 use Rattle.std.proofs.lemmas.Bool.{false≢true}
 use Rattle.segindex.specs.Words.{board_of}
 use Rattle.segstore.proofs.Idling.{goes_same}
@@ -19,6 +19,7 @@ returns-in_default c =
     record {
       on = goes_same b p c.requires.quiet;
       own = c.requires.own;
+      queues = refl;
       few = (
         let x = ap (λ (e : Effort). e.refilled) c.none.ensures in omega (arith, x),
         let x = ap (λ (e : Effort). e.kept) c.none.ensures in omega (arith, x),
@@ -55,6 +56,7 @@ returns-clause-sets c = λ start is.
     let none = effort_from 0 0 0 in
     let first = lacked b plan moment start p (subst (λ t. SetsIfFresh b plan moment t start p) c.in-NoRoom.is is) in
     let on = room_on b plan moment 16 none start p room.new.pass first most room.result.0 room.result.1 room.ensures.room in
-    let other : last.result ≢ put.NoRoom = λ lacks. false≢true (sym (last.ensures.sets.no_room lacks) ∙ room.ensures.room.room ∙ c.if-not-is_made.false) in
+    let left = room.ensures.room.room ∙ c.if-not-is_made.false in
+    let other : last.result ≢ put.NoRoom = λ lacks. false≢true (sym (last.ensures.sets.no_room lacks).0 ∙ left) in
     as_many b plan moment (16 + most + 16) (most_for_set b.shape) last.result (both none room.result.1) room.result.1 start last.new.pass (omega arith) (none_more room.result.1)
-    (sets_on b plan moment (16 + most) (both none room.result.1) start room.new.pass last.new.pass on last.result other last.ensures.sets)
+    (sets_on b plan moment (16 + most) (both none room.result.1) start room.new.pass last.new.pass on last.result other left last.ensures.sets)

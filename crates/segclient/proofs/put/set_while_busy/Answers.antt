@@ -1,7 +1,7 @@
 use Rattle.std.proofs.Common.{◌≡◌, ◌≢◌, ◌∷◌, refl, sym, ◌∙◌, subst, arith}
 use Rattle.segmodel.specs.declared.answer.WriteAnswer.TheVariants as write
 use Rattle.segindex.specs.Words.{board_of}
-use Rattle.segstore.proofs.Idling.{goes_same}
+use Rattle.segstore.proofs.Idling.{goes_same, unchanged}
 use Rattle.segevict.proofs.RowsOut.{goes_then}
 use Rattle.segclient.specs.declared.put.PutAnswer.TheVariants as put
 use Rattle.segclient.specs.PutCalls.{sets, Makes}
@@ -60,7 +60,10 @@ returns-in-NoRoom-clause-sets c =
       makes = set_more b c.args.order write.NoRoom c.loop-tries.tries c.args.pass.now c.loop-tries.pass c.set.new.pass c.requires.fresh was.busy was.plain tt writes;
       few = let long = busy_long c.loop-tries.tries in omega (arith, long);
       are = (c.loop-tries.tries, refl);
-      no_room = λ e. sym (same_room b c.args.pass.now c.loop-tries.pass was.plain) ∙ writes.no_room.0 refl;
+      no_room = λ e. let full = writes.no_room.0 refl in (
+        sym (same_room b c.args.pass.now c.loop-tries.pass was.plain) ∙ full,
+        same_room b c.loop-tries.pass c.set.new.pass (unchanged c.loop-tries.pass c.set.new.pass writes.answer).plain ∙ full,
+      );
     }
 
 pub returns-in-BucketFull-clause-on : goal.returns-in-BucketFull-clause-on

@@ -21,6 +21,6 @@ returns-clause-makes c =
       memo = room_memo b old.cutoff (deadline_of old) made.arranges.calls old.pass room.new.pass c.requires.member.0 made.arranges.makes;
       stats = c.count_effort.ensures ∙ counted_too made.arranges.calls room.result.1 old.stats made.arranges.comes;
       draws = refl;
-      settings = record { number = room.ensures.on.same; clock = refl; time_to_live = refl; cutoff = refl };
+      settings = record { number = room.ensures.on.same; clock = refl; time_to_live = refl; cutoff = refl; queues = room.ensures.queues };
       costs = let few = made.arranges.few in let bound = room_few b.shape in omega (arith, few, bound);
     }

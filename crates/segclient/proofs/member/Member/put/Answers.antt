@@ -29,10 +29,11 @@ returns-clause-puts c =
       makes = whole.makes;
       answer = whole.answer;
       not_stored = whole.not_stored;
+      tries = whole.tries;
       spares = λ until stores late left. whole.spares (not_stale until old.clock old.pass stores late) left;
       memo = put_memo b plan (number old.pass) told whole.calls old.pass q c.requires.member.0 whole.answer whole.not_stored whole.makes;
       stats = c.count.ensures ∙ ap (λ tally. counted tally c.count_effort.new.self) c.of_put.ensures ∙ ap (counted (put_tally told)) (c.count_effort.ensures ∙ counted_too whole.calls effort old.stats whole.comes);
       draws = refl;
-      settings = record { number = put.ensures.on.same; clock = refl; time_to_live = refl; cutoff = refl };
+      settings = record { number = put.ensures.on.same; clock = refl; time_to_live = refl; cutoff = refl; queues = put.ensures.queues };
       costs = whole.few;
     }

@@ -1,11 +1,10 @@
-use Rattle.std.proofs.Common.{◌≡◌, ◌≢◌, ℕ, ◌*◌, ◌+◌, ◌<◌, None, Some, IfSome, inl, inr, refl, sym, ap, ◌∙◌, subst, arith, rules}
+use Rattle.std.proofs.Common.{◌≡◌, ◌≢◌, ℕ, ◌*◌, ◌+◌, ◌<◌, Some, IfSome, inl, inr, sym, ap, ◌∙◌, subst, arith, rules}
 use Rattle.std.proofs.lemmas.Bool.{cases_eq}
 use Rattle.std.proofs.lemmas.Option.{none-some}
 use Rattle.segmodel.specs.declared.answer.SegState.TheVariants.{InUse}
 use Rattle.segmodel.specs.Words.{owner}
 use Rattle.segbase.specs.Words.{current_of, number, state_of}
-use Rattle.segindex.specs.Words.{board_of, shape_of}
-use Rattle.segclient.specs.declared.queues.Queue.TheVariants.{Free}
+use Rattle.segindex.specs.Words.{board_of}
 use Rattle.segclient.proofs.Turns.{own_at, own_is}
 use Rattle.segclient.proofs.queues.Queues.oldest.Goals as goal
 use Rattle.segclient.proofs.queues.Queues.oldest.Goals.{then-ne+then-eq+then-turn-least, else-ne, else-ne-via-then-ne+then-eq+else-turn-least, else-ne-via-then-ne+else-eq, else-ne-via-else-ne}

@@ -4,7 +4,7 @@ use Rattle.segbase.specs.Words.{number}
 use Rattle.segindex.specs.Words.{shape_of}
 use Rattle.segclient.specs.Rings.{IsOwnRing}
 use Rattle.segclient.proofs.Turns.{IsAhead}
-use Rattle.segclient.proofs.room.oldest.Given as goal
+use Rattle.segclient.proofs.room.oldest_in_turn.Given as goal
 
 abbrev pub invariant-loop-tried : goal.invariant-loop-tried
 invariant-loop-tried l = record {

@@ -6,8 +6,8 @@ use Rattle.segbase.specs.Words.{number}
 use Rattle.segindex.specs.Words.{board_of}
 use Rattle.segclient.specs.Rings.{IsOwnRing}
 use Rattle.segclient.proofs.Turns.{IsAhead, own_in_ring, own_turned, still_ahead}
-use Rattle.segclient.proofs.room.oldest.Goals as goal
-use Rattle.segclient.proofs.room.oldest.Goals.{then-not-is_found+then-ne, else-not-is_found, else-not-is_found-via-then-not-is_found+else-ne, else-not-is_found-via-else-not-is_found}
+use Rattle.segclient.proofs.room.oldest_in_turn.Goals as goal
+use Rattle.segclient.proofs.room.oldest_in_turn.Goals.{then-not-is_found+then-ne, else-not-is_found, else-not-is_found-via-then-not-is_found+else-ne, else-not-is_found-via-else-not-is_found}
 
 pub loop-tried-preserved : goal.loop-tried-preserved
 loop-tried-preserved c =

@@ -2,7 +2,7 @@ use Rattle.std.proofs.Common.{refl}
 use Rattle.segindex.specs.Words.{board_of}
 use Rattle.segclient.specs.PutParts.{effort_from}
 use Rattle.segclient.proofs.Calls.{none_arranges, refill_arranges}
-use Rattle.segclient.proofs.arranging.refill.Goals as goal
+use Rattle.segclient.proofs.arranging.refill_main.Goals as goal
 
 pub returns-in_default-clause-arranges : goal.returns-in_default-clause-arranges
 returns-in_default-clause-arranges c = λ cutoff. none_arranges (board_of c.args.index.now) cutoff c.args.deadline 1 c.none.result c.args.pass.now c.none.ensures
