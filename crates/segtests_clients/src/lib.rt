@@ -15,6 +15,8 @@ mod counting;
 #[cfg(test)]
 mod first_cache;
 #[cfg(test)]
+mod full_bucket;
+#[cfg(test)]
 mod index_caller;
 #[cfg(test)]
 mod keeping;
