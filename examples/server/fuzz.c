@@ -15,7 +15,7 @@ static void begin(void) {
 
 /* One piece comes in, is served as far as it goes, and the replies are taken out. False once the connection ends. */
 static bool send_piece(struct connection *connection, const uint8_t *piece, size_t length) {
-  if (!reserve(connection, &connection->input, length)) return false;
+  if (!has_room(connection, &connection->input, length)) return false;
   memcpy(connection->input.at + connection->input.length, piece, length);
   connection->input.length += length;
   while (serve_waiting(connection)) {

@@ -1,6 +1,7 @@
 /* An example of the library: a server of memcached's text protocol over epoll. Each worker thread has a
  * client of the cache of its own, and serves many connections. README.md says what it answers. */
 #define _GNU_SOURCE
+#include "buffer.h"
 #include "segcache.h"
 #include "words.h"
 #include <arpa/inet.h>
@@ -26,7 +27,6 @@
 
 enum {
   MOST_WORDS = 8,         /* that are looked at */
-  ROOM = 16 * 1024,       /* of a buffer, at first */
   MOST_LINE = 64 * 1024,  /* a longer line ends the connection */
   MOST_REPLY = 64 * 1024, /* with so much unsent, no further command is served */
   PIECE = 16,             /* keys that are looked up at a time */
@@ -56,8 +56,6 @@ struct worker {
   segcache_stats_t counts; /* the client's counts after the last round, for any worker's stats */
 };
 
-struct buffer { char *at; size_t length, room, done; }; /* done: so much at the front is served or sent */
-
 struct connection {
   int socket;
   bool closing;    /* after the replies are sent, the connection ends */
@@ -81,27 +79,29 @@ enum kind { SET, ADD, REPLACE, CAS };
 
 static int64_t seconds(void) {
   struct timespec time;
-  return clock_gettime(CLOCK_MONOTONIC, &time), time.tv_sec;
+  clock_gettime(CLOCK_MONOTONIC, &time);
+  return time.tv_sec;
 }
 
 /* Makes room for so many bytes more. If memory is refused, the connection ends. */
-static bool reserve(struct connection *connection, struct buffer *buffer, size_t more) {
-  size_t room = buffer->room == 0 ? ROOM : buffer->room;
-  while (room - buffer->length < more) room *= 2;
-  char *at = room == buffer->room ? buffer->at : realloc(buffer->at, room);
-  if (at == NULL) return connection->closing = true, false;
-  return buffer->at = at, buffer->room = room, true;
+static bool has_room(struct connection *connection, struct buffer *buffer, size_t more) {
+  if (reserve(buffer, more)) return true;
+  connection->closing = true;
+  return false;
 }
 
 static void reply(struct connection *connection, const char *bytes, size_t length) {
   struct buffer *buffer = &connection->reply;
-  if (!reserve(connection, buffer, length)) return;
-  memcpy(buffer->at + buffer->length, bytes, length), buffer->length += length;
+  if (!has_room(connection, buffer, length)) return;
+  append(buffer->at + buffer->length, bytes, length);
+  buffer->length += length;
 }
 
 /* Answers a line, if an answer is wanted. It is always true: the command has come whole. */
 static bool say(struct connection *connection, bool quiet, const char *text) {
-  if (!quiet) reply(connection, text, strlen(text)), reply(connection, "\r\n", 2);
+  if (quiet) return true;
+  reply(connection, text, strlen(text));
+  reply(connection, "\r\n", 2);
   return true;
 }
 
@@ -109,15 +109,6 @@ static bool say(struct connection *connection, bool quiet, const char *text) {
 static bool refuse(struct connection *connection, bool quiet, uint64_t length, const char *text) {
   connection->swallow = length + 2;
   return say(connection, quiet, text);
-}
-
-static const char *text_of(uint32_t status) {
-  return status == SEGCACHE_OK           ? "STORED"
-         : status == SEGCACHE_NOT_STORED ? "NOT_STORED"
-         : status == SEGCACHE_EXISTS     ? "EXISTS"
-         : status == SEGCACHE_NOT_FOUND  ? "NOT_FOUND"
-         : status == SEGCACHE_BUSY       ? "SERVER_ERROR busy"
-                                         : "SERVER_ERROR out of memory storing object";
 }
 
 /* Whether a call is made, and after the first only when a preempted thread had a moment to go on. */
@@ -174,11 +165,13 @@ static uint32_t store(struct worker *worker, enum kind kind, const struct item *
 static void reply_value(struct connection *connection, const struct item *item, bool with_version) {
   size_t length = item->length - sizeof item->value.flags;
   char text[128] = "VALUE ", *at = text + 6;
-  memcpy(at, item->key.at, item->key.length), at += item->key.length;
-  *at++ = ' ', at += write_number(at, item->value.flags), *at++ = ' ', at += write_number(at, length);
-  if (with_version) *at++ = ' ', at += write_number(at, UNIQUE + item->version);
-  *at++ = '\r', *at++ = '\n';
-  memcpy(at, item->value.data, length), at += length, *at++ = '\r', *at++ = '\n';
+  at = append(at, item->key.at, item->key.length);
+  at = append_number(at, item->value.flags);
+  at = append_number(at, length);
+  if (with_version) at = append_number(at, UNIQUE + item->version);
+  at = append(at, "\r\n", 2);
+  at = append(at, item->value.data, length);
+  at = append(at, "\r\n", 2);
   reply(connection, text, (size_t)(at - text));
 }
 
@@ -227,7 +220,9 @@ static bool serve_store(struct connection *connection, enum kind kind, struct re
   request->took = length + 2;
   if (memcmp(request->data.at + length, "\r\n", 2) != 0) return say(connection, false, "CLIENT_ERROR bad data chunk");
   memcpy(item.value.data, request->data.at, length);
-  item.value.flags = (uint32_t)flags, item.version = (uint32_t)version, item.length = sizeof item.value.flags + length;
+  item.value.flags = (uint32_t)flags;
+  item.version = (uint32_t)version;
+  item.length = sizeof item.value.flags + length;
   if (kind == CAS && version >> 32 != 1)
     return say(connection, request->quiet, find(worker, &item, false) ? "EXISTS" : "NOT_FOUND");
   return say(connection, request->quiet, text_of(store(worker, kind, &item)));
@@ -310,7 +305,10 @@ static size_t serve(struct connection *connection, const char *input, size_t len
   static const char *const stores[] = {"set", "add", "replace", "cas"};
   const char *newline = memchr(input, '\n', length);
   if (newline == NULL && length < MOST_LINE) return 0;
-  if (newline == NULL) return connection->closing = say(connection, false, "CLIENT_ERROR line too long"), length;
+  if (newline == NULL) {
+    connection->closing = say(connection, false, "CLIENT_ERROR line too long");
+    return length;
+  }
   size_t whole = (size_t)(newline + 1 - input);
   struct word line = {input, whole - (newline > input && newline[-1] == '\r' ? 2 : 1)}, rest = line;
   struct word verb = next_word(&rest);
@@ -325,18 +323,11 @@ static size_t serve(struct connection *connection, const char *input, size_t len
   return serve_line(connection, &request) ? whole : 0;
 }
 
-/* Takes away what is done with. */
-static void drop_front(struct buffer *buffer) {
-  buffer->length -= buffer->done;
-  if (buffer->done > 0 && buffer->length > 0) memmove(buffer->at, buffer->at + buffer->done, buffer->length);
-  buffer->done = 0;
-}
-
 /* Reads what has come. False if the other side has ended. */
 static bool take_in(struct connection *connection) {
   struct buffer *input = &connection->input;
   drop_front(input);
-  if (!reserve(connection, input, ROOM / 2)) return false;
+  if (!has_room(connection, input, ROOM / 2)) return false;
   ssize_t got = recv(connection->socket, input->at + input->length, input->room - input->length, 0);
   if (got > 0) input->length += (size_t)got;
   return got > 0 || (got < 0 && (errno == EAGAIN || errno == EINTR));
@@ -386,7 +377,9 @@ static bool go_on(struct connection *connection, uint32_t events) {
 static void end_connection(struct connection *connection) {
   atomic_fetch_sub(&connection->worker->server->connections, 1);
   close(connection->socket);
-  free(connection->input.at), free(connection->reply.at), free(connection);
+  free(connection->input.at);
+  free(connection->reply.at);
+  free(connection);
 }
 
 static void *work(void *argument) {
@@ -440,7 +433,8 @@ static int listen_at(const struct server *server) {
 /* Sets a worker up, and starts its thread. */
 static bool start(struct server *server, struct worker *worker) {
   struct epoll_event stop = {.events = EPOLLIN, .data.ptr = NULL};
-  worker->server = server, worker->epoll = epoll_create1(EPOLL_CLOEXEC);
+  worker->server = server;
+  worker->epoll = epoll_create1(EPOLL_CLOEXEC);
   pthread_mutex_init(&worker->counts_lock, NULL);
   if (server->time_to_live > 0) segcache_set_time_to_live(&worker->client, server->time_to_live);
   if (server->keep_from != BY_QUEUES) segcache_keep_from(&worker->client, server->keep_from);
@@ -473,17 +467,27 @@ static bool read_options(struct server *server, int count, char **words) {
 int main(int count, char **words) {
   struct server server = {"127.0.0.1", .port = 11211, .threads = 4, .keys = 100000, .most_connections = 1024,
                           .keep_from = BY_QUEUES};
-  if (!read_options(&server, count, words))
-    return fprintf(stderr, "usage: server [-l ADDRESS] [-p PORT] [-t THREADS] [-k KEYS] [-c CONNECTIONS]\n"
-                           "              [-e TIME TO LIVE] [-f CUTOFF]\n"), 2;
+  if (!read_options(&server, count, words)) {
+    fprintf(stderr, "usage: server [-l ADDRESS] [-p PORT] [-t THREADS] [-k KEYS] [-c CONNECTIONS]\n"
+                    "              [-e TIME TO LIVE] [-f CUTOFF]\n");
+    return 2;
+  }
   segcache_client clients[SEGCACHE_MAX_THREADS];
   struct worker workers[SEGCACHE_MAX_THREADS] = {0};
   uint32_t status = segcache_open(server.keys, server.threads, &server.cache, clients);
-  if (status != SEGCACHE_OK) return fprintf(stderr, "server: %s\n", segcache_text(status)), 1;
+  if (status != SEGCACHE_OK) {
+    fprintf(stderr, "server: %s\n", segcache_text(status));
+    return 1;
+  }
   for (uint32_t i = 0; i < server.threads; i++) workers[i].client = clients[i];
   sigset_t ends;
-  sigemptyset(&ends), sigaddset(&ends, SIGINT), sigaddset(&ends, SIGTERM), pthread_sigmask(SIG_BLOCK, &ends, NULL);
-  server.workers = workers, server.started = seconds(), server.stop = eventfd(0, EFD_CLOEXEC);
+  sigemptyset(&ends);
+  sigaddset(&ends, SIGINT);
+  sigaddset(&ends, SIGTERM);
+  pthread_sigmask(SIG_BLOCK, &ends, NULL);
+  server.workers = workers;
+  server.started = seconds();
+  server.stop = eventfd(0, EFD_CLOEXEC);
   int listener = listen_at(&server), signals = signalfd(-1, &ends, SFD_CLOEXEC);
   bool ran = listener >= 0 && signals >= 0 && server.stop >= 0 && run(&server, listener, signals);
   if (!ran) fprintf(stderr, "server: can't serve at %s:%u: %s\n", server.address, server.port, strerror(errno));
