@@ -30,8 +30,8 @@
  *      that is passed to it.
  *   4. malloc, realloc and free come from one allocator, and align to 16 bytes.
  *   5. No call from a signal handler, and none in a forked child of a program with threads.
- *   6. A thread that calls has a stack as threads have by default, and the names segcache_raw_.. mean the
- *      library's own functions.
+ *   6. A thread that calls has SEGCACHE_STACK bytes of stack left, as each has that wasn't made with a small
+ *      stack. The program has one copy of the library, and the names segcache_raw_.. and segcache_opened are its.
  * Compiled with -DSEGCACHE_DEBUG, each call checks some of 1, 2 and 3, and aborts with one line on standard
  * error where it finds a breach. That needs gcc or clang, and all files of a program compiled alike.
  */
@@ -71,6 +71,7 @@ enum {
 #define SEGCACHE_MAX_KEY 24u
 #define SEGCACHE_MAX_VALUE 32u
 #define SEGCACHE_MAX_THREADS 64u
+#define SEGCACHE_STACK 16384u /* bytes of stack that are enough for each call: measured, with a call of malloc */
 
 /* What a handle is to the library. Its content is the library's own. */
 typedef struct segcache_handle {
@@ -81,14 +82,15 @@ typedef struct segcache_handle {
 /* A cache. Zeroed, it is none. */
 typedef struct segcache {
   segcache_handle raw;
+  uint64_t number; /* no other cache of the program ever has it */
 } segcache;
 
 /* A client: what one thread calls the cache by. Zeroed, it is none. As large as a cache line, so that
    clients in an array do not slow each other down. */
 typedef struct segcache_client {
   segcache_handle raw;
-  const void *home; /* the cache that it is of */
-  char apart[64 - sizeof(segcache_handle) - sizeof(void *)];
+  uint64_t home; /* the number of its cache */
+  char apart[64 - sizeof(segcache_handle) - sizeof(uint64_t)];
 } segcache_client;
 
 /* The content of a closed cache, from pair to pair. Zeroed, it is none. */
@@ -99,7 +101,7 @@ typedef struct segcache_cursor {
 /* What a client had seen when it made the note. Zeroed, it is none. */
 typedef struct segcache_note_t {
   segcache_handle raw;
-  const void *home; /* the cache of that client */
+  uint64_t home; /* the number of that client's cache */
 } segcache_note_t;
 
 /* The size of a cache. segcache_open makes one up from a number of keys. Each bucket, overflow bucket and row takes
@@ -184,26 +186,29 @@ uint32_t segcache_raw_free(segcache_handle *cache);
 #define SEGCACHE_CALL(of, call) ((of) == NULL ? (uint32_t)SEGCACHE_NO_HANDLE : (call))
 #define SEGCACHE_BYTES(at, length) ((void)0)
 #define SEGCACHE_APART(a, a_len, b, b_len) ((void)0)
-#define SEGCACHE_OPENED(cache, clients, count) ((void)0)
-#define SEGCACHE_NOTED(client, note) ((void)0)
-#define SEGCACHE_SAME_CACHE(client, note) ((void)0)
-#define SEGCACHE_CLOSED(cursor) ((void)0)
+#define SEGCACHE_LIVES(handle) ((void)0)
 #endif
 
 /* --- Opening ---------------------------------------------------------------------------------------- */
+
+/* How many caches were opened, by all files of the program. So each has a number of its own. */
+__attribute__((weak)) uint64_t segcache_opened;
 
 /* What open and open_shape hand to the user: handles at their places. */
 static inline uint32_t segcache_hand_out(uint32_t status, segcache_handle made, const segcache_handle *raw,
                                          uint32_t count, segcache *cache, segcache_client *clients) {
   uint32_t i;
   memset(cache, 0, sizeof *cache);
+  for (i = 0; i < count; i++) memset(&clients[i], 0, sizeof clients[i]);
+  if (status != SEGCACHE_OK) return status;
   cache->raw = made;
+  cache->number = __atomic_add_fetch(&segcache_opened, 1, __ATOMIC_RELAXED);
+  SEGCACHE_LIVES(cache);
   for (i = 0; i < count; i++) {
-    memset(&clients[i], 0, sizeof clients[i]);
     clients[i].raw = raw[i];
-    clients[i].home = made.at;
+    clients[i].home = cache->number;
+    SEGCACHE_LIVES(&clients[i]);
   }
-  if (status == SEGCACHE_OK) SEGCACHE_OPENED(cache, clients, count);
   return status;
 }
 
@@ -266,7 +271,8 @@ static inline uint32_t segcache_gets(segcache_client *client, const void *key, s
    Answers: OK, whatever the lookups have; NO_HANDLE, and they are as they were. */
 static inline uint32_t segcache_get_many(segcache_client *client, const void *keys, size_t len, uint32_t now,
                                          segcache_lookup *lookups, size_t count) {
-  SEGCACHE_BYTES(keys, len), SEGCACHE_BYTES(lookups, count);
+  SEGCACHE_BYTES(keys, len);
+  SEGCACHE_BYTES(lookups, count);
   SEGCACHE_APART(lookups, count * sizeof *lookups, keys, len);
   return SEGCACHE_CALL(client, segcache_raw_get_many(&client->raw, (const uint8_t *)keys, len, lookups, count, now));
 }
@@ -274,7 +280,8 @@ static inline uint32_t segcache_get_many(segcache_client *client, const void *ke
 /* The same with the version of each key's bucket, for segcache_cas. Answers as segcache_get_many. */
 static inline uint32_t segcache_gets_many(segcache_client *client, const void *keys, size_t len, uint32_t now,
                                           segcache_lookup *lookups, size_t count) {
-  SEGCACHE_BYTES(keys, len), SEGCACHE_BYTES(lookups, count);
+  SEGCACHE_BYTES(keys, len);
+  SEGCACHE_BYTES(lookups, count);
   SEGCACHE_APART(lookups, count * sizeof *lookups, keys, len);
   return SEGCACHE_CALL(client, segcache_raw_gets_many(&client->raw, (const uint8_t *)keys, len, lookups, count, now));
 }
@@ -377,7 +384,7 @@ static inline uint32_t segcache_note(segcache_client *client, segcache_note_t *n
   status = SEGCACHE_CALL(client, segcache_raw_note(&client->raw, &note->raw));
   if (status != SEGCACHE_OK) return status;
   note->home = client->home;
-  SEGCACHE_NOTED(client, note);
+  SEGCACHE_LIVES(note);
   return status;
 }
 
@@ -386,12 +393,12 @@ static inline uint32_t segcache_learn_entered(segcache_client *client, segcache_
   return SEGCACHE_CALL(note, segcache_raw_learn(&client->raw, &note->raw));
 }
 
-/* The client has then seen what the note has. The note is none afterwards. It is of a client of the same cache,
-   and not of one that was freed. Answers: OK; FOREIGN, and nothing changed; NO_HANDLE, of either. */
+/* The client has then seen what the note has. The note is none afterwards.
+   Answers: OK; FOREIGN, if the note is of another cache, also of one that was freed, and nothing changed;
+   NO_HANDLE, of either. */
 static inline uint32_t segcache_learn(segcache_client *client, segcache_note_t *note) {
   if (client == NULL || note == NULL || !client->raw.full || !note->raw.full) return SEGCACHE_NO_HANDLE;
   if (client->home != note->home) return SEGCACHE_FOREIGN;
-  SEGCACHE_SAME_CACHE(client, note);
   return SEGCACHE_CALL(client, segcache_learn_entered(client, note));
 }
 
@@ -448,7 +455,7 @@ static inline uint32_t segcache_give_back_entered(segcache *cache, segcache_clie
    Answers: OK; FOREIGN, and nothing changed; NO_HANDLE, of either. */
 static inline uint32_t segcache_give_back(segcache *cache, segcache_client *client) {
   if (client == NULL || cache == NULL || !client->raw.full || !cache->raw.full) return SEGCACHE_NO_HANDLE;
-  if (client->home != cache->raw.at) return SEGCACHE_FOREIGN;
+  if (client->home != cache->number) return SEGCACHE_FOREIGN;
   return SEGCACHE_CALL(cache, segcache_give_back_entered(cache, client));
 }
 
@@ -462,7 +469,7 @@ static inline uint32_t segcache_close(segcache *cache, segcache_cursor *cursor) 
   memset(&made, 0, sizeof made);
   status = SEGCACHE_CALL(cache, segcache_raw_close(&cache->raw, &made));
   cursor->raw = made;
-  if (status == SEGCACHE_OK) SEGCACHE_CLOSED(cursor);
+  if (status == SEGCACHE_OK) SEGCACHE_LIVES(cursor);
   return status;
 }
 

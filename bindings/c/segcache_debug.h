@@ -11,10 +11,9 @@ enum { SEGCACHE_DEBUG_PLACES = 4096 };
 
 /* A live handle. */
 typedef struct segcache_debug_place {
-  void *at;            /* what it is to the library; NULL in a free place */
-  unsigned long id;    /* no two handles have the same */
-  unsigned long cache; /* the id of its cache */
-  int busy;            /* whether it is in a call */
+  void *at;         /* what it is to the library; NULL in a free place */
+  unsigned long id; /* no two handles have the same */
+  int busy;         /* whether it is in a call */
 } segcache_debug_place;
 
 __attribute__((weak)) segcache_debug_place segcache_debug_places[SEGCACHE_DEBUG_PLACES];
@@ -41,47 +40,20 @@ static inline segcache_debug_place *segcache_debug_find(const void *at) {
   return NULL;
 }
 
-/* A handle begins to live, as one of a cache with this id, or of itself. A handle that dies in a call just now may
-   still stand at the same address: the new one takes its place. The id of the new one. */
-static inline unsigned long segcache_debug_add(void *at, unsigned long cache) {
+/* A handle begins to live. One that dies in a call just now may still stand at the same address: the new one takes
+   its place. */
+static inline void segcache_debug_add(void *at) {
   segcache_debug_place *place;
-  unsigned long id;
   segcache_debug_lock();
-  id = ++segcache_debug_count;
   place = segcache_debug_find(at);
   if (place == NULL) place = segcache_debug_find(NULL);
   if (place != NULL) {
     place->at = at;
-    place->id = id;
-    place->cache = cache != 0 ? cache : id;
+    place->id = ++segcache_debug_count;
     place->busy = 0;
   }
   segcache_debug_unlock();
   if (place == NULL) segcache_debug_fail("segcache", "more handles than SEGCACHE_DEBUG has places for");
-  return id;
-}
-
-static inline void segcache_debug_opened(void *cache, const segcache_client *clients, uint32_t count) {
-  uint32_t i;
-  unsigned long id = segcache_debug_add(cache, 0);
-  for (i = 0; i < count; i++) segcache_debug_add(clients[i].raw.at, id);
-}
-
-/* The id of the cache of a handle, or 0 if the handle doesn't live. */
-static inline unsigned long segcache_debug_cache_of(const void *at) {
-  const segcache_debug_place *place;
-  unsigned long cache;
-  segcache_debug_lock();
-  place = at == NULL ? NULL : segcache_debug_find(at);
-  cache = place == NULL ? 0 : place->cache;
-  segcache_debug_unlock();
-  return cache;
-}
-
-/* A note and a client whose caches have the same address are of the same cache. */
-static inline void segcache_debug_same_cache(const void *client, const void *note, const char *function) {
-  unsigned long mine = segcache_debug_cache_of(client), its = segcache_debug_cache_of(note);
-  if (mine != 0 && its != 0 && mine != its) segcache_debug_fail(function, "a note of a cache that was freed");
 }
 
 /* A call begins: the handle lives, and is in no other call. The id of the handle. */
@@ -140,9 +112,6 @@ static inline void segcache_debug_apart(const void *a, size_t a_len, const void 
   })
 #define SEGCACHE_BYTES(at, length) segcache_debug_bytes(at, length, __func__)
 #define SEGCACHE_APART(a, a_len, b, b_len) segcache_debug_apart(a, a_len, b, b_len, __func__)
-#define SEGCACHE_OPENED(cache, clients, count) segcache_debug_opened((cache)->raw.at, clients, count)
-#define SEGCACHE_NOTED(client, note) segcache_debug_add((note)->raw.at, segcache_debug_cache_of((client)->raw.at))
-#define SEGCACHE_SAME_CACHE(client, note) segcache_debug_same_cache((client)->raw.at, (note)->raw.at, __func__)
-#define SEGCACHE_CLOSED(cursor) segcache_debug_add((cursor)->raw.at, 0)
+#define SEGCACHE_LIVES(handle) segcache_debug_add((handle)->raw.at)
 
 #endif

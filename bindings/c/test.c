@@ -2,6 +2,8 @@
  * Link with -Wl,--wrap=malloc,--wrap=realloc,--wrap=free: so the tests refuse memory and count what is out. */
 #include "test.h"
 
+#include <malloc.h>
+
 int checks, faults;
 
 /* --- Memory: how many blocks are out, and after how many more allocations one is refused --- */
@@ -18,8 +20,32 @@ void __wrap_free(void *);
 
 static int refuses(void) { return until_refused >= 0 && until_refused-- == 0; }
 
+/* The blocks that were freed and not used again, the first one first, while blocks are reused. */
+enum { SPARES = 64 };
+static void *spares[SPARES];
+static int spare_count, reuses;
+
+void reuse_blocks(void) { reuses = 1; }
+
+void free_blocks(void) {
+  reuses = 0;
+  while (spare_count > 0) __real_free(spares[--spare_count]);
+}
+
+/* The first spare block that is as large as this one, in its place. */
+static void *reused(void *at) {
+  for (int i = 0; at != NULL && i < spare_count; i++) {
+    void *spare = spares[i];
+    if (malloc_usable_size(spare) != malloc_usable_size(at)) continue;
+    memmove(&spares[i], &spares[i + 1], sizeof(void *) * (size_t)(--spare_count - i));
+    __real_free(at);
+    return spare;
+  }
+  return at;
+}
+
 void *__wrap_malloc(size_t size) {
-  void *at = refuses() ? NULL : __real_malloc(size);
+  void *at = refuses() ? NULL : reused(__real_malloc(size));
   if (at != NULL) out++;
   return at;
 }
@@ -32,7 +58,8 @@ void *__wrap_realloc(void *old, size_t size) {
 
 void __wrap_free(void *at) {
   if (at != NULL) out--;
-  __real_free(at);
+  if (at != NULL && reuses && spare_count < SPARES) spares[spare_count++] = at;
+  else __real_free(at);
 }
 
 /* --- Each call --- */
@@ -179,18 +206,6 @@ static void test_bad_arguments(segcache_client *client) {
   EXPECT(segcache_keep_from(client, 0), SEGCACHE_OK);
 }
 
-static void test_time(segcache_client *client) {
-  EXPECT(segcache_set_time_to_live(client, 10), SEGCACHE_OK);
-  EXPECT(segcache_make_room(client, 100), SEGCACHE_OK);
-  EXPECT(put(client, "short", "lived", 105), SEGCACHE_OK);
-  CHECK(reads(client, "short", 109, "lived"));
-  CHECK(reads(client, "short", 110, NULL));
-  EXPECT(segcache_delete(client, "short", 5, 110), SEGCACHE_NOT_FOUND);
-  EXPECT(put(client, "short", "again", 110), SEGCACHE_OK); /* into another segment, until 120 */
-  CHECK(reads(client, "short", 119, "again"));
-  CHECK(reads(client, "short", 120, NULL));
-}
-
 /* What a client counts, against what this function makes it do. */
 static void test_counts(void) {
   segcache cache;
@@ -277,7 +292,7 @@ static void test_refusals(void) {
 }
 
 static void test_no_handles(void) {
-  segcache none = {{0}};
+  segcache none = {0};
   segcache_client client;
   segcache_cursor cursor = {{0}};
   segcache_stats_t stats;
@@ -409,29 +424,43 @@ static void test_memory_of_close(void) {
   CHECK(out == before);
 }
 
+/* As many clients as there may be share a cache. */
+static void test_most_threads(void) {
+  segcache cache;
+  segcache_client clients[64];
+  segcache_shape shape = {64, 64, 64, 2, 2, 0};
+  for (int by_shape = 0; by_shape < 2; by_shape++) {
+    EXPECT(by_shape ? segcache_open_shape(&shape, &cache, clients) : segcache_open(1000, 64, &cache, clients), SEGCACHE_OK);
+    for (int i = 0; i < 64; i++) EXPECT(put(&clients[i], (char[]){(char)('0' + i), 0}, "v", 0), SEGCACHE_OK);
+    for (int i = 0; i < 64; i++) CHECK(reads(&clients[63 - i], (char[]){(char)('0' + i), 0}, 0, "v"));
+    for (int i = 0; i < 64; i++) EXPECT(segcache_give_back(&cache, &clients[i]), SEGCACHE_OK);
+    EXPECT(segcache_free(&cache), SEGCACHE_OK);
+  }
+}
+
 int main(void) {
   segcache cache;
   segcache_client clients[2];
   long before = out;
   test_debug();
   test_opening();
+  test_most_threads();
   EXPECT(segcache_open(1000, 2, &cache, clients), SEGCACHE_OK);
   test_reading_and_writing(&clients[0], &clients[1]);
   test_many(&clients[0], &clients[1]);
   test_bad_arguments(&clients[0]);
-  test_time(&clients[0]);
   for (int i = 0; i < 2; i++) EXPECT(segcache_give_back(&cache, &clients[i]), SEGCACHE_OK);
   EXPECT(segcache_free(&cache), SEGCACHE_OK);
   test_counts();
   test_keeping();
   test_refusals();
+  test_clock();
   test_holds();
   test_notes();
   test_no_handles();
   test_ends();
   test_memory_of_open();
   test_memory_of_close();
-  CHECK(strcmp(segcache_text(SEGCACHE_END), "the end") == 0 && strcmp(segcache_text(19), "no such status") == 0);
   CHECK(out == before);
   printf("%d checks, %d faults\n", checks, faults);
   return faults == 0 ? 0 : 1;

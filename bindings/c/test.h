@@ -16,6 +16,10 @@ extern int checks, faults;
 extern atomic_long out;    /* blocks of memory that are out */
 extern long until_refused; /* so many allocations more, and one is refused; none if negative */
 
+/* From now on a block that is freed is the next one of its size again; and from now on no longer. */
+void reuse_blocks(void);
+void free_blocks(void);
+
 #define CHECK(condition)                                                      \
   do {                                                                        \
     checks++;                                                                 \
@@ -34,6 +38,7 @@ uint32_t put(segcache_client *client, const char *key, const char *value, uint32
 /* Whether the client reads the value under the key, or none if NULL is wanted. */
 int reads(segcache_client *client, const char *key, uint32_t now, const char *wanted);
 
+void test_clock(void);
 void test_holds(void);
 void test_notes(void);
 void test_debug(void);

@@ -65,15 +65,6 @@ static void length_in_value(struct handles *all) {
   segcache_held_value(&all->client, value, sizeof value, &value[1]);
 }
 
-/* The next cache is at the address of one that was freed, as malloc may have it. */
-static void note_of_a_freed_cache(struct handles *all) {
-  unsigned long id;
-  segcache_client client = all->client;
-  id = segcache_debug_add((void *)(uintptr_t)client.home, 0);
-  segcache_debug_add(client.raw.at, id);
-  segcache_learn(&client, &all->note);
-}
-
 static void no_fault(struct handles *all) {
   segcache_learn(&all->client, &all->note);
   segcache_give_back(&all->cache, &all->client);
@@ -90,8 +81,7 @@ static const struct fault {
     {"client in use", client_in_use},   {"note in use", note_in_use},
     {"made up", made_up},               {"null key", null_key},
     {"null length", null_length},       {"value over key", value_over_key},
-    {"length in value", length_in_value}, {"note of a freed cache", note_of_a_freed_cache},
-    {"no fault", no_fault},
+    {"length in value", length_in_value}, {"no fault", no_fault},
 };
 
 static void run(const struct fault *fault) {

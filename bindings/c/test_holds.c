@@ -109,6 +109,30 @@ static void test_memory_of_notes(segcache_client *client) {
   CHECK(out == before);
 }
 
+/* A note of a cache that was freed is of another cache than the next one, also where that has its address. */
+static void test_late_notes(void) {
+  segcache cache;
+  segcache_client client;
+  segcache_note_t note = {0}, next = {0};
+  long before = out;
+  EXPECT(segcache_open(100, 1, &cache, &client), SEGCACHE_OK);
+  EXPECT(segcache_note(&client, &note), SEGCACHE_OK);
+  const void *at = cache.raw.at;
+  reuse_blocks();
+  EXPECT(segcache_give_back(&cache, &client), SEGCACHE_OK);
+  EXPECT(segcache_free(&cache), SEGCACHE_OK);
+  EXPECT(segcache_open(100, 1, &cache, &client), SEGCACHE_OK);
+  free_blocks();
+  CHECK(cache.raw.at == at);
+  EXPECT(segcache_learn(&client, &note), SEGCACHE_FOREIGN);
+  EXPECT(segcache_note(&client, &next), SEGCACHE_OK);
+  EXPECT(segcache_learn(&client, &next), SEGCACHE_OK);
+  EXPECT(segcache_note_free(&note), SEGCACHE_OK); /* FOREIGN left it */
+  EXPECT(segcache_give_back(&cache, &client), SEGCACHE_OK);
+  EXPECT(segcache_free(&cache), SEGCACHE_OK);
+  CHECK(out == before);
+}
+
 void test_notes(void) {
   segcache cache, another;
   segcache_client clients[2], foreign, none;
@@ -143,4 +167,5 @@ void test_notes(void) {
   for (int i = 0; i < 2; i++) EXPECT(segcache_give_back(&cache, &clients[i]), SEGCACHE_OK);
   EXPECT(segcache_free(&cache), SEGCACHE_OK);
   CHECK(out == before);
+  test_late_notes();
 }

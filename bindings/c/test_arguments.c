@@ -1,0 +1,393 @@
+/* Tests that each function of segcache.h hands its arguments to its export, each in its place, and returns what that
+ * one answers, whatever it is. The exports are made up here: each writes down what it was handed. So these tests need
+ * no archive, and see what no run of the cache shows, as the moment of a set. */
+#include "segcache.h"
+
+#include <signal.h>
+#include <stdarg.h>
+#include <stdio.h>
+#include <sys/wait.h>
+#include <unistd.h>
+
+static uint32_t answer; /* what the exports answer */
+static char told[400];  /* what the last one was handed */
+static int checks, faults;
+
+static uint32_t tell(const char *format, ...) {
+  va_list words;
+  va_start(words, format);
+  vsnprintf(told, sizeof told, format, words);
+  va_end(words);
+  return answer;
+}
+
+/* Opening and closing fill handles, and so does a note. Each gets a place of its own. */
+static char places[256];
+static size_t places_used;
+
+/* How many of these handles are empty, as all have to be that are to be filled. */
+static size_t empty(const segcache_handle *handles, size_t count) {
+  size_t found = 0;
+  for (size_t i = 0; i < count; i++) found += handles[i].at == NULL && !handles[i].full;
+  return found;
+}
+
+static uint32_t fill(segcache_handle *handles, size_t count) {
+  for (size_t i = 0; answer == SEGCACHE_OK && i < count; i++) {
+    handles[i].at = &places[places_used++ % sizeof places];
+    handles[i].full = 1;
+  }
+  return answer;
+}
+
+#define BYTES const uint8_t *key, size_t key_len
+#define OUT uint8_t *value, size_t room, size_t *value_len
+#define IN const uint8_t *value, size_t value_len
+#define MANY const uint8_t *keys, size_t keys_len, segcache_lookup *lookups, size_t count, uint32_t now
+#define WRITE segcache_handle *client, BYTES, IN, uint32_t now
+#define H segcache_handle *
+#define AT (void *)
+
+uint32_t segcache_raw_open(uint32_t keys, uint32_t threads, H cache, H clients, size_t count) {
+  tell("open %u %u %zu %zu %zu", keys, threads, count, empty(cache, 1), empty(clients, count));
+  fill(cache, 1);
+  return fill(clients, count);
+}
+uint32_t segcache_raw_open_shape(const segcache_shape *shape, H cache, H clients, size_t count) {
+  tell("open_shape %p %zu %zu %zu", AT shape, count, empty(cache, 1), empty(clients, count));
+  fill(cache, 1);
+  return fill(clients, count);
+}
+uint32_t segcache_raw_get(H client, BYTES, OUT, uint32_t now) {
+  return tell("get %p %p %zu %p %zu %p %u", AT client, AT key, key_len, AT value, room, AT value_len, now);
+}
+uint32_t segcache_raw_gets(H client, BYTES, OUT, uint32_t *version, uint32_t now) {
+  return tell("gets %p %p %zu %p %zu %p %p %u", AT client, AT key, key_len, AT value, room, AT value_len, AT version, now);
+}
+uint32_t segcache_raw_get_many(H client, MANY) {
+  return tell("get_many %p %p %zu %p %zu %u", AT client, AT keys, keys_len, AT lookups, count, now);
+}
+uint32_t segcache_raw_gets_many(H client, MANY) {
+  return tell("gets_many %p %p %zu %p %zu %u", AT client, AT keys, keys_len, AT lookups, count, now);
+}
+#define TELL_WRITE(name) tell(name " %p %p %zu %p %zu %u", AT client, AT key, key_len, AT value, value_len, now)
+uint32_t segcache_raw_put(WRITE) { return TELL_WRITE("put"); }
+uint32_t segcache_raw_set(WRITE) { return TELL_WRITE("set"); }
+uint32_t segcache_raw_add(WRITE) { return TELL_WRITE("add"); }
+uint32_t segcache_raw_replace(WRITE) { return TELL_WRITE("replace"); }
+uint32_t segcache_raw_cas(H client, BYTES, IN, uint32_t version, uint32_t now) {
+  return tell("cas %p %p %zu %p %zu %u %u", AT client, AT key, key_len, AT value, value_len, version, now);
+}
+uint32_t segcache_raw_delete(H client, BYTES, uint32_t now) {
+  return tell("delete %p %p %zu %u", AT client, AT key, key_len, now);
+}
+uint32_t segcache_raw_hold(H client, BYTES, uint32_t now) {
+  return tell("hold %p %p %zu %u", AT client, AT key, key_len, now);
+}
+uint32_t segcache_raw_held_value(H client, OUT) {
+  return tell("held_value %p %p %zu %p", AT client, AT value, room, AT value_len);
+}
+uint32_t segcache_raw_release(H client) { return tell("release %p", AT client); }
+uint32_t segcache_raw_note(H client, H note) {
+  tell("note %p %p", AT client, AT note);
+  return fill(note, 1);
+}
+uint32_t segcache_raw_learn(H client, H note) { return tell("learn %p %p", AT client, AT note); }
+uint32_t segcache_raw_note_free(H note) { return tell("note_free %p", AT note); }
+uint32_t segcache_raw_set_time_to_live(H client, uint32_t time) { return tell("set_time_to_live %p %u", AT client, time); }
+uint32_t segcache_raw_keep_from(H client, uint32_t cutoff) { return tell("keep_from %p %u", AT client, cutoff); }
+uint32_t segcache_raw_make_room(H client, uint32_t now) { return tell("make_room %p %u", AT client, now); }
+uint32_t segcache_raw_stats(H client, segcache_stats_t *counts) { return tell("stats %p %p", AT client, AT counts); }
+uint32_t segcache_raw_index_stats(H client, segcache_index_stats_t *counts) {
+  return tell("index_stats %p %p", AT client, AT counts);
+}
+uint32_t segcache_raw_give_back(H cache, H client) { return tell("give_back %p %p", AT cache, AT client); }
+uint32_t segcache_raw_close(H cache, H cursor) {
+  tell("close %p %zu", AT cache, empty(cursor, 1));
+  return fill(cursor, 1);
+}
+uint32_t segcache_raw_next(H cursor, uint8_t *key, size_t key_room, size_t *key_len, OUT) {
+  return tell("next %p %p %zu %p %p %zu %p", AT cursor, AT key, key_room, AT key_len, AT value, room, AT value_len);
+}
+uint32_t segcache_raw_cursor_free(H cursor) { return tell("cursor_free %p", AT cursor); }
+uint32_t segcache_raw_free(H cache) { return tell("free %p", AT cache); }
+
+static void check(int line, uint32_t status, uint32_t wanted_status, const char *wanted) {
+  checks++;
+  if (status == wanted_status && strcmp(told, wanted) == 0) return;
+  faults++;
+  printf("%d: %u (%s), and not %u (%s)\n", line, status, told, wanted_status, wanted);
+}
+
+/* Whatever the export answers, the call answers, and the export was handed this. */
+#define PASSES(call, ...)                          \
+  for (answer = 0; answer < 20; answer++) {        \
+    char wanted[sizeof told];                      \
+    told[0] = 0;                                   \
+    uint32_t status = (call);                      \
+    snprintf(wanted, sizeof wanted, __VA_ARGS__);  \
+    check(__LINE__, status, answer, wanted);       \
+  }
+
+/* The call answers this, and no export was called. */
+#define STOPS(call, wanted_status)                 \
+  do {                                             \
+    told[0] = 0;                                   \
+    uint32_t status = (call);                      \
+    check(__LINE__, status, wanted_status, "");    \
+  } while (0)
+
+static void test_reads(segcache_client *client) {
+  const char key[] = "key";
+  uint8_t value[40];
+  size_t length;
+  uint32_t version;
+  segcache_lookup lookups[3] = {{0}};
+  void *raw = &client->raw;
+  PASSES(segcache_get(client, key, 3, 101, value, 31, &length), "get %p %p 3 %p 31 %p 101", raw, AT key, AT value, AT &length);
+  PASSES(segcache_gets(client, key, 3, 102, value, 30, &length, &version), "gets %p %p 3 %p 30 %p %p 102", raw, AT key,
+         AT value, AT &length, AT &version);
+  PASSES(segcache_get_many(client, key, 2, 103, lookups, 3), "get_many %p %p 2 %p 3 103", raw, AT key, AT lookups);
+  PASSES(segcache_gets_many(client, key, 1, 104, lookups, 2), "gets_many %p %p 1 %p 2 104", raw, AT key, AT lookups);
+  PASSES(segcache_hold(client, key, 2, 105), "hold %p %p 2 105", raw, AT key);
+  PASSES(segcache_held_value(client, value, 29, &length), "held_value %p %p 29 %p", raw, AT value, AT &length);
+  PASSES(segcache_release(client), "release %p", raw);
+}
+
+static void test_writes(segcache_client *client) {
+  const char key[] = "key", value[] = "value";
+  void *raw = &client->raw;
+  PASSES(segcache_put(client, key, 3, value, 5, 201), "put %p %p 3 %p 5 201", raw, AT key, AT value);
+  PASSES(segcache_set(client, key, 2, value, 4, 202), "set %p %p 2 %p 4 202", raw, AT key, AT value);
+  PASSES(segcache_add(client, key, 1, value, 3, 203), "add %p %p 1 %p 3 203", raw, AT key, AT value);
+  PASSES(segcache_replace(client, key, 3, value, 2, 204), "replace %p %p 3 %p 2 204", raw, AT key, AT value);
+  PASSES(segcache_cas(client, key, 2, value, 1, 77, 205), "cas %p %p 2 %p 1 77 205", raw, AT key, AT value);
+  PASSES(segcache_delete(client, key, 1, 206), "delete %p %p 1 206", raw, AT key);
+  PASSES(segcache_make_room(client, 207), "make_room %p 207", raw);
+}
+
+static void test_settings(segcache_client *client) {
+  segcache_stats_t stats;
+  segcache_index_stats_t table;
+  void *raw = &client->raw;
+  PASSES(segcache_set_time_to_live(client, 301), "set_time_to_live %p 301", raw);
+  PASSES(segcache_keep_from(client, 302), "keep_from %p 302", raw);
+  PASSES(segcache_keep_nothing(client), "keep_from %p 0", raw);
+  PASSES(segcache_stats(client, &stats), "stats %p %p", raw, AT &stats);
+  PASSES(segcache_index_stats(client, &table), "index_stats %p %p", raw, AT &table);
+}
+
+/* Whether all is zeros. */
+static int is_zeroed(const void *at, size_t length) {
+  const char *bytes = at;
+  while (length > 0 && bytes[length - 1] == 0) length--;
+  return length == 0;
+}
+
+static void test_opening(void) {
+  segcache cache;
+  segcache_client clients[64];
+  segcache_shape shape = {4, 4, 3, 2, 8, 7};
+  PASSES(segcache_open(100, 64, &cache, clients), "open 100 64 64 1 64");
+  PASSES(segcache_open(99, 0, &cache, clients), "open 99 0 0 1 0");
+  PASSES(segcache_open_shape(&shape, &cache, clients), "open_shape %p 3 1 3", AT &shape);
+  shape.passes = 64;
+  PASSES(segcache_open_shape(&shape, &cache, clients), "open_shape %p 64 1 64", AT &shape);
+  shape.passes = 2;
+  for (int i = 0; i < 4; i++) {
+    memset(&cache, 1, sizeof cache);
+    memset(clients, 1, sizeof clients);
+    answer = i / 2 ? SEGCACHE_OUT_OF_MEMORY : SEGCACHE_OK;
+    if (i % 2) segcache_open(100, 2, &cache, clients);
+    else segcache_open_shape(&shape, &cache, clients);
+    int zeroed = is_zeroed(&cache, sizeof cache), of_one = is_zeroed(&clients[1], sizeof *clients);
+    checks++;
+    if (zeroed != (answer != SEGCACHE_OK) || of_one != zeroed || clients[2].raw.full != 1)
+      faults++, printf("an open that answers %u: zeroed %d %d\n", answer, zeroed, of_one);
+  }
+  memset(clients, 1, sizeof clients);
+  STOPS(segcache_open(100, 65, &cache, clients), SEGCACHE_BAD_SHAPE);
+  shape.passes = 65;
+  STOPS(segcache_open_shape(&shape, &cache, clients), SEGCACHE_BAD_SHAPE);
+}
+
+/* Notes, and clients that go back: of the same cache, and of another one. */
+static void test_homes(segcache *cache, segcache_client *client, segcache *other, segcache_client *foreign) {
+  segcache_note_t note = {0}, none = {0};
+  PASSES(segcache_note(client, &note), "note %p %p", AT &client->raw, AT &note.raw);
+  PASSES(segcache_learn(client, &note), "learn %p %p", AT &client->raw, AT &note.raw);
+  PASSES(segcache_note_free(&note), "note_free %p", AT &note.raw);
+  PASSES(segcache_give_back(cache, client), "give_back %p %p", AT &cache->raw, AT &client->raw);
+  STOPS(segcache_learn(foreign, &note), SEGCACHE_FOREIGN);
+  STOPS(segcache_learn(foreign, &none), SEGCACHE_NO_HANDLE);
+  STOPS(segcache_give_back(cache, foreign), SEGCACHE_FOREIGN);
+  STOPS(segcache_give_back(other, client), SEGCACHE_FOREIGN);
+  answer = SEGCACHE_OUT_OF_MEMORY;
+  segcache_note(client, &none);
+  checks++;
+  if (!is_zeroed(&none, sizeof none)) faults++, printf("a note without memory isn't zeroed\n");
+}
+
+/* A null handle is none, and neither export nor client is needed to say so. */
+static void test_null_handles(segcache *cache, segcache_client *client) {
+  char bytes[40], key[24];
+  size_t length, key_len;
+  uint32_t version;
+  segcache_lookup lookup = {0};
+  segcache_stats_t stats;
+  segcache_index_stats_t table;
+  segcache_note_t note = {0};
+  segcache_cursor cursor;
+  STOPS(segcache_get(NULL, "k", 1, 0, bytes, 32, &length), SEGCACHE_NO_HANDLE);
+  STOPS(segcache_gets(NULL, "k", 1, 0, bytes, 32, &length, &version), SEGCACHE_NO_HANDLE);
+  STOPS(segcache_get_many(NULL, "k", 1, 0, &lookup, 1), SEGCACHE_NO_HANDLE);
+  STOPS(segcache_gets_many(NULL, "k", 1, 0, &lookup, 1), SEGCACHE_NO_HANDLE);
+  STOPS(segcache_put(NULL, "k", 1, "v", 1, 0), SEGCACHE_NO_HANDLE);
+  STOPS(segcache_set(NULL, "k", 1, "v", 1, 0), SEGCACHE_NO_HANDLE);
+  STOPS(segcache_add(NULL, "k", 1, "v", 1, 0), SEGCACHE_NO_HANDLE);
+  STOPS(segcache_replace(NULL, "k", 1, "v", 1, 0), SEGCACHE_NO_HANDLE);
+  STOPS(segcache_cas(NULL, "k", 1, "v", 1, 0, 0), SEGCACHE_NO_HANDLE);
+  STOPS(segcache_delete(NULL, "k", 1, 0), SEGCACHE_NO_HANDLE);
+  STOPS(segcache_hold(NULL, "k", 1, 0), SEGCACHE_NO_HANDLE);
+  STOPS(segcache_held_value(NULL, bytes, 32, &length), SEGCACHE_NO_HANDLE);
+  STOPS(segcache_release(NULL), SEGCACHE_NO_HANDLE);
+  STOPS(segcache_set_time_to_live(NULL, 1), SEGCACHE_NO_HANDLE);
+  STOPS(segcache_keep_from(NULL, 1), SEGCACHE_NO_HANDLE);
+  STOPS(segcache_keep_nothing(NULL), SEGCACHE_NO_HANDLE);
+  STOPS(segcache_make_room(NULL, 0), SEGCACHE_NO_HANDLE);
+  STOPS(segcache_stats(NULL, &stats), SEGCACHE_NO_HANDLE);
+  STOPS(segcache_index_stats(NULL, &table), SEGCACHE_NO_HANDLE);
+  STOPS(segcache_note(NULL, &note), SEGCACHE_NO_HANDLE);
+  STOPS(segcache_note(client, NULL), SEGCACHE_NO_HANDLE);
+  STOPS(segcache_learn(NULL, &note), SEGCACHE_NO_HANDLE);
+  STOPS(segcache_learn(client, NULL), SEGCACHE_NO_HANDLE);
+  STOPS(segcache_learn(client, &note), SEGCACHE_NO_HANDLE);
+  STOPS(segcache_note_free(NULL), SEGCACHE_NO_HANDLE);
+  STOPS(segcache_give_back(NULL, client), SEGCACHE_NO_HANDLE);
+  STOPS(segcache_give_back(cache, NULL), SEGCACHE_NO_HANDLE);
+  STOPS(segcache_give_back(cache, &(segcache_client){{0}, 0, {0}}), SEGCACHE_NO_HANDLE);
+  STOPS(segcache_give_back(&(segcache){{0}, 0}, client), SEGCACHE_NO_HANDLE);
+  STOPS(segcache_close(NULL, &cursor), SEGCACHE_NO_HANDLE);
+  STOPS(segcache_next(NULL, key, &key_len, bytes, &length), SEGCACHE_NO_HANDLE);
+  STOPS(segcache_cursor_free(NULL), SEGCACHE_NO_HANDLE);
+  STOPS(segcache_free(NULL), SEGCACHE_NO_HANDLE);
+}
+
+#ifdef SEGCACHE_DEBUG
+/* The call aborts, in a child. */
+#define ABORTS(call)                                                            \
+  do {                                                                          \
+    int ended = 0;                                                              \
+    pid_t child = fork();                                                       \
+    if (child == 0) {                                                           \
+      if (freopen("/dev/null", "w", stderr) == NULL) _exit(2);                  \
+      (void)(call);                                                             \
+      _exit(0);                                                                 \
+    }                                                                           \
+    waitpid(child, &ended, 0);                                                  \
+    checks++;                                                                   \
+    if (!WIFSIGNALED(ended) || WTERMSIG(ended) != SIGABRT)                      \
+      faults++, printf("%d: not stopped: %s\n", __LINE__, #call);               \
+  } while (0)
+
+/* Null pointers with a length, and what is written over something else that is passed. */
+static void test_pointers(segcache_client *client, segcache_cursor *cursor) {
+  char bytes[100] = "key";
+  size_t length, *inside = (size_t *)(void *)(bytes + 8);
+  uint32_t version;
+  segcache_lookup lookups[2] = {{0}};
+  ABORTS(segcache_get(client, NULL, 1, 0, bytes, 32, &length));
+  ABORTS(segcache_get(client, "k", 1, 0, NULL, 32, &length));
+  ABORTS(segcache_get(client, "k", 1, 0, bytes, 32, NULL));
+  ABORTS(segcache_get(client, bytes, 3, 0, bytes + 2, 32, &length));
+  ABORTS(segcache_get(client, "k", 1, 0, bytes, 32, inside));
+  ABORTS(segcache_gets(client, NULL, 1, 0, bytes, 32, &length, &version));
+  ABORTS(segcache_gets(client, "k", 1, 0, NULL, 32, &length, &version));
+  ABORTS(segcache_gets(client, "k", 1, 0, bytes, 32, NULL, &version));
+  ABORTS(segcache_gets(client, bytes, 3, 0, bytes + 2, 32, &length, &version));
+  ABORTS(segcache_gets(client, "k", 1, 0, bytes, 32, inside, &version));
+  ABORTS(segcache_get_many(client, NULL, 1, 0, lookups, 1));
+  ABORTS(segcache_get_many(client, "k", 1, 0, NULL, 1));
+  ABORTS(segcache_get_many(client, &lookups[1], 1, 0, lookups, 2));
+  ABORTS(segcache_gets_many(client, NULL, 1, 0, lookups, 1));
+  ABORTS(segcache_gets_many(client, "k", 1, 0, NULL, 1));
+  ABORTS(segcache_gets_many(client, &lookups[1], 1, 0, lookups, 2));
+  ABORTS(segcache_put(client, NULL, 1, "v", 1, 0));
+  ABORTS(segcache_put(client, "k", 1, NULL, 1, 0));
+  ABORTS(segcache_set(client, NULL, 1, "v", 1, 0));
+  ABORTS(segcache_set(client, "k", 1, NULL, 1, 0));
+  ABORTS(segcache_add(client, NULL, 1, "v", 1, 0));
+  ABORTS(segcache_add(client, "k", 1, NULL, 1, 0));
+  ABORTS(segcache_replace(client, NULL, 1, "v", 1, 0));
+  ABORTS(segcache_replace(client, "k", 1, NULL, 1, 0));
+  ABORTS(segcache_cas(client, NULL, 1, "v", 1, 0, 0));
+  ABORTS(segcache_cas(client, "k", 1, NULL, 1, 0, 0));
+  ABORTS(segcache_delete(client, NULL, 1, 0));
+  ABORTS(segcache_hold(client, NULL, 1, 0));
+  ABORTS(segcache_held_value(client, NULL, 32, &length));
+  ABORTS(segcache_held_value(client, bytes, 32, NULL));
+  ABORTS(segcache_held_value(client, bytes, 32, inside));
+  ABORTS(segcache_next(cursor, bytes, &length, bytes + 23, &length));
+}
+#else
+static void test_pointers(segcache_client *client, segcache_cursor *cursor) { (void)client, (void)cursor; }
+#endif
+
+static void test_end(segcache *cache, segcache_client *client) {
+  segcache_cursor cursor;
+  char key[24], value[32];
+  size_t key_len, value_len;
+  for (answer = 0; answer < 20; answer++) {
+    memset(&cursor, 1, sizeof cursor);
+    uint32_t status = segcache_close(cache, &cursor);
+    char wanted[100];
+    snprintf(wanted, sizeof wanted, "close %p 1", AT &cache->raw); /* an empty handle, whatever the cursor was */
+    check(__LINE__, status, answer, wanted);
+    if (cursor.raw.full != (answer == SEGCACHE_OK)) faults++, printf("a cursor of a close that answers %u\n", answer);
+  }
+  answer = SEGCACHE_OK;
+  segcache_close(cache, &cursor);
+  test_pointers(client, &cursor);
+  PASSES(segcache_next(&cursor, key, &key_len, value, &value_len), "next %p %p 24 %p %p 32 %p", AT &cursor.raw, AT key,
+         AT &key_len, AT value, AT &value_len);
+  PASSES(segcache_cursor_free(&cursor), "cursor_free %p", AT &cursor.raw);
+  PASSES(segcache_free(cache), "free %p", AT &cache->raw);
+}
+
+static void test_texts(void) {
+  static const struct { uint32_t status; const char *text; } all[] = {
+      {SEGCACHE_OK, "ok"}, {SEGCACHE_MISS, "the key is absent"},
+      {SEGCACHE_BUSY, "busy: others worked on the key's bucket"},
+      {SEGCACHE_NO_ROOM, "no room: no segment can be had"}, {SEGCACHE_BUCKET_FULL, "the key's bucket is full"},
+      {SEGCACHE_NOT_STORED, "not stored"}, {SEGCACHE_EXISTS, "the bucket was written since the gets"},
+      {SEGCACHE_NOT_FOUND, "the key is not found"}, {SEGCACHE_BAD_KEY, "a key has 1 to 24 bytes"},
+      {SEGCACHE_BAD_VALUE, "a value has 32 bytes at most"}, {SEGCACHE_SHORT_BUFFER, "the buffer is too short"},
+      {SEGCACHE_BAD_SHAPE, "such a shape cannot be"}, {SEGCACHE_OUT_OF_MEMORY, "out of memory"},
+      {SEGCACHE_NO_HANDLE, "no handle: zeroed, given back or freed"},
+      {SEGCACHE_ALREADY_HOLDING, "the client holds an item already"},
+      {SEGCACHE_NOT_HOLDING, "the client holds no item"}, {SEGCACHE_CLIENT_OUT, "a client is still out"},
+      {SEGCACHE_FOREIGN, "the client or the note is of another cache"}, {SEGCACHE_END, "the end"},
+      {19, "no such status"}, {UINT32_MAX, "no such status"}};
+  for (size_t i = 0; i < sizeof all / sizeof *all; i++) {
+    snprintf(told, sizeof told, "%s", segcache_text(all[i].status));
+    check(__LINE__, all[i].status, all[i].status, all[i].text);
+  }
+}
+
+int main(void) {
+  segcache cache, other;
+  segcache_client client, foreign;
+  test_texts();
+  test_opening();
+  answer = SEGCACHE_OK;
+  segcache_open(100, 1, &cache, &client);
+  segcache_open(100, 1, &other, &foreign);
+  test_reads(&client);
+  test_writes(&client);
+  test_settings(&client);
+  test_homes(&cache, &client, &other, &foreign);
+  test_null_handles(&cache, &client);
+  test_end(&cache, &client);
+  printf("%d checks, %d faults\n", checks, faults);
+  return faults == 0 ? 0 : 1;
+}

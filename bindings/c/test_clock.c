@@ -1,0 +1,69 @@
+/* Tests of the clock: each call that is given one goes by it. */
+#include "test.h"
+
+/* Each call that reads, as a bit. */
+enum { GET = 1, GETS = 2, GET_MANY = 4, GETS_MANY = 8, HOLD = 16, EACH = 31 };
+
+/* Which of them find the key at this moment. */
+static int readers(segcache_client *client, uint32_t now) {
+  char value[SEGCACHE_MAX_VALUE];
+  size_t length;
+  uint32_t version;
+  segcache_lookup plain = {.key_len = 1}, versioned = {.key_len = 1};
+  int found = 0;
+  if (segcache_get(client, "k", 1, now, value, sizeof value, &length) == SEGCACHE_OK) found |= GET;
+  if (segcache_gets(client, "k", 1, now, value, sizeof value, &length, &version) == SEGCACHE_OK) found |= GETS;
+  EXPECT(segcache_get_many(client, "k", 1, now, &plain, 1), SEGCACHE_OK);
+  EXPECT(segcache_gets_many(client, "k", 1, now, &versioned, 1), SEGCACHE_OK);
+  if (plain.status == SEGCACHE_OK) found |= GET_MANY;
+  if (versioned.status == SEGCACHE_OK) found |= GETS_MANY;
+  if (segcache_hold(client, "k", 1, now) == SEGCACHE_OK) found |= HOLD;
+  if (found & HOLD) EXPECT(segcache_release(client), SEGCACHE_OK);
+  return found;
+}
+
+/* A value can be read before 110, and from then on it is absent: for a read, and for a write that looks first. */
+static void test_reads_and_writes(segcache_client *client) {
+  char value[SEGCACHE_MAX_VALUE];
+  size_t length;
+  uint32_t version = 0;
+  EXPECT(segcache_set(client, "k", 1, "v", 1, 105), SEGCACHE_OK);
+  CHECK(readers(client, 105) == EACH);
+  CHECK(readers(client, 109) == EACH);
+  CHECK(readers(client, 110) == 0);
+  CHECK(readers(client, 4294967294) == 0);
+  EXPECT(segcache_gets(client, "k", 1, 109, value, sizeof value, &length, &version), SEGCACHE_OK);
+  EXPECT(segcache_add(client, "k", 1, "w", 1, 109), SEGCACHE_NOT_STORED);
+  EXPECT(segcache_replace(client, "k", 1, "w", 1, 110), SEGCACHE_NOT_STORED);
+  EXPECT(segcache_cas(client, "k", 1, "w", 1, version, 110), SEGCACHE_NOT_FOUND);
+  EXPECT(segcache_delete(client, "k", 1, 110), SEGCACHE_NOT_FOUND);
+  EXPECT(segcache_cas(client, "k", 1, "w", 1, version, 109), SEGCACHE_OK);
+  EXPECT(segcache_replace(client, "k", 1, "x", 1, 109), SEGCACHE_OK);
+  CHECK(reads(client, "k", 109, "x"));
+  EXPECT(segcache_delete(client, "k", 1, 109), SEGCACHE_OK);
+  EXPECT(segcache_set(client, "k", 1, "v", 1, 109), SEGCACHE_OK);
+  EXPECT(segcache_add(client, "k", 1, "w", 1, 110), SEGCACHE_OK); /* where the deadline of its segment has come */
+  CHECK(readers(client, 110) == 0);
+  CHECK(reads(client, "k", 109, "w"));
+}
+
+/* A put goes into a segment whose deadline has not come: the next one's is 120. */
+static void test_puts(segcache_client *client) {
+  EXPECT(put(client, "k", "v", 109), SEGCACHE_OK);
+  CHECK(readers(client, 110) == 0);
+  EXPECT(put(client, "k", "w", 110), SEGCACHE_OK);
+  CHECK(readers(client, 119) == EACH);
+  CHECK(readers(client, 120) == 0);
+}
+
+void test_clock(void) {
+  segcache cache;
+  segcache_client client;
+  EXPECT(segcache_open(1000, 1, &cache, &client), SEGCACHE_OK); /* 16 rows in a segment */
+  EXPECT(segcache_set_time_to_live(&client, 10), SEGCACHE_OK);
+  EXPECT(segcache_make_room(&client, 100), SEGCACHE_OK);
+  test_reads_and_writes(&client);
+  test_puts(&client);
+  EXPECT(segcache_give_back(&cache, &client), SEGCACHE_OK);
+  EXPECT(segcache_free(&cache), SEGCACHE_OK);
+}
