@@ -78,15 +78,21 @@
 //!
 //! **What is proved**: the library's functions, under Rattle, where their caller keeps to what the header
 //! `segcache.h` lists. This crate is written by hand, and keeps to it by ownership and borrows: a client is
-//! moved and never copied, no two threads share it, and it is given back to its own cache.
+//! moved and never copied, no two threads share it, and it is given back to its own cache. One thing is left to
+//! the program: a thread that calls has 64 KiB of stack, as each has that wasn't made by
+//! [`std::thread::Builder::stack_size`] with less.
 #![warn(missing_docs)]
 
 mod bytes;
 mod cache;
 mod client;
 mod error;
+#[cfg(test)]
+mod fake;
 mod hold;
 mod raw;
+#[cfg(test)]
+mod tests;
 
 pub use bytes::Bytes;
 pub use cache::{Builder, Cache, Content, Shape, Unclosed};

@@ -4,8 +4,8 @@
 #[repr(C)]
 #[derive(Debug)]
 pub(crate) struct Handle {
-    at: *mut u8,
-    full: bool,
+    pub(crate) at: *mut u8,
+    pub(crate) full: bool,
 }
 
 // SAFETY: what a handle owns was proved to be `Send`. A handle isn't `Sync`, and has no methods.
@@ -33,7 +33,11 @@ pub(crate) struct Lookup {
     pub(crate) value: [u8; 32],
 }
 
+#[cfg(test)]
+pub(crate) use crate::fake::*;
+
 #[rustfmt::skip]
+#[cfg(not(test))]
 extern "C" {
     pub(crate) fn segcache_raw_open(keys: u32, threads: u32, cache: *mut Handle, clients: *mut Handle, clients_len: usize) -> u32;
     pub(crate) fn segcache_raw_open_shape(shape: *const crate::Shape, cache: *mut Handle, clients: *mut Handle, clients_len: usize) -> u32;

@@ -17,7 +17,30 @@ fn a_bad_shape_is_an_error() {
     assert_eq!(Cache::builder().keys(425_985).build().err(), Some(Error::BadShape));
     let shape = Shape { buckets: 3, overflow: 0, passes: 1, segments_each: 2, rows: 8, first_version: 0 };
     assert_eq!(Cache::builder().shape(shape).build().err(), Some(Error::BadShape));
-    assert_eq!(Error::BadShape.to_string(), "such a shape can't be");
+}
+
+#[test]
+fn a_builder_that_is_told_nothing_makes_one_client_for_10_000_keys() {
+    let (_cache, clients) = Cache::builder().build().unwrap();
+    assert_eq!(clients.len(), 1);
+    let stays = |keys: u32| {
+        (0..keys).for_each(|key| _ = clients[0].put(key.to_le_bytes(), "v"));
+        (0..keys).filter(|key| clients[0].get(key.to_le_bytes()).unwrap().is_some()).count()
+    };
+    assert_eq!(stays(10_000), 10_000);
+    assert!(stays(100_000) < 40_000);
+}
+
+#[test]
+fn as_many_clients_as_there_may_be_share_a_cache() {
+    let (_cache, clients) = Cache::builder().keys(1000).threads(64).build().unwrap();
+    assert_eq!(clients.len(), 64);
+    for (key, client) in (0_u8..).zip(&clients) {
+        client.put([key], [key]).unwrap();
+    }
+    for (key, client) in (0_u8..).zip(clients.iter().rev()) {
+        assert_eq!(client.get([key]).unwrap().unwrap(), &[key]);
+    }
 }
 
 #[test]
@@ -88,16 +111,66 @@ fn add_replace_and_cas_look_first() {
     assert_eq!((table.used_rows, table.named_rows), (3, 1));
 }
 
-#[test]
-fn what_is_put_expires() {
-    let (_cache, client, _other) = two();
+// A client whose values can be read before 110.
+fn until_110() -> (Cache, Client) {
+    let (cache, client, _other) = two();
     client.set_time_to_live(10);
     client.set_now(100);
-    client.put("k", "v").unwrap();
+    assert_eq!(client.make_room(), Ok(true));
+    client.set_now(105);
+    (cache, client)
+}
+
+// Whether each call that reads finds the key at this moment, or none of them.
+fn is_read_at(client: &Client, now: u32) -> bool {
+    client.set_now(now);
+    let found = client.get("k").unwrap().is_some();
+    assert_eq!(client.gets("k").unwrap().is_some(), found);
+    assert_eq!(client.get_many(&["k"])[0].unwrap().is_some(), found);
+    assert_eq!(client.gets_many(&["k"])[0].unwrap().is_some(), found);
+    assert_eq!(client.hold("k").unwrap().is_some(), found);
+    found
+}
+
+#[test]
+fn what_is_stored_expires_for_each_read() {
+    let (_cache, client) = until_110();
+    client.set("k", "v").unwrap();
+    assert!(is_read_at(&client, 105));
+    assert!(is_read_at(&client, 109));
+    assert!(!is_read_at(&client, 110));
+    assert!(!is_read_at(&client, u32::MAX - 1));
+}
+
+#[test]
+fn what_is_stored_expires_for_each_write_that_looks_first() {
+    let (_cache, client) = until_110();
+    client.set("k", "v").unwrap();
     client.set_now(109);
-    assert!(client.get("k").unwrap().is_some());
+    let version = client.gets("k").unwrap().unwrap().1;
+    assert_eq!(client.add("k", "w"), Ok(false));
     client.set_now(110);
-    assert_eq!(client.get("k"), Ok(None));
+    assert_eq!(client.replace("k", "w"), Ok(false));
+    assert_eq!(client.cas("k", "w", version), Ok(Cas::NotFound));
+    assert_eq!(client.delete("k"), Ok(false));
+    client.set_now(109);
+    assert_eq!(client.cas("k", "w", version), Ok(Cas::Stored));
+    assert_eq!(client.replace("k", "x"), Ok(true));
+    assert_eq!(client.delete("k"), Ok(true));
+    client.set("k", "v").unwrap();
+    client.set_now(110);
+    assert_eq!(client.add("k", "w"), Ok(true));
+    assert!(!is_read_at(&client, 110)); // where the deadline of its segment has come
+}
+
+#[test]
+fn a_put_goes_where_the_deadline_has_not_come() {
+    let (_cache, client) = until_110();
+    client.put("k", "v").unwrap();
+    assert!(!is_read_at(&client, 110));
+    client.put("k", "w").unwrap();
+    assert!(is_read_at(&client, 119));
+    assert!(!is_read_at(&client, 120));
 }
 
 // One client with sixteen segments of four rows. A key is read at each third put of another one.
@@ -175,6 +248,17 @@ fn a_note_is_learned_by_a_client_of_its_cache() {
     drop(one.note());
 }
 
+// Each next cache may have the address of one that was freed.
+#[test]
+fn a_note_of_a_cache_that_was_freed_is_of_another_one() {
+    let notes: Vec<_> = (0..50).map(|_| two().1.note().unwrap()).collect();
+    let (_cache, client, _other) = two();
+    for note in notes {
+        assert_eq!(client.learn(note), Err(Error::Foreign));
+    }
+    client.learn(client.note().unwrap()).unwrap();
+}
+
 #[test]
 fn the_content_is_listed_in_order() {
     let (cache, one, other) = two();
@@ -198,6 +282,33 @@ fn clients_outlive_their_cache() {
     drop(other);
     assert_eq!(one.put("k", "v"), Ok(()));
     assert!(one.get("k").unwrap().is_some());
+}
+
+// A cache from its opening to its end, with segments that are recycled.
+fn a_whole_life() {
+    let (cache, clients) = Cache::builder().keys(500).threads(2).build().unwrap();
+    for key in 0_u32..3_000 {
+        clients[0].put(key.to_le_bytes(), [1; 32]).unwrap();
+        clients[1].get(key.to_le_bytes()).unwrap();
+    }
+    assert!(clients[0].stats().keys_evicted > 0);
+    let keys: Vec<_> = (2_900_u32..3_000).map(u32::to_le_bytes).collect();
+    assert!(clients[1].get_many(&keys).iter().all(|found| found.unwrap().is_some()));
+    assert!(clients[1].gets_many(&keys).iter().all(|found| found.unwrap().is_some()));
+    let hold = clients[1].hold(keys[0]).unwrap().unwrap();
+    clients[1].learn(clients[0].note().unwrap()).unwrap();
+    assert_eq!(hold.value().as_slice(), [1; 32]);
+    drop(hold);
+    assert_eq!(clients[1].delete(keys[0]), Ok(true));
+    assert!(clients[0].index_stats().used_rows > 0);
+    drop(clients);
+    assert!(cache.close().unwrap().count() > 100);
+}
+
+#[test]
+fn a_thread_of_64_kib_of_stack_can_make_each_call() {
+    let small = thread::Builder::new().stack_size(64 * 1024);
+    small.spawn(a_whole_life).unwrap().join().unwrap();
 }
 
 #[test]
