@@ -1,4 +1,6 @@
-use Rattle.std.proofs.Common.{◌≡◌, ◌≢◌, ◌+◌, ◌-◌, ◌*◌, ◌<◌, Some, sym, ap, ◌∙◌, subst, arith, rules}
+use Rattle.std.proofs.Common.{◌≡◌, ◌≢◌, ◌+◌, ◌-◌, ◌*◌, ◌<◌, eqb, not, Some, refl, sym, ap, ◌∙◌, subst, arith, rules}
+use Rattle.std.specs.Option.{option_eq}
+use Rattle.std.proofs.lemmas.Bool.{eq-eqb, false≢true}
 use Rattle.segbase.specs.Words.{current_of, number}
 use Rattle.segindex.specs.Words.{board_of}
 use Rattle.segstore.specs.Words.{GoesOn}
@@ -76,7 +78,7 @@ loop-tried-preserved c =
       current = elim c.if-ne.branch [
         | then-ne+else-is_refilled w ↦
             let r = w.give_up-is_refilled.new.pass in
-            let apart : current ≢ Some segment = search rules in
+            let apart : current ≢ Some segment = λ same. false≢true (sym (c.ne.ensures ∙ (ap (λ o. not (option_eq eqb o (Some segment))) same ∙ ap not (eq-eqb segment segment refl))) ∙ w.if-ne.true) in
             let gives = subst (λ made. GivesUp b segment c.args.deadline made w.give_up-is_refilled.result.1 q r) w.if-is_refilled.false w.give_up-is_refilled.ensures.gives_up in
             ap current_of w.pass-is ∙ refused_apart b segment c.args.deadline w.give_up-is_refilled.result.1 q r gives (λ now. absurd (apart (sym was.current ∙ now))) ∙ was.current
         | else-ne w ↦ ap current_of w.pass-is ∙ was.current
@@ -85,7 +87,7 @@ loop-tried-preserved c =
         | then-ne+else-is_refilled w ↦
             let r = w.give_up-is_refilled.new.pass in
             let more = w.give_up-is_refilled.result.1 in
-            let apart : current ≢ Some segment = search rules in
+            let apart : current ≢ Some segment = λ same. false≢true (sym (c.ne.ensures ∙ (ap (λ o. not (option_eq eqb o (Some segment))) same ∙ ap not (eq-eqb segment segment refl))) ∙ w.if-ne.true) in
             let gives = subst (λ made. GivesUp b segment c.args.deadline made more q r) w.if-is_refilled.false w.give_up-is_refilled.ensures.gives_up in
             let mine = own_in_ring b (number q) ring segment was.own next.in_range.0 next.in_range.1 in
             let sum = c.loop-tried.keys + w.from-keys.result in
