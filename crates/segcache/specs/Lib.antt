@@ -10,7 +10,6 @@ pub mod Owned
 pub mod Places
 pub mod Reading
 pub mod Returning
-pub mod Row
 pub mod Setting
 pub mod Sharing
 pub mod Status

@@ -32,7 +32,7 @@ Noted before after note next returned =
 -- if these are a client and a note, the note was made by a client of the same index
 abbrev pub IsNoteFor : Option Kept → Option Kept → Type 0
 IsNoteFor (Some (kept.Client client)) (Some (kept.Note note)) =
-    IsNoteOf (board_of client.index.value) note
+    IsNoteOf (board_of client.share.index.value) note
 IsNoteFor _ _ = Unit {0}
 
 -- the client learned the note of the handle, which is empty then; without one nothing was done

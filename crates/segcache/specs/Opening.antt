@@ -27,9 +27,9 @@ pub record IsNewHome (i : Index) (home : Cache) : Type 0 where
 
 -- it shares this index, is new, of this pass, may keep any item, and holds nothing
 pub record IsNewGuest (i : Index) (p : Pass) (guest : SharedClient) : Type 0 where
-  pub index : guest.index.value ≡ i
+  pub index : guest.share.index.value ≡ i
   pub member : Begins (shape_of i) (Some 0) p guest.member
-  pub held : guest.held ≡ None
+  pub held : guest.share.held ≡ None
 
 abbrev pub IsHome : Index → Kept → Type 0
 IsHome i (kept.Cache home) = IsNewHome i home

@@ -93,4 +93,4 @@ release_status None = status.NotHolding
 abbrev pub Released : Option Kept → Option Kept → Status → Type 0
 Released before after returned =
     ByClient (Returns returned)
-    (λ old new. EndsItsHold old.held old new × (returned ≡ release_status old.held)) before after
+    (λ old new. EndsItsHold old.share.held old new × (returned ≡ release_status old.share.held)) before after

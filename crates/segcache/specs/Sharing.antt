@@ -6,7 +6,7 @@ use Rattle.segcache.specs.declared.kept.Kept.TheVariants as kept
 
 -- if this is a client, it shares the index of the cache
 abbrev pub IsGuestOf : Cache → Kept → Type 0
-IsGuestOf home (kept.Client client) = client.index.value ≡ home.index.value
+IsGuestOf home (kept.Client client) = client.share.index.value ≡ home.index.value
 IsGuestOf home _ = Unit {0}
 
 abbrev pub MayBeGuest : Cache → Option Kept → Type 0

@@ -61,7 +61,7 @@ impl Cache {
 
     /// Ends the hold of a client of this index, and puts its pass into its place.
     pub(crate) fn take_back(&mut self, client: SharedClient)
-        requires same { client.index.value ≡ self.old.index.value }
+        requires same { client.share.index.value ≡ self.old.index.value }
         requires place { HasPlaceFor self.old client }
         ensures { TakesBack client self.old self.new }
     {

@@ -19,7 +19,7 @@ impl SharedClient {
         ensures { MakesCall (At now (Gets key.now result)) self.old self.new }
     {
         self.member.set_now(now);
-        self.member.get(&self.index, key)
+        self.member.get(self.share.index(), key)
     }
 
     /// The value under a key, with the version of its bucket.
@@ -27,7 +27,7 @@ impl SharedClient {
         ensures { MakesCall (At now (GetsVersion key.now result)) self.old self.new }
     {
         self.member.set_now(now);
-        self.member.gets(&self.index, key)
+        self.member.gets(self.share.index(), key)
     }
 
     /// Stores the value under the key, and makes room for it if there is none.
@@ -35,7 +35,7 @@ impl SharedClient {
         ensures { MakesCall (At now (Puts key.now value.now result)) self.old self.new }
     {
         self.member.set_now(now);
-        self.member.put(&self.index, key, value)
+        self.member.put(self.share.index(), key, value)
     }
 
     /// Stores the value under the key, if that is to be, and makes no room.
@@ -44,7 +44,7 @@ impl SharedClient {
         ensures { MakesCall (At now (WritesWhen when key.now value.now result)) self.old self.new }
     {
         self.member.set_now(now);
-        write_when(&mut self.member, &self.index, when, key, value)
+        write_when(&mut self.member, self.share.index(), when, key, value)
     }
 
     /// Takes the key out.
@@ -52,7 +52,7 @@ impl SharedClient {
         ensures { MakesCall (At now (DeletesKey key.now result)) self.old self.new }
     {
         self.member.set_now(now);
-        self.member.delete(&self.index, key)
+        self.member.delete(self.share.index(), key)
     }
 }
 

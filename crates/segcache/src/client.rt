@@ -4,22 +4,27 @@ ghost use Rattle.segbase.specs.Words.{number_of};
 ghost use Rattle.segindex.specs.Words.{board_of, shape_of};
 ghost use Rattle.segstore.specs.Words.{IsQuiet};
 ghost use Rattle.segclient.specs.Member.{IsMember, IsMember-prop};
-ghost use Rattle.segcache.specs.Row.{IsRowHeld, IsRowHeld-prop};
+ghost use Rattle.segread.specs.Words.{IsKept, IsKept-prop};
 
-use segclient::{HeldRow, Index, IndexStats, Member, Pass, Stats};
+use segclient::{Index, IndexStats, Member, Pass, Share, Stats};
 use std::alloc::Global;
 use std::sync::Arc;
 
-/// A client with a share of its index, and what it holds.
-#[derive(Drop)]
+/// A client with a share of its index, and what it holds by the share.
+/// A client that is dropped ends its hold first.
 pub struct SharedClient {
-    pub(crate) index: Arc<Index, Global>,
+    pub(crate) share: Share,
     pub(crate) member: Member,
-    // The row of the item that it holds.
-    pub(crate) held: Option<HeldRow>,
-    ghost is_member: { IsMember index.value member } by { IsMember-prop index.value member },
-    ghost row: { IsRowHeld (shape_of index.value) member.pass
-        held } by { IsRowHeld-prop (shape_of index.value) member.pass held },
+    ghost is_member: { IsMember share.index.value
+        member } by { IsMember-prop share.index.value member },
+    ghost row: { IsKept (shape_of share.index.value) member.pass
+        share.held } by { IsKept-prop (shape_of share.index.value) member.pass share.held },
+}
+
+impl Drop for SharedClient {
+    fn drop(self) {
+        self.into_pass();
+    }
 }
 
 impl SharedClient {
@@ -31,15 +36,14 @@ impl SharedClient {
     /// A client that shares the index, and holds nothing.
     pub(crate) fn new(index: Arc<Index, Global>, member: Member) -> SharedClient
         requires member { IsMember index.value member }
-        requires row { IsRowHeld (shape_of index.value) member.pass None }
-        ensures index { result.index.value ≡ index.value }
+        requires row { IsKept (shape_of index.value) member.pass None }
+        ensures index { result.share.index.value ≡ index.value }
         ensures member { result.member ≡ member }
-        ensures held { result.held ≡ None }
+        ensures held { result.share.held ≡ None }
     {
         SharedClient {
-            index,
+            share: Share::new(index),
             member,
-            held: None,
         }
     }
 
@@ -62,7 +66,7 @@ impl SharedClient {
         ensures { MakesCall (At now (MakesRoomFor result)) self.old self.new }
     {
         self.member.set_now(now);
-        self.member.make_room(&self.index)
+        self.member.make_room(self.share.index())
     }
 
     /// What its calls came to so far.
@@ -76,7 +80,7 @@ impl SharedClient {
     pub(crate) fn index_stats(&mut self) -> IndexStats
         ensures { MakesCall (ReturnsTable result) self.old self.new }
     {
-        self.member.index_stats(&self.index)
+        self.member.index_stats(self.share.index())
     }
 
     /// The number of its pass.
@@ -89,14 +93,11 @@ impl SharedClient {
     /// Ends its hold, if there is one. Its pass, as for the close of the index.
     pub(crate) fn into_pass(mut self) -> Pass
         ensures pass { IsPassOfGuest self result }
-        ensures quiet { IsQuiet (board_of self.index.value) result }
+        ensures quiet { IsQuiet (board_of self.share.index.value) result }
     {
         self.release();
-        let SharedClient {
-            index: _,
-            member,
-            held: _,
-        } = self;
+        let SharedClient { share, member } = self;
+        share.into_index();
         member.into_pass()
     }
 }

@@ -2,12 +2,11 @@
 ghost use Rattle.std.specs.Prelude.{◌≡◌, is_some};
 ghost use Rattle.segbase.specs.Words.{IsNoteOf};
 ghost use Rattle.segindex.specs.Words.{board_of};
-ghost use Rattle.segclient.specs.Member.{IsMember};
-ghost use Rattle.segcache.specs.Calls.{TakesHold};
+ghost use Rattle.segcache.specs.Calls.{hold_status};
 
 use crate::client::SharedClient;
 use crate::status::Status;
-use segclient::{HeldRow, HoldAnswer, Index, Key, Member, Note, Value, row_of_hold};
+use segclient::{Key, Note, RowAnswer, Value};
 
 impl SharedClient {
     ghost use Rattle.segclient.specs.Made.{Learns, Notes};
@@ -18,63 +17,47 @@ impl SharedClient {
         ensures { HoldsAt key.now now result self.old self.new }
     {
         self.member.set_now(now);
-        hold_row(&mut self.member, &self.index, key, &mut self.held)
+        hold_status(self.member.hold_by(&mut self.share, key))
     }
 
     /// A copy of the value that it holds.
     pub(crate) fn held_value(&mut self) -> Option<Value>
         ensures { ReadsHeld result self.old self.new }
     {
-        let row = self.held?;
-        let hold = self.index.hold_of_row(row);
-        let value = self.member.held_value(&self.index, &hold);
-        row_of_hold(hold);
-        Some(value)
+        self.member.value_by(&self.share)
     }
 
     /// Ends its hold, and says whether there was one.
     pub(crate) fn release(&mut self) -> bool
-        ensures was_held { result ≡ is_some self.old.held }
-        ensures ends { EndsItsHold self.old.held self.old self.new }
+        ensures was_held { result ≡ is_some self.old.share.held }
+        ensures ends { EndsItsHold self.old.share.held self.old self.new }
     {
-        let Some(row) = self.held.take() else {
-            return false;
-        };
-        let hold = self.index.hold_of_row(row);
-        self.member.release(&self.index, hold);
-        true
+        self.member.release_by(&mut self.share)
     }
 
     /// A note of what it has seen.
     pub(crate) fn note(&mut self) -> Note
         ensures { MakesCall (Notes result) self.old self.new }
     {
-        self.member.note(&self.index)
+        self.member.note(self.share.index())
     }
 
     /// It has then seen all that the note has.
     pub(crate) fn learn(&mut self, note: Note)
-        requires note { IsNoteOf (board_of self.old.index.value) note }
+        requires note { IsNoteOf (board_of self.old.share.index.value) note }
         ensures { MakesCall (Learns note) self.old self.new }
     {
-        self.member.learn(&self.index, note);
+        self.member.learn(self.share.index(), note);
     }
 }
 
-// Holds the item of a key, and keeps its row.
-fn hold_row(member: &mut Member, index: &Index, key: &Key, held: &mut Option<HeldRow>) -> Status
-    requires member { IsMember index.now member.old }
-    ensures member { IsMember index.now member.new }
-    ensures holds { TakesHold key.now result held.old held.new
-        (board_of index.now) member.old member.new }
+fn hold_status(answer: RowAnswer) -> Status
+    ensures { result ≡ hold_status answer }
 {
-    match member.hold(index, key) {
-        HoldAnswer::Holding(hold) => {
-            *held = Some(row_of_hold(hold));
-            Status::Ok
-        }
-        HoldAnswer::Miss => Status::Miss,
-        HoldAnswer::Busy => Status::Busy,
-        HoldAnswer::AlreadyHolding => Status::AlreadyHolding,
+    match answer {
+        RowAnswer::Holding => Status::Ok,
+        RowAnswer::Miss => Status::Miss,
+        RowAnswer::Busy => Status::Busy,
+        RowAnswer::AlreadyHolding => Status::AlreadyHolding,
     }
 }

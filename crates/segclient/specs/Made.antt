@@ -1,10 +1,11 @@
 -- What each call of a client is, in one record: over the index's board and what it has
 -- beside the index.
-use Rattle.std.specs.Prelude.{◌≡◌, ℕ, List}
+use Rattle.std.specs.Prelude.{◌≡◌, ℕ, List, Option, Some, None, IsSomeAnd}
 use Rattle.segmodel.specs.Words.{DeleteAnswer, GetAnswer, GetsAnswer, Request, WriteAnswer}
 use Rattle.segbase.specs.Words.{Board}
 use Rattle.segread.specs.declared.held.HoldAnswer.{HoldAnswer}
-use Rattle.segread.specs.Words.{Hold, HoldsItem, ReadsHeld, ReadsKey, ReadsVersion, ReleasesHold}
+use Rattle.segread.specs.Words.{HeldRow, Hold, HoldsItem, HoldsRow, ReadsKey, ReadsRow}
+use Rattle.segread.specs.Words.{ReadsVersion, ReleasesHold, RowAnswer}
 use Rattle.segwrite.specs.Words.{Deletes, Writes}
 use Rattle.segindex.specs.Words.{LearnsNote, MakesNote, MeetsPass, Note, ReturnsStats}
 use Rattle.segindex.specs.declared.table_stats.IndexStats.{IndexStats}
@@ -62,15 +63,38 @@ pub record HoldsKey (key : List ℕ) (told : HoldAnswer) (b : Board) (old new : 
   pub holds : HoldsItem b key old.clock told old.pass new.pass
   pub counts : KeepsCounts old new
 
--- the value that is held was read
-pub record ReadsHold (hold : Hold) (told : List ℕ) (b : Board) (old new : Member) : Type 0 where
-  pub reads : ReadsHeld b hold told old.pass new.pass
+-- the value in the row that is held was read
+pub record ReadsHeldRow (row : HeldRow) (told : List ℕ) (b : Board) (old new : Member)
+    : Type 0 where
+  pub reads : ReadsRow b row told old.pass new.pass
   pub counts : KeepsCounts old new
+
+abbrev pub ReadsHold : Hold → List ℕ → Board → Member → Member → Type 0
+ReadsHold hold told b old new = ReadsHeldRow hold.row told b old new
 
 -- the hold ended
 pub record EndsHold (b : Board) (old new : Member) : Type 0 where
   pub releases : ReleasesHold b old.pass new.pass
   pub counts : KeepsCounts old new
+
+-- ---- holds that a share keeps
+
+-- a hold of the key had this answer, and the share keeps this from then on
+pub record HoldsInto (key : List ℕ) (told : RowAnswer) (kept next : Option HeldRow) (b : Board)
+    (old new : Member) : Type 0 where
+  pub holds : HoldsRow b key old.clock told kept next old.pass new.pass
+  pub counts : KeepsCounts old new
+
+-- the value that is kept was read, if there is one; without one nothing was done
+abbrev pub ReadsKept : Option HeldRow → Option (List ℕ) → Board → Member → Member → Type 0
+ReadsKept (Some row) told b old new =
+    IsSomeAnd told (λ value. ReadsHeldRow row value b old new)
+ReadsKept None told b old new = (told ≡ None) × (new ≡ old)
+
+-- the hold that is kept ended, if there was one; without one nothing was done
+abbrev pub EndsKept : Option HeldRow → Board → Member → Member → Type 0
+EndsKept (Some row) b old new = EndsHold b old new
+EndsKept None b old new = new ≡ old
 
 -- ---- the rest
 

@@ -6,7 +6,7 @@ ghost use Rattle.segclient.specs.Member.{IsMember, IsMember-prop};
 use crate::member::Member;
 use crate::put::PutAnswer;
 use crate::stats::Stats;
-use segindex::{HeldRow, Hold, Index, IndexStats, Pass};
+use segindex::{Index, IndexStats, Pass};
 use segmodel::{DeleteAnswer, GetAnswer, GetsAnswer, WriteAnswer};
 use segword::{Key, Value};
 use std::alloc::{AllocError, Global};
@@ -25,7 +25,6 @@ pub struct Client<'i> {
 impl<'i> Client<'i> {
     ghost use Rattle.std.specs.Prelude.{◌≡◌, IfOk, None, Some};
     ghost use Rattle.segmodel.specs.declared.request.Request.TheVariants.{Set, Add, Replace, Cas};
-    ghost use Rattle.segread.specs.Words.{IsOfRow};
     ghost use Rattle.segwrite.specs.Words.{IsSetAnswer};
     ghost use Rattle.segclient.specs.Client.{MakesCall, Starts};
     ghost use Rattle.segclient.specs.Made.{DeletesKey, Gets, GetsVersion, MakesWrite, ReturnsTable};
@@ -201,12 +200,5 @@ impl<'i> Client<'i> {
         ensures puts { MakesCall (Puts key.now value.now result) self.old self.new }
     {
         self.member.put(self.index, key, value)
-    }
-
-    /// The hold of a row that was taken apart from its hold.
-    pub fn hold_of_row(&self, row: HeldRow) -> Hold<'i>
-        ensures { IsOfRow row result }
-    {
-        self.index.hold_of_row(row)
     }
 }

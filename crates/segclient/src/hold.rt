@@ -1,13 +1,15 @@
 //! Items held by a client.
 use crate::client::Client;
 use crate::member::Member;
-use segindex::{Hold, HoldAnswer, Index};
+use segindex::{Hold, HoldAnswer, Index, RowAnswer, Share};
 use segword::{Key, Value};
 
 impl Member {
+    ghost use Rattle.std.specs.Prelude.{◌≡◌, is_some, None};
     ghost use Rattle.segindex.specs.Words.{board_of, shape_of};
-    ghost use Rattle.segread.specs.Words.{IsHoldOf};
+    ghost use Rattle.segread.specs.Words.{IsHoldOf, IsKept};
     ghost use Rattle.segclient.specs.Made.{EndsHold, HoldsKey, ReadsHold};
+    ghost use Rattle.segclient.specs.Made.{EndsKept, HoldsInto, ReadsKept};
     ghost use Rattle.segclient.specs.Member.{IsMember};
 
     /// As `Client::hold`.
@@ -37,6 +39,43 @@ impl Member {
         ensures releases { EndsHold (board_of index.now) self.old self.new }
     {
         index.release(&mut self.pass, hold);
+    }
+
+    /// As `Client::hold`, but the share keeps what is held, until `release_by`.
+    pub fn hold_by(&mut self, share: &mut Share, key: &Key) -> RowAnswer
+        requires member { IsMember share.old.index.value self.old }
+        requires kept { IsKept (shape_of share.old.index.value) self.old.pass share.old.held }
+        ensures index { share.new.index ≡ share.old.index }
+        ensures member { IsMember share.old.index.value self.new }
+        ensures kept { IsKept (shape_of share.old.index.value) self.new.pass share.new.held }
+        ensures holds { HoldsInto key.now result share.old.held share.new.held
+            (board_of share.old.index.value) self.old self.new }
+    {
+        share.hold(&mut self.pass, key, self.clock)
+    }
+
+    /// A copy of the value that is held by the share, if one is.
+    pub fn value_by(&mut self, share: &Share) -> Option<Value>
+        requires member { IsMember share.now.index.value self.old }
+        requires kept { IsKept (shape_of share.now.index.value) self.old.pass share.now.held }
+        ensures member { IsMember share.now.index.value self.new }
+        ensures reads { ReadsKept share.now.held result
+            (board_of share.now.index.value) self.old self.new }
+    {
+        share.held_value(&mut self.pass)
+    }
+
+    /// Ends the hold by the share, and says whether there was one.
+    pub fn release_by(&mut self, share: &mut Share) -> bool
+        requires member { IsMember share.old.index.value self.old }
+        requires kept { IsKept (shape_of share.old.index.value) self.old.pass share.old.held }
+        ensures index { share.new.index ≡ share.old.index }
+        ensures free { share.new.held ≡ None }
+        ensures was_held { result ≡ is_some share.old.held }
+        ensures member { IsMember share.old.index.value self.new }
+        ensures ends { EndsKept share.old.held (board_of share.old.index.value) self.old self.new }
+    {
+        share.release(&mut self.pass)
     }
 }
 

@@ -23,9 +23,8 @@ pub use note::{what_a_put_adds, what_is_put_stands};
 pub use put::PutAnswer;
 pub use ring::own_ring;
 pub use segindex::{
-    DeleteAnswer, GetAnswer, GetsAnswer, HeldRow, Hold, HoldAnswer, Index, IndexStats, Key,
-    MakeFault, Note, OutOfMemory, Pass, Shape, ShapeFault, Value, WriteAnswer, hold_stays,
-    row_of_hold,
+    DeleteAnswer, GetAnswer, GetsAnswer, Hold, HoldAnswer, Index, IndexStats, Key, MakeFault, Note,
+    OutOfMemory, Pass, RowAnswer, Shape, ShapeFault, Share, Value, WriteAnswer, hold_stays,
 };
 pub use stats::Stats;
 pub use tally::{Tally, evicted_by, refilled_by};

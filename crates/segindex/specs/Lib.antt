@@ -8,6 +8,7 @@ pub mod Noting
 pub mod Order
 pub mod Probing
 pub mod Refilling
+pub mod Sharing
 pub mod Stats
 pub mod Steps
 pub mod UnnamedRows

@@ -15,6 +15,7 @@ mod probe;
 mod read;
 mod segment;
 mod serve;
+mod share;
 mod table_stats;
 #[cfg(test)]
 mod tests;
@@ -32,7 +33,8 @@ pub use segmodel::{
     Answer, Command, DeleteAnswer, EvictAnswer, GetAnswer, GetsAnswer, KeepAnswer, RefillAnswer,
     Request, WriteAnswer,
 };
-pub use segread::{HeldRow, Hold, HoldAnswer, hold_stays, row_of_hold};
+pub use segread::{Hold, HoldAnswer, RowAnswer, hold_stays};
 pub use segstore::{LockAnswer, RowRef};
 pub use segword::{Key, Shape, ShapeFault, Value};
+pub use share::Share;
 pub use table_stats::IndexStats;

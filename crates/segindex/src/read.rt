@@ -2,13 +2,13 @@
 use crate::index::Index;
 use segbase::Pass;
 use segmodel::{GetAnswer, GetsAnswer};
-use segread::{HeldRow, Hold, HoldAnswer};
+use segread::{Hold, HoldAnswer};
 use segword::{Key, Value};
 
 impl Index {
     ghost use Rattle.segstore.specs.Words.{IsQuiet};
     ghost use Rattle.segread.specs.Words.{HoldsItem, IsHoldOf, ReadsHeld, ReadsKey, ReadsVersion};
-    ghost use Rattle.segread.specs.Words.{IsOfRow, ReleasesHold};
+    ghost use Rattle.segread.specs.Words.{ReleasesHold};
     ghost use Rattle.segindex.specs.Index.{board_of, shape_of};
 
     /// The value under a key at a moment.
@@ -58,12 +58,5 @@ impl Index {
         ensures releases { ReleasesHold (board_of self.now) pass.old pass.new }
     {
         segread::release(&self.board, pass, hold);
-    }
-
-    /// The hold of a row that was taken apart from its hold, as by those who share the index.
-    pub fn hold_of_row<'i>(&'i self, row: HeldRow) -> Hold<'i>
-        ensures { IsOfRow row result }
-    {
-        segread::hold_of_row(&self.board, row)
     }
 }

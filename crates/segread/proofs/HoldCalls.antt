@@ -26,10 +26,10 @@ use Rattle.segstore.specs.Words.{IsHold, IsLock, IsQuiet, IsReadable, IsReader, 
 use Rattle.segstore.specs.Words.{row_part, segment_part, TakesNoBit}
 use Rattle.segstore.proofs.Keeping.{stored_in, keeps}
 use Rattle.segstore.proofs.Seconds.{segment_of_item, row_of_item}
-use Rattle.segread.specs.Words.{Hold, HoldAnswer}
+use Rattle.segread.specs.Words.{HeldRow, HoldAnswer}
 use Rattle.segread.specs.declared.held.HoldAnswer.TheVariants as answer
 use Rattle.segread.specs.Hits.{OnlyScans, TriesFew}
-use Rattle.segread.specs.Holds.{IsRowOf, IsHoldOf, TakesHold, IsHoldAnswer, HoldsItem, NoneFills, IsUnfilled, Releases, SetsHold}
+use Rattle.segread.specs.Holds.{IsRowOf, IsHeldRow, TakesHold, IsHoldAnswer, HoldsItem, NoneFills, IsUnfilled, Releases, SetsHold}
 use Rattle.segstore.proofs.Still.{then_minds}
 use Rattle.segstore.proofs.Bits.{none_at_both, bit_before}
 use Rattle.segstore.proofs.Draws.{moved_undrawn, reads_undrawn}
@@ -66,32 +66,32 @@ no_hold : (o : Option Held) → false ≡ is_some o → o ≡ None
 no_hold None e = refl
 no_hold (Some held) e = absurd (false≢true e)
 
-pub hold_of : (b : Board) (p : Pass) (hold : Hold) → IsQuiet b p → (is : IsHoldOf b.shape hold p) → IsHold b.shape (trace p) is.held
+pub hold_of : (b : Board) (p : Pass) (hold : HeldRow) → IsQuiet b p → (is : IsHeldRow b.shape hold p) → IsHold b.shape (trace p) is.held
 hold_of b p hold quiet is = quiet.hold is.held is.holds
 
-pub row_now : (b : Board) (p : Pass) (hold : Hold) → IsQuiet b p → (is : IsHoldOf b.shape hold p) → row_after (trace p) hold.segment hold.row ≡ row_after is.held.trace hold.segment hold.row
+pub row_now : (b : Board) (p : Pass) (hold : HeldRow) → IsQuiet b p → (is : IsHeldRow b.shape hold p) → row_after (trace p) hold.segment hold.row ≡ row_after is.held.trace hold.segment hold.row
 row_now b p hold quiet is =
     subst (λ s. row_after (trace p) s hold.row ≡ row_after is.held.trace s hold.row) (sym is.segment)
-    (row_of_hold b.shape (trace p) is.held hold.row quiet.pass.lawful (hold_of b p hold quiet is) (subst (λ s. (row_after is.held.trace s hold.row).linked ≡ Some is.held.key) is.segment is.row.linked))
+    (row_of_hold b.shape (trace p) is.held hold.row quiet.pass.lawful (hold_of b p hold quiet is) (subst (λ s. (row_after is.held.trace s hold.row).linked ≡ Some is.held.key) is.segment is.stands.linked))
 
-pub has_row : (b : Board) (p : Pass) (hold : Hold) → IsQuiet b p → (is : IsHoldOf b.shape hold p) → IsRowOf (trace p) hold is.held
+pub has_row : (b : Board) (p : Pass) (hold : HeldRow) → IsQuiet b p → (is : IsHeldRow b.shape hold p) → IsRowOf (trace p) hold is.held
 has_row b p hold quiet is = let same = row_now b p hold quiet is in record {
-  linked = ap (λ (u : Row). u.linked) same ∙ is.row.linked;
-  pair = λ j lt. ap (λ (u : Row). u.words j) same ∙ is.row.pair j lt;
+  linked = ap (λ (u : Row). u.linked) same ∙ is.stands.linked;
+  pair = λ j lt. ap (λ (u : Row). u.words j) same ∙ is.stands.pair j lt;
 }
 
 -- the pass is in the segment
-pub is_inside : (b : Board) (p : Pass) (hold : Hold) → IsQuiet b p → IsHoldOf b.shape hold p → 0 < inside (trace p) (number p) hold.segment
+pub is_inside : (b : Board) (p : Pass) (hold : HeldRow) → IsQuiet b p → IsHeldRow b.shape hold p → 0 < inside (trace p) (number p) hold.segment
 is_inside b p hold quiet is =
     let one : inside (trace p) (number p) hold.segment ≡ 1 = quiet.inside hold.segment
     ∙ (ap (λ o. cond (is_held_in o hold.segment) 1 0) is.holds ∙ cond-true (eqb is.held.segment hold.segment) 1 0 (eq-eqb is.held.segment hold.segment (sym is.segment))) in
     omega arith
 
-pub may_read : (b : Board) (p : Pass) (hold : Hold) → IsQuiet b p → IsHoldOf b.shape hold p → IsReadable b p hold.segment hold.row
+pub may_read : (b : Board) (p : Pass) (hold : HeldRow) → IsQuiet b p → IsHeldRow b.shape hold p → IsReadable b p hold.segment hold.row
 may_read b p hold quiet is = (is.in_table.0, is.in_table.1, inr (inl (is_inside b p hold quiet is, (is.held.key, (has_row b p hold quiet is).linked))))
 
-pub stays : (shape : Shape) (hold : Hold) (p q : Pass) → IsHoldOf shape hold p → holding q ≡ holding p → IsHoldOf shape hold q
-stays shape hold p q is same = record { held = is.held; holds = same ∙ is.holds; segment = is.segment; in_table = is.in_table; valid = is.valid; row = is.row }
+pub stays : (shape : Shape) (hold : HeldRow) (p q : Pass) → IsHeldRow shape hold p → holding q ≡ holding p → IsHeldRow shape hold q
+stays shape hold p q is same = record { held = is.held; holds = same ∙ is.holds; segment = is.segment; in_table = is.in_table; valid = is.valid; stands = is.stands }
 
 -- ---- quiet again
 
@@ -144,7 +144,7 @@ module _ (b : Board) (own : List Event) (held : Option Held) (p r q : Pass) (qui
 
 -- ---- a hold
 
-module _ (b : Board) (p r q : Pass) (place : Place) (item : Item) (key value : List ℕ) (hold : Hold) (quiet : IsQuiet b p) (free : false ≡ is_holding_of p) (reads : IsReaderIn b p r item.seg)
+module _ (b : Board) (p r q : Pass) (place : Place) (item : Item) (key value : List ℕ) (hold : HeldRow) (quiet : IsQuiet b p) (free : false ≡ is_holding_of p) (reads : IsReaderIn b p r item.seg)
     (found : FoundItem b.shape place (item_word item) key value (trace p) (trace r)) (segment : hold.segment ≡ item.seg) (row : hold.row ≡ item.row) (is : IsPassOf b q)
     (view_is : view q ≡ view r) (sets : SetsHold (Some (held_at b.shape (trace r) key value item.seg)) r q) where
   abbrev z : Shape
@@ -175,14 +175,14 @@ module _ (b : Board) (p r q : Pass) (place : Place) (item : Item) (key value : L
   row_then = (λ j. row_after held.trace (segment j) (row j))
       ∙ (held_row z key value item.seg item.row at (trace r) lawful kept stands (ap (λ (u : Row). u.linked) same_row ∙ found.saw.was.linked) ∙ same_row)
 
-  abbrev is_hold_of : IsHoldOf z hold q
+  abbrev is_hold_of : IsHeldRow z hold q
   is_hold_of = let was = found.saw.was in record {
     held = held;
     holds = ap (λ (m : Memo). m.holding) sets.memo;
     segment = segment;
     in_table = (subst (IsSegment z) (sym (segment ∙ es)) was.in_segment.0, subst (λ n. n < z.rows) (sym (row ∙ row_of_item item)) was.in_segment.1);
     valid = was.valid;
-    row = record { linked = ap (λ (u : Row). u.linked) row_then ∙ was.linked; pair = λ j lt. ap (λ (u : Row). u.words j) row_then ∙ was.holds j lt };
+    stands = record { linked = ap (λ (u : Row). u.linked) row_then ∙ was.linked; pair = λ j lt. ap (λ (u : Row). u.words j) row_then ∙ was.holds j lt };
   }
 
   in_no_segment : (s : ℕ) → inside (trace p) (number p) s ≡ 0
@@ -256,7 +256,7 @@ left_once : (t : Bool) → (let n : ℕ = cond t (cond t 1 0 - 1) (cond t 1 0) i
 left_once true = refl
 left_once false = refl
 
-module _ (b : Board) (p r q : Pass) (hold : Hold) (quiet : IsQuiet b p) (of : IsHoldOf b.shape hold p) (did : AddsAtOnce b (Left (number p) hold.segment ∷ []) p r) (plain : r.plain ≡ p.plain) (same : memo r ≡ memo p) (is : IsPassOf b q) (view_is : view q ≡ view r) (sets : SetsHold None r q) where
+module _ (b : Board) (p r q : Pass) (hold : HeldRow) (quiet : IsQuiet b p) (of : IsHeldRow b.shape hold p) (did : AddsAtOnce b (Left (number p) hold.segment ∷ []) p r) (plain : r.plain ≡ p.plain) (same : memo r ≡ memo p) (is : IsPassOf b q) (view_is : view q ≡ view r) (sets : SetsHold None r q) where
   abbrev own : List Event
   own = Left (number p) hold.segment ∷ []
 

@@ -7,6 +7,7 @@ use Rattle.segcore.specs.Event as event
 use Rattle.segcore.specs.Words.{Event, Holds, IsSegment, row_after}
 use Rattle.segbase.specs.Words.{Board, Held, holding, is_holding_of, mine, Pass, seen, SinceFirst}
 use Rattle.segbase.specs.Words.{with_holding}
+use Rattle.segread.specs.declared.held.HeldRow.{HeldRow}
 use Rattle.segread.specs.declared.held.Hold.{Hold}
 use Rattle.segread.specs.declared.held.HoldAnswer.{HoldAnswer}
 use Rattle.segread.specs.declared.held.HoldAnswer.TheVariants as hold_answer
@@ -14,20 +15,24 @@ use Rattle.segstore.specs.Words.{ChangesNothing, CostsNothing, GoesOn, memo}
 use Rattle.segread.specs.Costs.{CostsOfHold}
 use Rattle.segread.specs.Reads.{ReadsBetween}
 
--- the row of the hold is linked to the key of what is held, and holds the pair
-pub record IsRowOf (trace : List Event) (hold : Hold) (held : Held) : Type 0 where
-  pub linked : (row_after trace hold.segment hold.row).linked ≡ Some held.key
-  pub pair : Holds (row_after trace hold.segment hold.row) held.key held.value
+-- the row is linked to the key of what is held, and holds the pair
+pub record IsRowOf (trace : List Event) (row : HeldRow) (held : Held) : Type 0 where
+  pub linked : (row_after trace row.segment row.row).linked ≡ Some held.key
+  pub pair : Holds (row_after trace row.segment row.row) held.key held.value
 
--- The hold names the row of the item that the pass holds.
+-- The row is that of the item that the pass holds.
 -- While the pass holds it, the row stays as it is, since its segment isn't filled again.
-pub record IsHoldOf (shape : Shape) (hold : Hold) (p : Pass) : Type 0 where
+pub record IsHeldRow (shape : Shape) (row : HeldRow) (p : Pass) : Type 0 where
   pub held : Held
   pub holds : holding p ≡ Some held
-  pub segment : hold.segment ≡ held.segment
-  pub in_table : IsSegment shape hold.segment × (hold.row < shape.rows)
+  pub segment : row.segment ≡ held.segment
+  pub in_table : IsSegment shape row.segment × (row.row < shape.rows)
   pub valid : IsKey held.key × IsValue held.value
-  pub row : IsRowOf held.trace hold held
+  pub stands : IsRowOf held.trace row held
+
+-- the hold has the row of the item that the pass holds
+abbrev pub IsHoldOf : Shape → Hold → Pass → Type 0
+IsHoldOf shape hold p = IsHeldRow shape hold.row p
 
 -- the pass holds this from now on, or nothing; all else that the pass keeps is as it was
 pub record SetsHold (held : Option Held) (p q : Pass) : Type 0 where
@@ -36,9 +41,9 @@ pub record SetsHold (held : Option Held) (p q : Pass) : Type 0 where
 
 -- The pass holds an item of the key.
 -- The item stood at some moment after the call's first step, and was then present at `now`.
-pub record TakesHold (shape : Shape) (key : List ℕ) (now : ℕ) (hold : Hold) (p q : Pass)
+pub record TakesHold (shape : Shape) (key : List ℕ) (now : ℕ) (row : HeldRow) (p q : Pass)
     : Type 0 where
-  pub is : IsHoldOf shape hold q
+  pub is : IsHeldRow shape row q
   pub of : is.held.key ≡ key
   pub finds : present (after shape (event.seen is.held.trace)) now is.held.key
       ≡ Some (record { value = is.held.value; segment = is.held.segment })
@@ -49,7 +54,8 @@ pub record TakesHold (shape : Shape) (key : List ℕ) (now : ℕ) (hold : Hold) 
 
 -- a hold takes the item, or answers as a get does and changes nothing
 abbrev pub IsHoldAnswer : Shape → List ℕ → ℕ → HoldAnswer → Pass → Pass → Type 0
-IsHoldAnswer shape key now (hold_answer.Holding hold) p q = TakesHold shape key now hold p q
+IsHoldAnswer shape key now (hold_answer.Holding hold) p q =
+    TakesHold shape key now hold.row p q
 IsHoldAnswer shape key now hold_answer.Miss p q =
     ChangesNothing p q
     × SinceFirst p q (λ start. ReadsBetween shape key now (event.seen start) (seen q) None)
@@ -68,12 +74,15 @@ pub record HoldsItem (b : Board) (key : List ℕ) (now : ℕ) (told : HoldAnswer
 
 -- The value that is read is the one that the pass holds.
 -- Reading it changes nothing and costs nothing, and the hold stays.
-pub record ReadsHeld (b : Board) (taken : Hold) (told : List ℕ) (p q : Pass) : Type 0 where
+pub record ReadsRow (b : Board) (row : HeldRow) (told : List ℕ) (p q : Pass) : Type 0 where
   pub on : GoesOn b p q
   pub keeps : ChangesNothing p q
   pub costs_nothing : CostsNothing p q
-  pub hold : IsHoldOf b.shape taken q
+  pub hold : IsHeldRow b.shape row q
   pub value : IfSome (holding p) (λ held. told ≡ held.value)
+
+abbrev pub ReadsHeld : Board → Hold → List ℕ → Pass → Pass → Type 0
+ReadsHeld b hold told p q = ReadsRow b hold.row told p q
 
 -- none of the entries is a refilling of the segment
 abbrev pub NoneFills : ℕ → List Entry → Type 0

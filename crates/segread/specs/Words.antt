@@ -1,15 +1,16 @@
 -- The words of this crate that others use, from one place.
 pub use Rattle.segread.specs.Gets.{disturbed, IsDisturbed, IsGetsAnswer, ReadsVersion}
 pub use Rattle.segread.specs.Gets.{ReadsVersionBetween, PresentLocked}
-pub use Rattle.segread.specs.Holds.{HoldsItem, IsHoldAnswer, IsHoldOf, ReadsHeld, Releases}
-pub use Rattle.segread.specs.Holds.{ReleasesHold, SetsHold}
-pub use Rattle.segread.specs.Props.{IsHoldOf-prop}
+pub use Rattle.segread.specs.Holds.{HoldsItem, IsHeldRow, IsHoldAnswer, IsHoldOf, ReadsHeld}
+pub use Rattle.segread.specs.Holds.{ReadsRow, Releases, ReleasesHold, SetsHold}
+pub use Rattle.segread.specs.Props.{IsHeldRow-prop, IsHoldOf-prop}
 pub use Rattle.segread.specs.Reads.{IsGetAnswer, ReadsBetween, ReadsKey}
-pub use Rattle.segread.specs.Rows.{IsOfRow}
+pub use Rattle.segread.specs.Rows.{HoldsRow, IsKept, IsKept-prop, KeepsRow}
 pub use Rattle.segread.specs.Scanning.{place_of}
 use Rattle.segread.specs.declared.held.HeldRow as declared_held_row
 use Rattle.segread.specs.declared.held.Hold as declared_hold
 use Rattle.segread.specs.declared.held.HoldAnswer as declared_hold_answer
+use Rattle.segread.specs.declared.held.RowAnswer as declared_row_answer
 
 -- The types of this crate that others name.
 abbrev pub Hold : Type 0
@@ -20,3 +21,6 @@ HoldAnswer = declared_hold_answer.HoldAnswer
 
 abbrev pub HeldRow : Type 0
 HeldRow = declared_held_row.HeldRow
+
+abbrev pub RowAnswer : Type 0
+RowAnswer = declared_row_answer.RowAnswer

@@ -8,28 +8,27 @@ ghost use Rattle.segword.specs.declared.shape.Shape.{Shape};
 ghost use Rattle.segbase.specs.declared.board.Board.{Board};
 ghost use Rattle.segread.specs.declared.held.Hold.{Hold};
 ghost use Rattle.segstore.specs.Words.{IsQuiet};
-ghost use Rattle.segread.specs.Holds.{IsHoldOf, IsRowOf, HoldsItem, ReadsHeld, ReleasesHold};
-ghost use Rattle.segread.specs.Holds.{SetsHold};
-ghost use Rattle.segread.specs.Rows.{IsOfRow};
+ghost use Rattle.segread.specs.Holds.{IsHeldRow, IsHoldOf, IsRowOf, HoldsItem, ReadsHeld};
+ghost use Rattle.segread.specs.Holds.{ReadsRow, ReleasesHold, SetsHold};
+ghost use Rattle.segread.specs.Rows.{HoldsRow, IsKept};
 
 use crate::scan::{Scan, scan_for};
 use segbase::{Board, Pass};
 use segstore::{leave_segment, value_of_row};
 use segword::{Key, Value};
 
-/// An item that a pass holds. The hold has to be released, with the pass that holds the item.
-pub struct Hold<'i> {
-    // While the hold stands, this borrow keeps the index from being closed.
-    pub(crate) board: &'i Board,
+/// The row of an item that a pass holds. It has to be released, with the pass that holds the item.
+/// No call makes one of a `Hold`, which borrows the index.
+pub struct HeldRow {
     pub(crate) segment: u32,
     pub(crate) row: u32,
 }
 
-/// The row of a held item, for whoever shares the index and so keeps it without a borrow.
-#[derive(Clone, Copy, Debug, PartialEq, Eq, Drop)]
-pub struct HeldRow {
-    pub(crate) segment: u32,
-    pub(crate) row: u32,
+/// An item that a pass holds. The hold has to be released, with the pass that holds the item.
+pub struct Hold<'i> {
+    // While the hold stands, this borrow keeps the index from being closed.
+    pub(crate) board: &'i Board,
+    pub(crate) row: HeldRow,
 }
 
 /// The answer to a hold.
@@ -37,6 +36,17 @@ pub enum HoldAnswer<'i> {
     Holding(Hold<'i>),
     Miss,
     /// The words of the key's chain changed at each try.
+    Busy,
+    /// The pass holds an item.
+    AlreadyHolding,
+}
+
+/// The answer to a hold whose row goes into a place of the caller's.
+#[derive(Clone, Copy, Debug, PartialEq, Eq, Drop)]
+pub enum RowAnswer {
+    Holding,
+    Miss,
+    /// As of a `HoldAnswer`.
     Busy,
     /// The pass holds an item.
     AlreadyHolding,
@@ -61,11 +71,11 @@ pub fn hold_item<'i>(board: &'i Board, pass: &mut Pass, key: &Key, now: u32) -> 
             let item = hit.item;
             let value = value_of_row(board, pass, item.seg, item.row, hit.header);
             set_hold(board, pass, Some((key, &value, item.seg)));
-            HoldAnswer::Holding(Hold {
-                board,
+            let row = HeldRow {
                 segment: item.seg,
                 row: item.row,
-            })
+            };
+            HoldAnswer::Holding(Hold { board, row })
         }
         Scan::Passed { .. } => HoldAnswer::Miss,
         Scan::Busy => HoldAnswer::Busy,
@@ -78,8 +88,7 @@ pub fn held_value(board: &Board, pass: &mut Pass, hold: &Hold<'_>) -> Value
     requires hold { IsHoldOf board.now.shape hold.now pass.old }
     ensures reads { ReadsHeld board.now hold.now result pass.old pass.new }
 {
-    let header = board.row_load(pass, hold.segment, hold.row, 0);
-    value_of_row(board, pass, hold.segment, hold.row, header)
+    row_value(board, pass, &hold.row)
 }
 
 /// Ends a hold. Until then the segment wasn't filled again.
@@ -88,36 +97,57 @@ pub fn release(board: &Board, pass: &mut Pass, hold: Hold<'_>)
     requires hold { IsHoldOf board.now.shape hold pass.old }
     ensures releases { ReleasesHold board.now pass.old pass.new }
 {
-    let Hold {
-        board: _,
-        segment,
-        row: _,
-    } = hold;
+    let Hold { board: _, row } = hold;
+    release_row(board, pass, row);
+}
+
+/// Holds the item of a key as `hold_item` does, but the row goes into a place of the caller's.
+/// The caller has to see that the board stays while the row is there.
+pub fn hold_row(
+    board: &Board,
+    pass: &mut Pass,
+    key: &Key,
+    now: u32,
+    kept: &mut Option<HeldRow>,
+) -> RowAnswer
+    requires pass { IsQuiet board.now pass.old }
+    requires kept { IsKept board.now.shape pass.old kept.old }
+    ensures kept { IsKept board.now.shape pass.new kept.new }
+    ensures holds { HoldsRow board.now key.now now result kept.old kept.new pass.old pass.new }
+{
+    match hold_item(board, pass, key, now) {
+        HoldAnswer::Holding(hold) => {
+            let Hold { board: _, row } = hold;
+            match kept.replace(row) {
+                None => RowAnswer::Holding,
+                Some(_other) => unreachable!(),
+            }
+        }
+        HoldAnswer::Miss => RowAnswer::Miss,
+        HoldAnswer::Busy => RowAnswer::Busy,
+        HoldAnswer::AlreadyHolding => RowAnswer::AlreadyHolding,
+    }
+}
+
+/// The value in a row that is held.
+pub fn row_value(board: &Board, pass: &mut Pass, row: &HeldRow) -> Value
+    requires pass { IsQuiet board.now pass.old }
+    requires row { IsHeldRow board.now.shape row.now pass.old }
+    ensures reads { ReadsRow board.now row.now result pass.old pass.new }
+{
+    let header = board.row_load(pass, row.segment, row.row, 0);
+    value_of_row(board, pass, row.segment, row.row, header)
+}
+
+/// Ends the hold of a row. Until then the segment wasn't filled again.
+pub fn release_row(board: &Board, pass: &mut Pass, row: HeldRow)
+    requires pass { IsQuiet board.now pass.old }
+    requires row { IsHeldRow board.now.shape row pass.old }
+    ensures releases { ReleasesHold board.now pass.old pass.new }
+{
+    let HeldRow { segment, row: _ } = row;
     board.leave(pass, segment);
     set_hold(board, pass, None);
-}
-
-/// The row of a hold, which no longer borrows the index. The pass holds the item as before.
-pub fn row_of_hold(hold: Hold<'_>) -> HeldRow
-    ensures { IsOfRow result hold.entry }
-{
-    let Hold {
-        board: _,
-        segment,
-        row,
-    } = hold;
-    HeldRow { segment, row }
-}
-
-/// The hold of a row again.
-pub fn hold_of_row<'i>(board: &'i Board, row: HeldRow) -> Hold<'i>
-    ensures { IsOfRow row result }
-{
-    Hold {
-        board,
-        segment: row.segment,
-        row: row.row,
-    }
 }
 
 // Names what the pass holds: the item of this key, which stood with the value in the segment,
@@ -141,5 +171,5 @@ pub fn hold_stays()
     ensures stays { (shape : Shape) (hold : Hold) (p q : Pass)
         → IsHoldOf shape hold p → holding q ≡ holding p → IsHoldOf shape hold q }
     ensures row { (board : Board) (hold : Hold) (p : Pass) (is : IsHoldOf board.shape hold p)
-        → IsQuiet board p → IsRowOf (trace p) hold is.held }
+        → IsQuiet board p → IsRowOf (trace p) hold.row is.held }
 {}

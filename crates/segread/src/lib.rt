@@ -8,7 +8,8 @@ mod scan;
 mod version;
 
 pub use held::{
-    HeldRow, Hold, HoldAnswer, held_value, hold_item, hold_of_row, hold_stays, release, row_of_hold,
+    HeldRow, Hold, HoldAnswer, RowAnswer, held_value, hold_item, hold_row, hold_stays, release,
+    release_row, row_value,
 };
 pub use read::get;
 pub use version::gets;

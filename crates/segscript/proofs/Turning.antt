@@ -20,7 +20,7 @@ use Rattle.segscript.specs.Passes.{IsHoldKept, TakesTurn}
 -- the hold that is kept is the pass's as long as it holds the same
 pub still_kept : (shape : Shape) (kept : Option Hold) (p q : Pass) → IsHoldKept shape kept p → holding q ≡ holding p → IsHoldKept shape kept q
 still_kept shape None p q is same = same ∙ is
-still_kept shape (Some hold) p q is same = stays shape hold p q is same
+still_kept shape (Some hold) p q is same = stays shape hold.row p q is same
 
 -- ---- each call as a turn
 

@@ -63,7 +63,7 @@ returns-else-hit-now c =
     let read = enter_then b p m t hit.item.seg (looks b p m s.1.look) late in
     let found = found_from b.shape hit.place (item_word hit.item) key v.result (trace m) (trace t) (trace p) (up b key p m s.1) later in
     let starts = starts_on p m r (trace m) (look_starts b p m s.1) (steps_to m t r set.view late.reads.moved.steps) in
-    let holds = takes_hold b p t r hit.place hit.item key v.result (record { board = c.args.board; segment = hit.item.seg; row = hit.item.row }) c.requires.pass c.if-is_holding.ensures read found refl refl set.pass set.view set.sets c.args.now hit.deadline
+    let holds = takes_hold b p t r hit.place hit.item key v.result (record { segment = hit.item.seg; row = hit.item.row }) c.requires.pass c.if-is_holding.ensures read found refl refl set.pass set.view set.sets c.args.now hit.deadline
     (deadline_lasts b q t hit.item.seg hit.deadline v.ensures.reads.looked.did.moved (is_inside b m q hit.item.seg x.reads.reads) x.answer.1) c.if-hit-now.false (trace m) starts later.saw.between.0 in
     let held = Some (held_at b.shape (trace t) key v.result hit.item.seg) in
     let still = out_then q t r (looked b q t v.ensures.reads.looked.did.moved) (same_view t r set.view) in

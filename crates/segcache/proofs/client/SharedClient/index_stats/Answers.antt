@@ -5,4 +5,4 @@ use Rattle.segcache.proofs.client.SharedClient.index_stats.Goals as goal
 pub invariant_of-self-clause-row : goal.invariant_of-self-clause-row
 invariant_of-self-clause-row c =
     let self = c.args.self.now in
-    row_stays (shape_of self.index.value) self.member.pass c.index_stats.new.self.pass self.held (c.index_stats.ensures.reads.reads.only.keeps.memo) self.row
+    row_stays (shape_of self.share.index.value) self.member.pass c.index_stats.new.self.pass self.share.held (c.index_stats.ensures.reads.reads.only.keeps.memo) self.row

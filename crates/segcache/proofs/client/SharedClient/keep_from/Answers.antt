@@ -7,4 +7,4 @@ use Rattle.segcache.proofs.client.SharedClient.keep_from.Goals as goal
 pub invariant_of-self-clause-row : goal.invariant_of-self-clause-row
 invariant_of-self-clause-row c =
     let self = c.args.self.now in
-    row_stays (shape_of self.index.value) self.member.pass c.keep_from.new.self.pass self.held (ap memo c.keep_from.ensures.sets.rest.pass) self.row
+    row_stays (shape_of self.share.index.value) self.member.pass c.keep_from.new.self.pass self.share.held (ap memo c.keep_from.ensures.sets.rest.pass) self.row

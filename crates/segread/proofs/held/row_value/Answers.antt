@@ -9,19 +9,19 @@ use Rattle.segread.proofs.Answered.{reads_no_bit}
 use Rattle.segread.proofs.HoldCalls.{may_read, has_row, stays}
 use Rattle.segread.proofs.Reading.{read_on}
 use Rattle.segstore.proofs.Still.{no_reader}
-use Rattle.segread.proofs.held.held_value.Goals as goal
+use Rattle.segread.proofs.held.row_value.Goals as goal
 
 pub row_load-header-requires-clause-may : goal.row_load-header-requires-clause-may
-row_load-header-requires-clause-may c = let b = c.args.board.now in let p = c.args.pass.now in let hold = c.args.hold.now in
-    may_load b p hold.segment hold.row 0 (may_read b p hold c.requires.pass c.requires.hold) (omega arith)
+row_load-header-requires-clause-may c = let b = c.args.board.now in let p = c.args.pass.now in let hold = c.args.row.now in
+    may_load b p hold.segment hold.row 0 (may_read b p hold c.requires.pass c.requires.row) (omega arith)
 
 pub value_of_row-requires-clause-readable : goal.value_of_row-requires-clause-readable
-value_of_row-requires-clause-readable c = let b = c.args.board.now in let p = c.args.pass.now in let hold = c.args.hold.now in let l = c.row_load-header in
-    (loaded b p l.new.pass hold.segment hold.row 0 l.result (may_read b p hold c.requires.pass c.requires.hold) l.ensures.step).readable
+value_of_row-requires-clause-readable c = let b = c.args.board.now in let p = c.args.pass.now in let hold = c.args.row.now in let l = c.row_load-header in
+    (loaded b p l.new.pass hold.segment hold.row 0 l.result (may_read b p hold c.requires.pass c.requires.row) l.ensures.step).readable
 
 pub returns : goal.returns
 returns c =
-    let b = c.args.board.now in let p = c.args.pass.now in let hold = c.args.hold.now in let l = c.row_load-header in let v = c.value_of_row in let q = v.new.pass in let is = c.requires.hold in
+    let b = c.args.board.now in let p = c.args.pass.now in let hold = c.args.row.now in let l = c.row_load-header in let v = c.value_of_row in let q = v.new.pass in let is = c.requires.row in
     let reads = reads_then b p l.new.pass q hold.segment hold.row (loaded b p l.new.pass hold.segment hold.row 0 l.result (may_read b p hold c.requires.pass is) l.ensures.step) v.ensures.reads in
     let i = looks b p q reads.looked in
     let on = read_on b p q c.requires.pass i.reads i.plain i.memo in

@@ -1,0 +1,14 @@
+-- What a share of an index does with the item that is held by it.
+use Rattle.std.specs.Prelude.{◌≡◌, ℕ, List, Option, Some, None, IsSomeAnd}
+use Rattle.segbase.specs.Words.{Board, Pass}
+use Rattle.segread.specs.Words.{HeldRow, ReadsRow, ReleasesHold}
+
+-- the value that is held was read, if there is one; without one nothing was done
+abbrev pub ReadsKept : Board → Option HeldRow → Option (List ℕ) → Pass → Pass → Type 0
+ReadsKept b (Some row) told p q = IsSomeAnd told (λ value. ReadsRow b row value p q)
+ReadsKept b None told p q = (told ≡ None) × (q ≡ p)
+
+-- the hold ended, if there was one; without one nothing was done
+abbrev pub ReleasesKept : Board → Option HeldRow → Pass → Pass → Type 0
+ReleasesKept b (Some row) p q = ReleasesHold b p q
+ReleasesKept b None p q = q ≡ p
