@@ -1,16 +1,16 @@
 -- Players, caches and totals, place by place.
-use Rattle.std.proofs.Common.{◌≡◌, ◌<◌, ◌+◌, ◌-◌, ◌==◌, ℕ, zero, suc, List, [], ◌∷◌, ◌++◌, get_or, length, drop, slice_index_or, refl, sym, ap, subst, ◌∙◌, take, add-one, arith, append_assoc, append-nil, drop-cons}
-use Rattle.std.proofs.lemmas.List.{take_all}
+use Rattle.std.proofs.Common.{◌≡◌, ◌<◌, ◌+◌, ◌-◌, ℕ, zero, suc, List, [], ◌∷◌, ◌++◌, get_or, length, drop, slice_index_or, refl, sym, ap, subst, ◌∙◌, take, add-one, arith, append_assoc, append-nil, drop-cons, OnOk, Result, Ok, Err}
+use Rattle.std.proofs.lemmas.List.{map-append, take_all, take_more}
 use Rattle.std.proofs.Math.Seq.{drop-length}
 use Rattle.std.specs.List.{AllZip}
 use Rattle.segword.specs.Words.{Shape}
 use Rattle.segreplay.specs.declared.cache.Cache.{Cache}
 use Rattle.segreplay.specs.declared.cache.Policy.{Policy}
 use Rattle.segreplay.specs.declared.cache.Policy.TheVariants as policy
-use Rattle.segreplay.specs.Caches.{half_of, sizes_of}
+use Rattle.segreplay.specs.declared.cache.Dealt.{Dealt}
+use Rattle.segreplay.specs.Caches.{caches_in, half_of, sizes_of}
 use Rattle.segreplay.specs.declared.player.Player.{Player}
 use Rattle.segreplay.specs.declared.player.Turn.{Turn}
-use Rattle.segreplay.specs.Playing.{Plays}
 use Rattle.segreplay.specs.Replays.{AllPlay}
 use Rattle.segreplay.proofs.Steps.{plays_on}
 
@@ -32,6 +32,11 @@ all_play_on turns more old between new one then = record {
       (then.each n p (subst (λ count. n < count) (sym one.long) below));
 }
 
+-- what holds at any end holds at a good one
+pub on_ok : {A E P : Type 0} (end : Result A E) → P → OnOk end P
+on_ok (Ok v) holds = holds
+on_ok (Err f) holds = tt
+
 -- one size more
 pub size_more : (p : Policy) (shape : Shape) (caches all : List Cache) (sizes size : ℕ) → size < sizes → caches ++ sizes_of p shape (sizes - size) ≡ all → (caches ++ record { policy = p; shape = shape } ∷ []) ++ sizes_of p (half_of shape) (sizes - (size + 1)) ≡ all
 size_more p shape caches all sizes size below was =
@@ -45,6 +50,14 @@ no_cache = record {
   policy = policy.Default;
   shape = record { buckets = 0; overflow = 0; passes = 0; segments_each = 0; rows = 0; first_version = 0 };
 }
+
+-- one cache more
+pub dealt_more : (dealt : List Dealt) (d : Dealt) (caches : List Cache) (i : ℕ) (cache : Cache) → i < length caches → d.cache ≡ get_or caches i cache → caches_in dealt ≡ take i caches → caches_in (dealt ++ d ∷ []) ≡ take (i + 1) caches
+dealt_more dealt d caches i cache below is was =
+    map-append (λ (e : Dealt). e.cache) dealt (d ∷ [])
+    ∙ ap (λ l. l ++ d.cache ∷ []) was
+    ∙ ap (λ c. take i caches ++ c ∷ []) is
+    ∙ sym (take_more caches i cache below)
 
 -- ---- what stands at a place of a list beside another one
 

@@ -1,12 +1,11 @@
 -- The caches that a trace is sent through, and their clients before the first command.
-use Rattle.std.specs.Prelude.{◌≡◌, ◌+◌, ◌*◌, ◌/◌, ℕ, zero, suc, max, All, List, [], ◌∷◌, Some, None, if◌then◌else◌, ◌==◌}
-use Rattle.std.specs.List.{flat_map}
+use Rattle.std.specs.Prelude.{◌≡◌, ◌+◌, ◌*◌, ◌/◌, ℕ, zero, suc, max, List, [], ◌∷◌, ◌++◌, map, Some, None, if◌then◌else◌, ◌==◌}
+use Rattle.std.specs.List.{AllZip, flat_map}
 use Rattle.segword.specs.Words.{IsValid, Shape, word_count}
-use Rattle.segbase.specs.Words.{Pass}
-use Rattle.segindex.specs.Words.{board_of, Index}
-use Rattle.segstore.specs.Words.{IsQuiet}
+use Rattle.segbase.specs.Words.{number, Pass}
+use Rattle.segindex.specs.Words.{Index, IsNew}
 use Rattle.segclient.specs.declared.client.Client.{Client}
-use Rattle.segclient.specs.Client.{MakesCall}
+use Rattle.segclient.specs.Client.{MakesCall, Starts}
 use Rattle.segclient.specs.Member.{SetsCutoff}
 use Rattle.segreplay.specs.declared.cache.Cache.{Cache}
 use Rattle.segreplay.specs.declared.cache.Dealt.{Dealt}
@@ -53,17 +52,43 @@ bytes_of cache = 8 * word_count cache.shape + queue_bytes cache.policy cache.sha
 abbrev pub HasValidShape : Cache → Type 0
 HasValidShape cache = IsValid cache.shape
 
--- the passes may make calls of the index
-abbrev pub AreQuiet : Index → List Pass → Type 0
-AreQuiet index passes = All (IsQuiet (board_of index)) passes
+-- a new index of the cache's shape, and all its passes
+abbrev pub IsDealt : Index → Dealt → Type 0
+IsDealt index dealt = IsNew dealt.cache.shape index dealt.passes.items
 
-abbrev pub MayCall : Index → Dealt → Type 0
-MayCall index dealt = AreQuiet index dealt.passes.items
+-- the caches that these are dealt for
+abbrev pub caches_in : List Dealt → List Cache
+caches_in dealt = map (λ each. each.cache) dealt
 
--- a player that puts this value, and has counted nothing
-pub record IsFresh (value : List ℕ) (p : Player) : Type 0 where
+-- A player of the cache at this place, with the number of this pass of the index.
+-- It puts this value, and has counted nothing.
+-- Its client is a new one of the pass, which was then let keep by this policy.
+pub record IsFresh (place : ℕ) (value : List ℕ) (kept : Policy) (index : Index) (pass : Pass)
+    (p : Player) : Type 0 where
+  pub cache : p.cache ≡ place
+  pub number : p.number ≡ number pass
   pub puts : p.value ≡ value
   pub none : p.counts ≡ no_counts
+  pub first : Client
+  pub starts : Starts index (Some 0) pass first
+  pub keeps : SetsPolicy kept first p.client
+
+-- The players of the cache at this place: one for each pass of a new index of its shape,
+-- in the order of their numbers.
+abbrev pub ArePlayersOf : ℕ → List ℕ → Cache → List Player → Type 0
+ArePlayersOf place value cache players =
+    (index : Index) × (passes : List Pass)
+    × IsNew cache.shape index passes
+    × AllZip (IsFresh place value cache.policy index) passes players
+
+-- the players of these caches, the first of which is at this place: first those of the first
+abbrev pub AreFresh : ℕ → List ℕ → List Cache → List Player → Type 0
+AreFresh place value [] players = players ≡ []
+AreFresh place value (cache ∷ caches) players =
+    (first : List Player) × (rest : List Player)
+    × ArePlayersOf place value cache first
+    × AreFresh (place + 1) value caches rest
+    × (players ≡ first ++ rest)
 
 -- the counts of a cache's players together, after these counts
 abbrev pub counts_after : Counts → ℕ → List Player → Counts

@@ -1,5 +1,5 @@
 -- What a replay comes to.
-use Rattle.std.specs.Prelude.{◌≡◌, ◌<◌, ◌*◌, ℕ, ◌+◌, Bool, true, false, min, All, List, [], ◌∷◌, length, replicate, take, slice_index_or, Result, Ok, Err}
+use Rattle.std.specs.Prelude.{◌≡◌, ◌<◌, ℕ, ◌+◌, Bool, true, false, min, List, [], ◌∷◌, length, replicate, take, slice_index_or, Result, Err}
 use Rattle.segword.specs.Words.{value_limit}
 use Rattle.segreplay.specs.declared.cache.Cache.{Cache}
 use Rattle.segreplay.specs.declared.fault.TraceFault.{TraceFault}
@@ -11,7 +11,7 @@ use Rattle.segreplay.specs.declared.reading.Rules.{Rules}
 use Rattle.segreplay.specs.declared.run.Plan.{Plan}
 use Rattle.segreplay.specs.declared.run.Replayed.{Replayed}
 use Rattle.segreplay.specs.declared.totals.CacheTotals.{CacheTotals}
-use Rattle.segreplay.specs.Caches.{bytes_of, caches_of, counts_after, IsFresh}
+use Rattle.segreplay.specs.Caches.{AreFresh, bytes_of, caches_of, counts_after}
 use Rattle.segreplay.specs.Counting.{no_counts}
 use Rattle.segreplay.specs.Playing.{Plays}
 use Rattle.segreplay.specs.Traces.{EndsTrace, HandsOn}
@@ -45,17 +45,20 @@ totals_from place players (cache ∷ caches) =
     }
     ∷ totals_from (place + 1) players caches
 
--- The bytes `seen` came. The commands of their lines were made by clients of the plan's caches,
--- and the totals are what these counted.
+-- the caches of a plan
+abbrev pub planned : Plan → List Cache
+planned plan = caches_of plan.policies.now plan.shape plan.sizes
+
+-- The bytes `seen` came. The commands of their lines were made by the plan's clients:
+-- one for each pass of each of its caches. The totals are what these counted.
 pub record IsReplay (plan : Plan) (seen : List ℕ) (r : Replayed) : Type 0 where
   pub turns : List Turn
   pub starts : List Player
   pub ends : List Player
   pub ended : EndsTrace (rules_of plan) seen turns r.end
-  pub fresh : All (IsFresh (value_of plan.value_bytes)) starts
+  pub fresh : AreFresh 0 (value_of plan.value_bytes) (planned plan) starts
   pub plays : AllPlay turns starts ends
-  pub totals : r.totals.items ≡ totals_from 0 ends
-      (caches_of plan.policies.now plan.shape plan.sizes)
+  pub totals : r.totals.items ≡ totals_from 0 ends (planned plan)
 
 abbrev pub is_read_end : Result (Unit {0}) TraceFault → Bool
 is_read_end (Err fault.Read) = true

@@ -1,14 +1,17 @@
 //! Caches that one trace is sent through: their shapes, and what their clients keep.
-ghost use Rattle.std.specs.Prelude.{◌≡◌, ◌++◌, All, IfOk, OnOk};
+ghost use Rattle.std.specs.Prelude.{◌≡◌, ◌++◌, All, IfOk, List, OnOk};
 ghost use Rattle.std.specs.List.{AllZip};
-ghost use Rattle.segreplay.specs.Caches.{AreQuiet, caches_of, half_of, HasValidShape};
-ghost use Rattle.segreplay.specs.Caches.{IsFresh, MayCall, SetsPolicy, sizes_of};
+ghost use Rattle.segindex.specs.Words.{board_of};
+ghost use Rattle.segstore.specs.Words.{IsQuiet};
+ghost use Rattle.segreplay.specs.Caches.{AreFresh, caches_in, caches_of, half_of, HasValidShape};
+ghost use Rattle.segreplay.specs.Caches.{IsDealt, IsFresh, SetsPolicy, sizes_of};
 ghost use Rattle.segreplay.specs.Policies.{cutoff_of};
+ghost use Rattle.segreplay.specs.declared.player.Player.{Player};
 
 use crate::fault::ReplayFault;
 use crate::line::number_of;
 use crate::player::Player;
-use segclient::{Client, clients};
+use segclient::Client;
 use segindex::{Index, Pass};
 use segword::{Shape, Value};
 use std::alloc::{AllocError, Global};
@@ -117,10 +120,10 @@ pub(crate) fn caches_of(
     Ok(caches)
 }
 
-/// The passes of an index, and how their clients keep.
+/// The passes of an index, and the cache that it was made for.
 #[derive(Drop)]
 pub(crate) struct Dealt {
-    policy: Policy,
+    cache: Cache,
     passes: Vec<Pass>,
 }
 
@@ -134,7 +137,8 @@ pub(crate) struct Made {
 /// Makes the index of each cache.
 pub(crate) fn make_all(alloc: Global, caches: &[Cache]) -> Result<Made, ReplayFault>
     ensures valid { IfOk result (λ _. All HasValidShape caches.now) }
-    ensures quiet { IfOk result (λ made. AllZip MayCall made.indexes.items made.dealt.items) }
+    ensures each { IfOk result (λ made. caches_in made.dealt.items ≡ caches.now) }
+    ensures new { IfOk result (λ made. AllZip IsDealt made.indexes.items made.dealt.items) }
 {
     let mut indexes = Vec::new(alloc);
     let mut dealt = Vec::new(alloc);
@@ -147,7 +151,7 @@ pub(crate) fn make_all(alloc: Global, caches: &[Cache]) -> Result<Made, ReplayFa
             return Err(ReplayFault::OutOfMemory);
         };
         let Ok(()) = dealt.push(Dealt {
-            policy: cache.policy,
+            cache: *cache,
             passes,
         }) else {
             return Err(ReplayFault::OutOfMemory);
@@ -159,7 +163,8 @@ pub(crate) fn make_all(alloc: Global, caches: &[Cache]) -> Result<Made, ReplayFa
 // With what a player starts.
 #[derive(Clone, Copy)]
 struct Start<'v> {
-    cache: usize,
+    // Which of the caches it is of.
+    place: usize,
     policy: Policy,
     value: &'v Value,
 }
@@ -172,16 +177,17 @@ fn add_players<'i>(
     passes: Vec<Pass>,
     start: Start<'_>,
 ) -> Result<(), AllocError>
-    requires quiet { AreQuiet index.now passes.items }
-    ensures { OnOk result (All (IsFresh start.entry.value.now) players.old.items
-        → All (IsFresh start.entry.value.now) players.new.items) }
+    requires quiet { All (IsQuiet (board_of index.now)) passes.items }
+    ensures { OnOk result ((more : List Player)
+        × (players.new.items ≡ players.old.items ++ more)
+        × AllZip (IsFresh start.entry.place start.entry.value.now start.entry.policy index.now)
+        passes.items more) }
 {
-    let mut number: u32 = 0;
-    for client in clients(alloc, index, passes)? {
-        let mut client = client;
+    for pass in passes {
+        let number = pass.number();
+        let mut client = Client::with_queues(alloc, index, pass)?;
         set_policy(&mut client, start.policy);
-        players.push(Player::new(client, start.cache, number, start.value.copy()))?;
-        number = number.saturating_add(1);
+        players.push(Player::new(client, start.place, number, start.value.copy()))?;
     }
     Ok(())
 }
@@ -193,20 +199,21 @@ pub(crate) fn players_of<'i>(
     dealt: Vec<Dealt>,
     value: &Value,
 ) -> Result<Vec<Player<'i>>, AllocError>
-    requires quiet { AllZip MayCall indexes.now dealt.items }
-    ensures { IfOk result (λ players. All (IsFresh value.now) players.items) }
+    requires new { AllZip IsDealt indexes.now dealt.items }
+    ensures { IfOk result (λ players.
+        AreFresh 0 value.now (caches_in dealt.items) players.items) }
 {
     let mut players = Vec::new(alloc);
-    let mut cache: usize = 0;
+    let mut place: usize = 0;
     for each in dealt {
-        let Dealt { policy, passes } = each;
+        let Dealt { cache, passes } = each;
         let start = Start {
-            cache,
-            policy,
+            place,
+            policy: cache.policy,
             value,
         };
-        add_players(alloc, &mut players, &indexes[cache], passes, start)?;
-        cache += 1;
+        add_players(alloc, &mut players, &indexes[place], passes, start)?;
+        place += 1;
     }
     Ok(players)
 }

@@ -1,5 +1,5 @@
 //! A replay: the commands of a trace, made by the clients of one cache or several.
-ghost use Rattle.std.specs.Prelude.{◌≡◌, ◌<◌, ◌++◌, [], ℕ, List, false, IfOk, OnErr};
+ghost use Rattle.std.specs.Prelude.{◌≡◌, ◌<◌, ◌++◌, [], ℕ, List, false, IfOk, OnOk};
 ghost use Rattle.segreplay.specs.declared.player.Turn.{Turn};
 ghost use Rattle.segreplay.specs.Playing.{Plays};
 ghost use Rattle.segreplay.specs.Replays.{AllPlay, is_read_end, IsReplay, MakesSome, value_of};
@@ -127,6 +127,7 @@ fn read_all<R: Threads + Sync, S: Source, F: Follow>(
         × S.hands source.old seen source.new
         × AllPlay made players.old players.new
         × EndsTrace reading.old.rules seen (made ++ reading.new.turns.items) result }
+    ensures whole { OnOk result (S.is_at_end source.new) }
     ensures read { S.has_failed source.new ≡ is_read_end result }
 {
     let mut piece = [0u8; PIECE];
@@ -158,6 +159,7 @@ fn run<R: Threads + Sync, S: Source, F: Follow>(
         × S.hands source.old seen source.new
         × AllPlay turns players.old players.new
         × EndsTrace reading.rules seen turns result }
+    ensures whole { OnOk result (S.is_at_end source.new) }
     ensures read { S.has_failed source.new ≡ is_read_end result }
 {
     let end = read_all(crew, source, players, &mut reading);
@@ -166,8 +168,10 @@ fn run<R: Threads + Sync, S: Source, F: Follow>(
 }
 
 /// Replays the trace that the reader hands out.
+/// Each cache of the plan has a client for each pass of its shape.
+/// If the replay's end is Ok, the reader had nothing more to hand out.
 ///
-/// The contract doesn't cover which of a cache's clients there are, or threads. Tests do.
+/// The contract doesn't cover threads. Tests do.
 pub fn replay<R: Threads + Sync, S: Source, F: Follow>(
     rt: &R,
     alloc: Global,
@@ -178,6 +182,7 @@ pub fn replay<R: Threads + Sync, S: Source, F: Follow>(
     requires works { S.has_failed source.old ≡ false }
     ensures outcome { IfOk result (λ replayed. (seen : List ℕ)
         × S.hands source.old seen source.new × IsReplay plan.now seen replayed) }
+    ensures whole { IfOk result (λ replayed. OnOk replayed.end (S.is_at_end source.new)) }
     ensures read { IfOk result (λ replayed.
         S.has_failed source.new ≡ is_read_end replayed.end) }
 {

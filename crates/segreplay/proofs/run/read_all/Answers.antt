@@ -1,7 +1,7 @@
 use Rattle.std.proofs.Common.{◌++◌, ◌∙◌, [], ap, append-nil, subst, sym, take}
 use Rattle.segreplay.specs.Traces.{EndsEarly, EndsTrace}
 use Rattle.segreplay.proofs.Feeding.{fault_ends, fed_not_read, line_ended, stopped, taken_not_read}
-use Rattle.segreplay.proofs.Lists.{all_play_on, all_still}
+use Rattle.segreplay.proofs.Lists.{all_play_on, all_still, on_ok}
 use Rattle.segreplay.proofs.run.read_all.Goals as goal
 
 pub loop-read-init : goal.loop-read-init
@@ -38,6 +38,9 @@ returns-then-n-eq0-clause-outcome g c =
 
 pub returns-then-n-eq0-clause-read : goal.returns-then-n-eq0-clause-read
 returns-then-n-eq0-clause-read g c = c.in-Ok.ensures.failed ∙ sym (taken_not_read c.loop-read.reading c.end_line.new.self c.end_line.result c.end_line.ensures)
+
+pub returns-then-n-eq0-clause-whole : goal.returns-then-n-eq0-clause-whole
+returns-then-n-eq0-clause-whole g c = on_ok c.end_line.result (c.in-Ok.ensures.end c.if-n-eq0.true)
 
 pub returns-in-Err-clause-outcome : goal.returns-in-Err-clause-outcome
 returns-in-Err-clause-outcome g c =

@@ -1,6 +1,6 @@
-use Rattle.std.proofs.Common.{◌∙◌, All, ap, subst, sym}
-use Rattle.segreplay.specs.Caches.{caches_of, HasValidShape, IsFresh}
-use Rattle.segreplay.specs.Replays.{AllPlay, totals_from}
+use Rattle.std.proofs.Common.{◌≡◌, ◌∙◌, All, ap, subst, sym}
+use Rattle.segreplay.specs.Caches.{AreFresh, caches_in, caches_of, HasValidShape}
+use Rattle.segreplay.specs.Replays.{AllPlay, totals_from, value_of}
 use Rattle.segreplay.specs.Traces.{EndsTrace}
 use Rattle.segreplay.proofs.Lists.{given_back}
 use Rattle.segreplay.proofs.run.replay.Goals as goal
@@ -16,7 +16,9 @@ returns-in-Ok-totals_of-clause-outcome g c =
     let plays = subst (λ old. AllPlay run.1 old ends) c.as_mut_slice.ensures.value run.3 in
     let same = c.as_slice-4.ensures.value ∙ given_back players.len ends players.items players.ok.0 plays.long in
     let plan = c.args.plan.now in
-    let caches = caches_of plan.policies.now plan.shape plan.sizes in (
+    let caches = caches_of plan.policies.now plan.shape plan.sizes in
+    let dealt = c.in-Ok-make_all.made.dealt in
+    let same_caches : caches_in dealt.items ≡ caches = c.in-Ok-make_all.ensures.each ∙ (c.as_slice.ensures.value ∙ c.in-Ok.ensures) in (
       run.0,
       run.2,
       record {
@@ -24,7 +26,8 @@ returns-in-Ok-totals_of-clause-outcome g c =
         starts = players.items;
         ends = ends;
         ended = subst (λ rules. EndsTrace rules run.0 run.1 c.run-end.result) c.in-Ok-new.ensures.same run.4;
-        fresh = subst (λ value. All (IsFresh value) players.items) c.value_of-value.ensures c.in-Ok-players_of.ensures;
+        fresh = subst (λ all. AreFresh 0 (value_of plan.value_bytes) all players.items) same_caches
+            (subst (λ value. AreFresh 0 value (caches_in dealt.items) players.items) c.value_of-value.ensures c.in-Ok-players_of.ensures);
         plays = plays;
         totals = c.in-Ok-totals_of.ensures
             ∙ ap (totals_from 0 c.as_slice-4.result.now) (c.as_slice-3.ensures.value ∙ c.in-Ok.ensures)
