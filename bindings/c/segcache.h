@@ -1,4 +1,4 @@
-/* The cache for C (C99 and later) and C++ (C++11 and later): a library over the proved index.
+/* The cache for C (C99 and later) and C++ (C++11 and later), by gcc or clang: a library over the proved index.
  *
  *     segcache cache; segcache_client clients[4];
  *     if (segcache_open(100000, 4, &cache, clients) != SEGCACHE_OK) return 1;
@@ -33,7 +33,7 @@
  *   6. A thread that calls has SEGCACHE_STACK bytes of stack left, as each has that wasn't made with a small
  *      stack. The program has one copy of the library, and the names segcache_raw_.. and segcache_opened are its.
  * Compiled with -DSEGCACHE_DEBUG, each call checks some of 1, 2 and 3, and aborts with one line on standard
- * error where it finds a breach. That needs gcc or clang, and all files of a program compiled alike.
+ * error where it finds a breach. Compile all files of a program alike.
  */
 #ifndef SEGCACHE_H
 #define SEGCACHE_H
