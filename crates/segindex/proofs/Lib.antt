@@ -15,3 +15,6 @@ pub mod Ended
 pub mod Commands
 pub mod OrderFacts
 pub mod UnnamedRows
+pub mod Moments
+pub mod Ordering
+pub mod Linear

@@ -3,6 +3,7 @@ pub mod Commands
 pub mod Index
 pub mod LaterReads
 pub mod Laws
+pub mod Linearizable
 pub mod Meeting
 pub mod Noting
 pub mod Order

@@ -8,6 +8,9 @@ ghost use Rattle.segindex.specs.Laws.{NoLookGlanced, NobodyIsInside, BusyIsLocke
 ghost use Rattle.segindex.specs.Laws.{KeptAllLeavesNone, NothingIsStirred, WritesAtAMoment, DeletesAtAMoment};
 ghost use Rattle.segindex.specs.Laws.{CasFailsWhereWrittenSince, CasCalledLaterFails};
 ghost use Rattle.segindex.specs.LaterReads.{NotedIsRead, SeenIsRead, StoodIsRead, StoredStands};
+ghost use Rattle.segindex.specs.Linearizable.{CallsAreLinearizable, DeleteHasEffect};
+ghost use Rattle.segindex.specs.Linearizable.{GetHasEffect, GetsHasEffect, HoldHasEffect};
+ghost use Rattle.segindex.specs.Linearizable.{WriteHasEffect};
 ghost use Rattle.segindex.specs.Order.{CallsHaveAnOrder, PointsAreInOrder};
 ghost use Rattle.segindex.specs.UnnamedRows.{EvictedIsUnnamed, MovedIsUnnamed, UnnamedStay};
 ghost use Rattle.segindex.specs.Steps.{NoGetWithoutAStep, NoGetsWithoutAStep, NoHoldWithoutAStep};
@@ -80,6 +83,22 @@ pub fn replies_at_a_moment()
 pub fn calls_are_in_order()
     ensures points { PointsAreInOrder }
     ensures order { CallsHaveAnOrder }
+{}
+
+/// Any calls of any passes, in any run, are linearizable: there is one order of them all, in which
+/// each comes at a point between its first step and its return, each answer is there what a cache
+/// of one thread answers, and none comes before one that had returned when it began.
+pub fn calls_are_linearizable()
+    ensures { CallsAreLinearizable }
+{}
+
+/// The calls that have one point: what each does there, by its contract.
+pub fn calls_have_an_effect()
+    ensures get { GetHasEffect }
+    ensures gets { GetsHasEffect }
+    ensures hold { HoldHasEffect }
+    ensures write { WriteHasEffect }
+    ensures delete { DeleteHasEffect }
 {}
 
 /// No get or gets returns without a step of its own, and no hold but one that is AlreadyHolding.

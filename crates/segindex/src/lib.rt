@@ -24,8 +24,9 @@ mod write;
 pub use close::OutOfMemory;
 pub use index::Index;
 pub use laws::{
-    calls_are_in_order, cas_fails_where_written, keep_of_all, one_pass, quiet_pass,
-    readers_take_a_step, replies_at_a_moment, unnamed_rows_stay, what_stood_is_read,
+    calls_are_in_order, calls_are_linearizable, calls_have_an_effect, cas_fails_where_written,
+    keep_of_all, one_pass, quiet_pass, readers_take_a_step, replies_at_a_moment, unnamed_rows_stay,
+    what_stood_is_read,
 };
 pub use segbase::{MakeFault, Note, Pass};
 pub use segevict::{EvictRowAnswer, KeepRowAnswer};

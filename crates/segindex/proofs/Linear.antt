@@ -1,0 +1,89 @@
+-- Calls are linearizable: each has a point in its time, and by their points they are in order.
+use Rattle.std.proofs.Common.{◌≡◌, ℕ, suc, ◌*◌, ◌<◌, ◌≤◌, All, IsPermutation, List, [], ◌∷◌, map, sym, refl, ap, ◌∙◌, subst, inl, inr, arith}
+use Rattle.std.proofs.lemmas.List.Elements.{All-cons, All-head, All-nil, All-tail, All-weaker}
+use Rattle.std.proofs.lemmas.List.Sorted.{All-permutation, IsPermutation-map}
+use Rattle.segword.specs.Words.{Shape}
+use Rattle.segmodel.specs.Words.{after, Begins, Entry, reads, reads_version, reply_in}
+use Rattle.segmodel.specs.declared.entry.Entry.TheVariants.{Wrote}
+use Rattle.segcore.specs.Event as event
+use Rattle.segcore.specs.Words.{IsRun, World}
+use Rattle.segbase.specs.Words.{seen, view}
+use Rattle.segindex.specs.Linearizable.{Call, CallsAreLinearizable, Effect, gets_value, gets_version, HasEffect, IsCallOf, IsOrdered, IsPlaced, IsRightAt, Linearizable, MayPrecede, Placed, writes}
+use Rattle.segindex.specs.Linearizable as linear
+use Rattle.segindex.proofs.Moments.{came, entered, history_at, takes}
+use Rattle.segindex.proofs.Ordering.{call_of, Comes, in_order, Sorted}
+
+module _ (z : Shape) (world : ℕ → World) (n : ℕ) (run : IsRun z world n) where
+  -- the point of an effect, from the first step of its call on
+  record HasPoint (pass from to : ℕ) (effect : Effect) : Type 0 where
+    pub point : ℕ
+    pub since : 2 * from ≤ linear.place effect point
+    pub until : linear.place effect point ≤ 2 * to
+    pub right : IsRightAt z pass effect (history_at world point) (history_at world (suc point))
+
+  pointed : (pass from to : ℕ) (effect : Effect) (old new : List Entry) → from ≤ to → to ≤ n → history_at world from ≡ old → history_at world to ≡ new → HasEffect z pass effect old new → HasPoint pass from to effect
+  pointed pass from to (gets_value key now read) old new le in_run is is' e =
+      let at = came z world n run from to e.0 e.1.1.0 le in_run (subst (λ h. Begins h e.0) (sym is) e.1.0) (is' ∙ e.1.1.1) in
+      let low = at.1 in let high = at.2 in record { point = at.0; since = omega (arith, low); until = omega (arith, high); right = ap (λ h. reads (after z h) now key) at.3 ∙ e.2 }
+  pointed pass from to (gets_version key now read) old new le in_run is is' e =
+      let at = came z world n run from to e.0 e.1.1.0 le in_run (subst (λ h. Begins h e.0) (sym is) e.1.0) (is' ∙ e.1.1.1) in
+      let low = at.1 in let high = at.2 in record { point = at.0; since = omega (arith, low); until = omega (arith, high); right = ap (λ h. reads_version z (after z h) now key) at.3 ∙ e.2 }
+  pointed pass from to (writes request said) old new le in_run is is' e =
+      let segment = e.0 in let h = e.1.0 in let told = e.1.1 in let entry : Entry = Wrote pass request said segment in
+      let at = entered z world n run from to entry h told.entered.0 le in_run (subst (λ g. Begins g h) (sym is) told.since) (is' ∙ told.entered.1) in
+      let low = at.1 in let high = at.2 in record {
+        point = at.0;
+        since = omega (arith, low);
+        until = omega (arith, high);
+        right = (told.replied ∙ ap (λ g. reply_in z (after z g) request) (sym at.3), (segment, at.4 ∙ ap (λ g. entry ∷ g) (sym at.3)));
+      }
+
+  -- a call with its point, which takes a step
+  abbrev IsSound : Placed → Type 0
+  IsSound placed = IsPlaced z world placed × (placed.call.began < placed.call.returned)
+
+  placed : (call : Call) → IsCallOf z world n call → (it : Placed) × (it.call ≡ call) × IsSound it
+  placed call is =
+      let start = is.had.0 in let starts = is.had.1 in
+      let steps = takes z world n run call.pass call.began call.returned (view is.before) (view is.after) starts.later start is.in_time.0 is.in_time.1 is.began is.returned starts.looked in
+      let since = steps.since in let onward = steps.onward in let until = steps.until in let in_run = is.in_time.1 in
+      let at = pointed call.pass steps.first (suc steps.last) call.effect (event.seen start) (seen is.after) (omega (arith, onward)) (omega (arith, until, in_run)) (ap event.seen (sym steps.began)) (ap event.seen (sym steps.ended)) (subst (λ m. HasEffect z m call.effect (event.seen start) (seen is.after)) is.number is.had.2) in
+      let low = at.since in let high = at.until in
+      (record { call = call; point = at.point }, refl, (record { since = omega (arith, low, since); until = omega (arith, high, until); right = at.right }, omega (arith, since, onward, until)))
+
+  record ArePlaced (calls : List Call) : Type 0 where
+    pub placed : List Placed
+    pub same : map call_of placed ≡ calls
+    pub sound : All IsSound placed
+
+  all_placed : (calls : List Call) → All (IsCallOf z world n) calls → ArePlaced calls
+  all_placed [] all = record { placed = []; same = refl; sound = All-nil IsSound }
+  all_placed (call ∷ calls) all =
+      let first = placed call (All-head (IsCallOf z world n) call calls all) in let rest = all_placed calls (All-tail (IsCallOf z world n) call calls all) in
+      record { placed = first.0 ∷ rest.placed; same = (λ j. first.1 j ∷ rest.same j); sound = All-cons IsSound first.0 rest.placed first.2 rest.sound }
+
+  -- of two calls in order the second hadn't returned when the first began
+  precedes : (a b : Placed) → IsSound a → IsSound b → Comes a b → MayPrecede a b
+  precedes a b s t (inl lt) = let low = s.0.since in let high = t.0.until in (omega (arith, lt), (λ back. omega (arith, lt, low, high, back)))
+  precedes a b s t (inr same) = let e = same.0 in let order = same.1 in let took = t.1 in let low = s.0.since in let high = t.0.until in (omega (arith, e), (λ back. omega (arith, order, took, back)))
+
+  all_precede : (a : Placed) (l : List Placed) → IsSound a → All IsSound l → All (Comes a) l → All (MayPrecede a) l
+  all_precede a [] s t c = All-nil (MayPrecede a)
+  all_precede a (b ∷ l) s t c = All-cons (MayPrecede a) b l (precedes a b s (All-head IsSound b l t) (All-head (Comes a) b l c)) (all_precede a l s (All-tail IsSound b l t) (All-tail (Comes a) b l c))
+
+  ordered : (l : List Placed) → All IsSound l → Sorted l → IsOrdered l
+  ordered [] s c = tt
+  ordered (a ∷ l) s c = (all_precede a l (All-head IsSound a l s) (All-tail IsSound a l s) c.0, ordered l (All-tail IsSound a l s) c.1)
+
+  all_right : (l : List Placed) → All IsSound l → All (IsPlaced z world) l
+  all_right l s = All-weaker IsSound (IsPlaced z world) (λ a is. is.0) l s
+
+pub linearizable : CallsAreLinearizable
+linearizable z world n calls run all =
+    let at = all_placed z world n run calls all in let put = in_order at.placed in
+    let sound = All-permutation (IsSound z world n run) at.placed put.order put.same at.sound in record {
+      order = put.order;
+      all = subst (λ l. IsPermutation l (map call_of put.order)) at.same (IsPermutation-map call_of at.placed put.order put.same);
+      each = all_right z world n run put.order sound;
+      in_time = ordered z world n run put.order sound put.sorted;
+    }
