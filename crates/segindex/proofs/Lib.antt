@@ -18,3 +18,4 @@ pub mod UnnamedRows
 pub mod Moments
 pub mod Ordering
 pub mod Linear
+pub mod LinearFacts
