@@ -156,7 +156,7 @@ impl<'i> Client<'i> {
 
     /// Sets which items a put keeps: those whose frequency is the cutoff or over it.
     /// None: it keeps nothing. The queues of `with_queues` are dropped, and don't come back:
-    /// from then on its segments are taken in turn, at first from the first one on.
+    /// from then on its segments are taken in turn, in the order of their numbers.
     ///
     /// An item has the frequency 1 when it is stored, and gets raise it.
     /// Puts with a cutoff evict the next segment ahead of time,
@@ -190,7 +190,8 @@ impl<'i> Client<'i> {
     /// a time to live from now, or up to half of that earlier.
     /// By queues it first moves on what was read in those that it evicts. An update moves on
     /// without being read, some times.
-    /// By a cutoff, or keeping nothing, it takes the one that was filled before the others;
+    /// By a cutoff, or keeping nothing, it takes the one that was filled before the others,
+    /// from the second round on if it had queues before;
     /// one that can't be recycled is passed over until its next turn.
     /// If the key's bucket is full, it evicts the oldest of its segments in use and tries once
     /// more: by queues the oldest on probation, or else the oldest main one.
