@@ -13,7 +13,6 @@ pub mod AtRest
 pub mod Listing
 pub mod Ended
 pub mod Commands
-pub mod OrderFacts
 pub mod UnnamedRows
 pub mod Moments
 pub mod Ordering

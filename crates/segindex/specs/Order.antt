@@ -1,5 +1,5 @@
 -- Calls in the order of time. The law is proved as the contract of a function in src/laws.rt.
-use Rattle.std.specs.Prelude.{◌≡◌, ℕ, ◌<◌, ◌≤◌, List, ◌∷◌, length}
+use Rattle.std.specs.Prelude.{◌≡◌, ℕ, List}
 use Rattle.segword.specs.Words.{Shape}
 use Rattle.segmodel.specs.Words.{Begins, Entry}
 use Rattle.segcore.specs.Event as event
@@ -25,18 +25,3 @@ PointsAreInOrder = (shape : Shape) (before after : List (ℕ × Step)) (between 
     → Begins one (seen earlier)
     → SinceFirst p q (λ start. Begins (event.seen start) other)
     → Begins one other
-
--- The same two calls in one order of all calls. In it a call that is an entry comes right behind
--- the entries before it, and a call that reads comes behind as many entries as its moment has.
--- The later call doesn't come before the earlier one, and it comes behind the earlier one's entry.
-abbrev pub CallsHaveAnOrder : Type 0
-CallsHaveAnOrder = (shape : Shape) (before after : List (ℕ × Step)) (between world : World)
-    (earlier p q : Pass) (one other : List Entry)
-    → Reaches shape before between
-    → ReachesOn shape between after world
-    → get_elem? between.views (number earlier) ≡ some (view earlier)
-    → get_elem? between.views (number p) ≡ some (view p)
-    → get_elem? world.views (number p) ≡ some (view q)
-    → SinceFirst p q (λ start. Begins (event.seen start) other)
-    → (Begins one (seen earlier) → length one ≤ length other)
-    × ((entry : Entry) → Begins (entry ∷ one) (seen earlier) → length one < length other)

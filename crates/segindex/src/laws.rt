@@ -11,7 +11,7 @@ ghost use Rattle.segindex.specs.LaterReads.{NotedIsRead, SeenIsRead, StoodIsRead
 ghost use Rattle.segindex.specs.Linearizable.{CallsAreLinearizable, DeleteHasEffect};
 ghost use Rattle.segindex.specs.Linearizable.{GetHasEffect, GetsHasEffect, HoldHasEffect};
 ghost use Rattle.segindex.specs.Linearizable.{WriteHasEffect};
-ghost use Rattle.segindex.specs.Order.{CallsHaveAnOrder, PointsAreInOrder};
+ghost use Rattle.segindex.specs.Order.{PointsAreInOrder};
 ghost use Rattle.segindex.specs.UnnamedRows.{EvictedIsUnnamed, MovedIsUnnamed, UnnamedStay};
 ghost use Rattle.segindex.specs.Steps.{NoGetWithoutAStep, NoGetsWithoutAStep, NoHoldWithoutAStep};
 
@@ -78,11 +78,8 @@ pub fn replies_at_a_moment()
 
 /// If all steps of one call come before all steps of another, of any passes,
 /// then no moment at which the answer of the one holds is later than any for that of the other.
-/// So calls that are one entry or one read have an order that fits their order in time:
-/// an entry comes where it stands in the history, and a read right after its moment.
 pub fn calls_are_in_order()
-    ensures points { PointsAreInOrder }
-    ensures order { CallsHaveAnOrder }
+    ensures { PointsAreInOrder }
 {}
 
 /// Any calls of any passes, in any run, are linearizable: there is one order of them all, in which
