@@ -51,9 +51,6 @@ pub has_later : (p q r : Pass) → number q ≡ number p → TakesSteps p q → 
 has_later p q r same (inl t) s = (t.0, starts_on p q r t.0 t.1 (inl s))
 has_later p q r same (inr t) s = (s.0, starts_same p q r s.0 same t.0 t.1 s.1)
 
-pub has_still : (p q r : Pass) → HasStep p q → TakesSteps q r → HasStep p r
-has_still p q r s more = (s.0, starts_on p q r s.0 s.1 more)
-
 no_cons : (e : Event) (own : List Event) → e ∷ own ≢ []
 no_cons e own same = cc
 

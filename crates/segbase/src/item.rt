@@ -1,5 +1,5 @@
 //! Steps at item words.
-ghost use Rattle.std.specs.Prelude.{◌≡◌, ℕ, ◌+◌, ◌<◌, ◌==◌, List, [], ◌∷◌, Option, if◌then◌else◌};
+ghost use Rattle.std.specs.Prelude.{◌≡◌, ℕ, ◌+◌, ◌<◌, ◌==◌, List, [], ◌∷◌, if◌then◌else◌};
 ghost use Rattle.std.specs.Prelude.{OnOk, IfErr};
 ghost use Rattle.segword.specs.Words.{item_word};
 ghost use Rattle.segmodel.specs.Words.{key_of, tag_of};

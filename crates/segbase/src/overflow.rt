@@ -1,6 +1,6 @@
 //! Steps that lengthen a bucket's chain: an overflow bucket is drawn, its word 1 is stored,
 //! and the chain then leads on to it.
-ghost use Rattle.std.specs.Prelude.{◌≡◌, ℕ, ◌<◌, [], OnOk, IfErr};
+ghost use Rattle.std.specs.Prelude.{◌≡◌, ◌<◌, [], OnOk, IfErr};
 ghost use Rattle.segword.specs.Words.{chain_word, item_word};
 ghost use Rattle.segcore.specs.declared.event.Event.TheVariants.{Drew, Put, Chained};
 ghost use Rattle.segcore.specs.Words.{drawn_in, Step};

@@ -1,7 +1,7 @@
 -- A cache and its clients, as they begin, in boxes and in handles.
 use Rattle.std.proofs.Common.{◌≡◌, ◌<◌, ℕ, suc, List, [], ◌∷◌, ◌++◌, length, map, take, set, Option, Some, refl, sym, ap, ◌∙◌, subst, arith, zero, true, false, is_none, drop, get_or, None}
 use Rattle.std.proofs.lemmas.Bool.{false≢true}
-use lib.Seq.{take-length, take-suc-set}
+use lib.Seq.{take-suc-set}
 use Rattle.std.specs.Global.{Box}
 use Rattle.std.proofs.lemmas.List.{length-map, map-append}
 use Rattle.segword.specs.Words.{Shape}
@@ -41,10 +41,6 @@ one_more handles at handle boxes boxed below were is =
     ap values_of (take-suc-set handles at handle below) ∙ map-append value_of (take at handles) (handle ∷ [])
     ∙ ap (λ (l : List (Option Kept)). l ++ value_of handle ∷ []) were ∙ ap (λ (v : Option Kept). map put_in boxes ++ v ∷ []) is
     ∙ sym (map-append put_in boxes (boxed ∷ []))
-
--- all of them
-pub all_values : (handles : List Handle) (at : ℕ) (boxes : List (Box Kept)) → at ≡ length handles → values_of (take at handles) ≡ map put_in boxes → values_of handles ≡ map put_in boxes
-all_values handles at boxes end were = ap values_of (sym (take-length handles) ∙ ap (λ (n : ℕ). take n handles) (sym end)) ∙ were
 
 -- ---- empty handles
 

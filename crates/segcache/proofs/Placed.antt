@@ -1,21 +1,12 @@
 -- The places of a cache: empty, with one pass more, and full.
-use Rattle.std.proofs.Common.{◌≡◌, ℕ, zero, suc, ◌<◌, ◌⊎◌, inl, inr, List, [], ◌∷◌, length, map, option_map, replicate, slice_get, slice_set, Option, Some, None, refl, sym, ap, ◌∙◌, subst}
-use Rattle.std.proofs.lemmas.Option.{none-some, same_Some, slice_get-map}
-use Rattle.std.proofs.lemmas.List.{length-map, length-replicate, length-set}
+use Rattle.std.proofs.Common.{◌≡◌, ℕ, zero, suc, ◌<◌, ◌⊎◌, inl, inr, List, [], ◌∷◌, length, map, option_map, slice_get, slice_set, Option, Some, refl, sym, ap, ◌∙◌, subst}
+use Rattle.std.proofs.lemmas.Option.{same_Some, slice_get-map}
+use Rattle.std.proofs.lemmas.List.{length-map, length-set}
 use Rattle.segbase.specs.Words.{number_of, Pass}
 use Rattle.segindex.specs.Words.{AreAllQuiet, board_of, Index, shape_of}
 use Rattle.segstore.specs.Words.{IsQuiet}
 use Rattle.segclient.proofs.Places.{is_there}
 use Rattle.segcache.specs.Places.{AreItsPlaces}
-
--- nothing stands in places that are all empty
-none_there : (count n : ℕ) (p : Pass) → slice_get {X = Option Pass} (replicate count None) n ≡ Some (Some p) → ⊥
-none_there zero n p at = none-some (Some p) at
-none_there (suc count) zero p at = none-some p (same_Some None (Some p) at)
-none_there (suc count) (suc n) p at = none_there count n p at
-
-pub empty_places : (i : Index) → AreItsPlaces i (replicate (shape_of i).passes None)
-empty_places i = (length-replicate (shape_of i).passes None, λ n p at. absurd (none_there (shape_of i).passes n p at))
 
 -- what stands at a place after one was set
 set_get : {A : Type 0} (xs : List A) (n : ℕ) (x : A) (m : ℕ) (y : A) → slice_get (slice_set xs n x) m ≡ Some y → ((m ≡ n) × (x ≡ y)) ⊎ (slice_get xs m ≡ Some y)

@@ -5,7 +5,7 @@ use Rattle.segcache.specs.declared.kept.Kept.{Kept}
 use Rattle.segcache.specs.declared.kept.Kept.TheVariants as kept
 use Rattle.segcache.specs.declared.status.Status.{Status}
 use Rattle.segcache.specs.declared.status.Status.TheVariants as status
-use Rattle.segcache.specs.Returning.{GivenBack, GoesBack, GoesBackFrom}
+use Rattle.segcache.specs.Returning.{GivenBack, GoesBackFrom}
 
 -- a cache stood in its handle
 pub gave_back : (was is : Kept) (old new : Cache) (guest next : Option Kept) (returned : Status) → was ≡ kept.Cache old → is ≡ kept.Cache new
@@ -16,7 +16,3 @@ gave_back was is old new guest next returned from into goes =
 -- nothing stood in the client's handle
 pub nobody_back : (guest next : Option Kept) (old : Cache) → guest ≡ None → next ≡ None → GoesBackFrom guest next old old status.NoHandle
 nobody_back guest next old from into = subst (λ (g : Option Kept). GoesBackFrom g next old old status.NoHandle) (sym from) (refl, refl, into)
-
--- something did
-pub went_back : (guest next : Option Kept) (was : Kept) (old new : Cache) (returned : Status) → guest ≡ Some was → GoesBack was next old new returned → GoesBackFrom guest next old new returned
-went_back guest next was old new returned from goes = subst (λ (g : Option Kept). GoesBackFrom g next old new returned) (sym from) goes

@@ -1,10 +1,7 @@
 //! The cache that C has, with a place for each of its passes.
-ghost use Rattle.std.specs.Prelude.{◌≡◌, ◌↔◌, ◌≤◌, ◌+◌, true, All, IsSome, Option, Some, None};
-ghost use Rattle.std.specs.Prelude.{replicate, length, map, vec_len, IfOk, []};
+ghost use Rattle.std.specs.Prelude.{◌≡◌, ◌↔◌, ◌≤◌, ◌+◌, true, All, IsSome, Some, None};
+ghost use Rattle.std.specs.Prelude.{replicate, map, vec_len, IfOk, []};
 ghost use Rattle.std.specs.Vec.{vec_capacity};
-ghost use Rattle.segbase.specs.Words.{Pass};
-ghost use Rattle.segindex.specs.Words.{board_of, shape_of};
-ghost use Rattle.segstore.specs.Words.{IsQuiet};
 ghost use Rattle.segcache.specs.Places.{AreItsPlaces, AreItsPlaces-prop};
 
 use crate::client::SharedClient;

@@ -1,5 +1,5 @@
 //! A client that shares its index with the cache and the other clients.
-ghost use Rattle.std.specs.Prelude.{◌≡◌, Option, None};
+ghost use Rattle.std.specs.Prelude.{◌≡◌, None};
 ghost use Rattle.segbase.specs.Words.{number_of};
 ghost use Rattle.segindex.specs.Words.{board_of, shape_of};
 ghost use Rattle.segstore.specs.Words.{IsQuiet};

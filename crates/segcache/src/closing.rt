@@ -1,5 +1,5 @@
 //! The exports that give clients back, and close or free the cache.
-ghost use Rattle.std.specs.Prelude.{◌≡◌, Some};
+ghost use Rattle.std.specs.Prelude.{Some};
 ghost use Rattle.segcache.specs.declared.status.Status.TheVariants.{Ok};
 ghost use Rattle.segcache.specs.Closing.{Closed, ClosesAs};
 ghost use Rattle.segcache.specs.Ending.{Freed};

@@ -1,5 +1,5 @@
 //! What C has of a value here: a pointer to a box of it, or none.
-ghost use Rattle.std.specs.Prelude.{◌≡◌, Bool, true, false, Option, None, Some, is_none, MatchOption};
+ghost use Rattle.std.specs.Prelude.{◌≡◌, Option, None, Some, is_none, MatchOption};
 ghost use Rattle.std.specs.Coded.{coded_option};
 ghost use Rattle.segcache.specs.Token.{token};
 ghost use Rattle.segcache.specs.Owned.{owns_if};

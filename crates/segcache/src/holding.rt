@@ -1,5 +1,5 @@
 //! The exports of holds: a value that is read again and again until it is released.
-ghost use Rattle.std.specs.Prelude.{◌≡◌, Some};
+ghost use Rattle.std.specs.Prelude.{Some};
 ghost use Rattle.segcache.specs.Exports.{Answers};
 ghost use Rattle.segcache.specs.Reading.{GotHeld, Held, Released};
 

@@ -1,5 +1,5 @@
 //! The exports that list the content of a closed cache.
-ghost use Rattle.std.specs.Prelude.{◌≡◌, Some};
+ghost use Rattle.std.specs.Prelude.{Some};
 ghost use Rattle.segcache.specs.Ending.{FreesCursor, Listed};
 ghost use Rattle.segcache.specs.Exports.{Answers};
 

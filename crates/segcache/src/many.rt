@@ -1,5 +1,5 @@
 //! The exports that look up several keys at a time, so that their waits for memory overlap.
-ghost use Rattle.std.specs.Prelude.{◌≡◌, ◌<◌, false, length, Some, true};
+ghost use Rattle.std.specs.Prelude.{◌<◌, false, length, Some, true};
 ghost use Rattle.segcache.specs.Exports.{Answers};
 ghost use Rattle.segcache.specs.Many.{GotMany, InTurn, IsKeyOf, KeepsKey, LooksUp};
 ghost use Rattle.segcache.specs.Many.{out_of, Reads};

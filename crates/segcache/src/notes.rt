@@ -1,5 +1,5 @@
 //! The exports of notes: what one client has seen, for another.
-ghost use Rattle.std.specs.Prelude.{◌≡◌, Some};
+ghost use Rattle.std.specs.Prelude.{Some};
 ghost use Rattle.segcache.specs.Exports.{Answers};
 ghost use Rattle.segcache.specs.Noting.{FreesNote, IsNoteFor, Learned, Noted};
 

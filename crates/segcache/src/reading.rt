@@ -1,5 +1,5 @@
 //! The exports that read.
-ghost use Rattle.std.specs.Prelude.{◌≡◌, Some};
+ghost use Rattle.std.specs.Prelude.{Some};
 ghost use Rattle.segcache.specs.Exports.{Answers, CopiesOut};
 ghost use Rattle.segcache.specs.Reading.{Got, GotKey, GotKeyVersion, GotVersion};
 ghost use Rattle.segcache.specs.Reading.{ReturnsGet, ReturnsGets};

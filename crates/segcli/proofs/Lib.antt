@@ -1,6 +1,5 @@
 pub mod Building
 pub mod HexWords
-pub mod Letters
 pub mod NoHelp
 pub mod Options
 pub mod Printed

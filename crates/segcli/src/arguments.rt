@@ -5,7 +5,7 @@ ghost use Rattle.std.specs.Option.{option_map};
 ghost use Rattle.clap.specs.Walk.{first_of};
 ghost use Rattle.clap.specs.Words.{found_of, kind_of, rows_of};
 ghost use Rattle.segcli.specs.CommandLine.{default_shape, explain_flag, for_keys_option};
-ghost use Rattle.segcli.specs.CommandLine.{format_choice, keys_option, kind_choice, passes_option};
+ghost use Rattle.segcli.specs.CommandLine.{format_choice, keys_option, kind_choice};
 ghost use Rattle.segcli.specs.CommandLine.{csv_flag, policy_choice, script_file};
 ghost use Rattle.segcli.specs.Asked.{IsAsked, IsBase, IsCommandName, IsLoadAsked, IsMisnamed};
 ghost use Rattle.segcli.specs.Asked.{IsReadAsCommand, IsReadByClap, IsRefused, IsShapeFor};

@@ -1,5 +1,5 @@
 //! Explains a word of the table, written in hexadecimal digits.
-ghost use Rattle.std.specs.Prelude.{◌≡◌, ◌<◌, ◌+◌, ◌*◌, ◌^◌, None, Some, IfSome};
+ghost use Rattle.std.specs.Prelude.{◌≡◌, ◌<◌, Some, IfSome};
 ghost use Rattle.std.specs.Str.Parse.{digits_value};
 ghost use Rattle.segword.specs.declared.reading.Reading.{Reading};
 ghost use Rattle.segcli.specs.declared.explanation.Meaning.{Meaning};

@@ -1,5 +1,5 @@
 //! What `--explain` adds behind the line of a fault.
-ghost use Rattle.std.specs.Prelude.{◌≡◌, ◌++◌, [], false, is_err, length};
+ghost use Rattle.std.specs.Prelude.{◌≡◌, ◌++◌, false, is_err, length};
 ghost use Rattle.segcli.specs.Streams.{output};
 ghost use Rattle.segcli.specs.Faults.{fault_line, fault_status};
 ghost use Rattle.segcli.specs.Notes.{explains, has_prefix, kind_note, length_note, letter_from};

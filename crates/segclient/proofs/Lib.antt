@@ -2,7 +2,6 @@ pub mod Added
 pub mod Calls
 pub mod Few
 pub mod InTurn
-pub mod Members
 pub mod Order
 pub mod Places
 pub mod Rooms

@@ -1,5 +1,5 @@
 -- Clients of all passes of an index: as they begin, as they work, and their passes at the end.
-use Rattle.std.proofs.Common.{◌≡◌, ℕ, ◌<◌, List, length, option_map, map, slice_index_or, Some, refl, sym, ap, ◌∙◌, subst}
+use Rattle.std.proofs.Common.{◌≡◌, ℕ, ◌<◌, List, length, option_map, map, slice_index_or, Some, sym, ap, ◌∙◌, subst}
 use Rattle.std.specs.List.{AllZip}
 use Rattle.std.proofs.lemmas.Option.{get_or_from_slice_get, slice_get-get_or, slice_get-map, slice_get_within}
 use Rattle.segword.specs.Words.{Shape}
@@ -10,14 +10,6 @@ use Rattle.segclient.specs.declared.client.Client.{Client}
 use Rattle.segclient.specs.Client.{IsSame, Starts}
 use Rattle.segclient.specs.Clients.{AreAllClients}
 use Rattle.segclient.proofs.Places.{is_there, made_of, zip_at, zip_long}
-
--- ---- a client
-
-pub still_same : (client : Client) → IsSame client client
-still_same client = record { index = refl; number = refl }
-
-pub same_then : (old between new : Client) → IsSame old between → IsSame between new → IsSame old new
-same_then old between new one then = record { index = then.index ∙ one.index; number = then.number ∙ one.number }
 
 -- ---- all of them
 

@@ -183,12 +183,6 @@ module _ (b : Board) (cutoff : Option ℕ) (deadline : ℕ) where
     adds = subst (AddsRoom b.shape (number p) cutoff deadline 1 0 0 (mine p)) (sym filled.answer.entry) (refilling_added b.shape (number p) cutoff deadline segment (mine p) (own p segment quiet filled.answer.own));
   }
 
-  not_refilled : (segment : ℕ) (told : RefillAnswer) (p q : Pass) → IsQuiet b p → told ≢ refill.Refilled → RefillsSegment b segment deadline told p q → Comes 0 0 0 p q
-  not_refilled segment refill.Refilled p q quiet other filled = absurd (other refl)
-  not_refilled segment refill.NotYours p q quiet other filled = same_none p q quiet filled.answer
-  not_refilled segment refill.NotEvicted p q quiet other filled = same_none p q quiet filled.answer
-  not_refilled segment refill.Held p q quiet other filled = unchanged_none p q filled.on filled.answer.0
-
   some_refilled : (segment : ℕ) (told : RefillAnswer) (p q : Pass) → IsQuiet b p → RefillsSegment b segment deadline told p q → Comes (came_to refilled_segments (refills segment told)) 0 0 p q
   some_refilled segment refill.Refilled p q quiet out = refilled segment p q quiet out
   some_refilled segment refill.NotYours p q quiet out = same_none p q quiet out.answer

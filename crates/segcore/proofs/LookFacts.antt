@@ -1,6 +1,6 @@
 -- Worked examples: which words a pass may look at, and which it reads by other steps.
 use Rattle.std.proofs.Common.{arith}
-use Rattle.segcore.specs.declared.cell.Cell.TheVariants.{OfCounter, OfBucket, OfOverflow, OfSegment}
+use Rattle.segcore.specs.declared.cell.Cell.TheVariants.{OfBucket, OfOverflow, OfSegment}
 use Rattle.segcore.specs.Kind.{MayLookAt}
 
 -- an item word

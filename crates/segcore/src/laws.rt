@@ -1,5 +1,5 @@
 //! The theorems of the core. Each function does nothing: its contract is the law.
-ghost use Rattle.std.specs.Prelude.{◌≡◌, ◌∷◌, ◌++◌, ℕ, List, [], Option, Some, None, false};
+ghost use Rattle.std.specs.Prelude.{◌≡◌, ◌∷◌, ℕ, Option, Some, None, false};
 ghost use Rattle.segmodel.specs.Words.{after, present, standing};
 ghost use Rattle.segcore.specs.declared.cell.Cell.TheVariants.{OfCounter, OfBucket, OfOverflow};
 ghost use Rattle.segcore.specs.declared.cell.Cell.TheVariants.{OfSegment};

@@ -60,9 +60,6 @@ module _ (b : Board) (named : Slot) (into to : ℕ) (place : Place) (w : ℕ) (p
   pub in_segments : into < 2 ^ 24
   in_segments = low_segment z into is.valid r.fits.suits.0.0
 
-  pub in_rows : to < 2 ^ 20
-  in_rows = low_row z to is.valid r.fits.suits.0.1
-
   pub may_relink : (read : ℕ) → May z (trace p) (number p) (relink named.key named.segment named.row read into to there (cell_at z place))
   may_relink read = (r.fits, r.chain.at)
 

@@ -17,7 +17,7 @@ use Rattle.segcore.specs.Event as event
 use Rattle.segbase.specs.Words.{Board, number, Pass, seen, SinceFirst}
 use Rattle.segread.specs.Words.{IsGetAnswer}
 use Rattle.segwrite.specs.Words.{Writes}
-use Rattle.segwrite.proofs.Told.{told_at, told_since}
+use Rattle.segwrite.proofs.Told.{told_since}
 use Rattle.segindex.specs.LaterReads.{Stood, StoresBetween}
 use Rattle.segindex.specs.Probing.{ExpiredBetween, IsReadSince}
 
@@ -26,17 +26,6 @@ pub stored_stands : (shape : Shape) (pass : ℕ) (request : Request) (segment : 
     → Stood shape (key_of request) (value_of request) (Wrote pass request Stored (Some segment) ∷ history)
 stored_stands shape pass request segment history =
     ap (λ o. option_map (λ item. item.value) o) (standing-put shape (key_of request) (value_of request) segment (after shape history) (key_of request) ∙ cond-true _ _ _ (at_self (key_of request)))
-
-pub stores_between : (b : Board) (request : Request) (p q : Pass) → Writes b request write.Stored p q → StoresBetween b.shape (number p) request (seen p) (seen q)
-stores_between b request p q writes =
-    let segment = writes.answer.0 in
-    let told = told_at b request Stored (Some segment) p q writes.on writes.answer.1 in
-    record {
-      segment = segment;
-      history = told.0;
-      told = told.1;
-      stood = stored_stands b.shape (number p) request segment told.0;
-    }
 
 -- the same from the first step of the call on
 pub stores_since : (b : Board) (request : Request) (p q : Pass) → Writes b request write.Stored p q → SinceFirst p q (λ start. StoresBetween b.shape (number p) request (event.seen start) (seen q))
@@ -52,19 +41,6 @@ stores_since b request p q writes =
         stood = stored_stands b.shape (number p) request segment told.2.0;
       },
     )
-
--- what was stored before an earlier moment was stored before a later one
-pub stored_by : (shape : Shape) (pass : ℕ) (request : Request) (old at new : List Entry) → Begins at new → StoresBetween shape pass request old at → StoresBetween shape pass request old new
-stored_by shape pass request old at new begins stores = record {
-  segment = stores.segment;
-  history = stores.history;
-  told = record {
-    since = stores.told.since;
-    entered = begins_on (Wrote pass request Stored (Some stores.segment) ∷ stores.history) at new stores.told.entered begins;
-    replied = stores.told.replied;
-  };
-  stood = stores.stood;
-}
 
 -- what came in before an earlier moment came in before a later one
 came_by : (Is : Entry → Type 0) (old at new : List Entry) → Begins at new → CameBetween Is old at → CameBetween Is old new

@@ -1,6 +1,6 @@
 -- Lists of which each element has a property at its place, as they grow by one, their elements, and lists that begin each other.
 use Rattle.std.proofs.Common.{◌≡◌, ℕ, zero, suc, List, [], ◌∷◌, ◌++◌, ◌<◌, length, slice_get, Some, refl, sym, ap, subst, ⊎_elim, arith, length-append}
-use Rattle.std.proofs.lemmas.Option.{none-some, same_Some}
+use Rattle.std.proofs.lemmas.Option.{none-some}
 use Rattle.segmodel.specs.Words.{Begins}
 use Rattle.segload.specs.Lists.{AllAt}
 use Rattle.segmodel.proofs.ListPlaces.{front_or_last}

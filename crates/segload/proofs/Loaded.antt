@@ -1,12 +1,11 @@
 -- What a whole load comes to, put together.
-use Rattle.std.proofs.Common.{◌≡◌, ℕ, ◌<◌, Bool, true, false, List, [], ◌∷◌, get_or, length, map, slice_get, Some, refl, sym, ap, subst, ◌∙◌, arith, inl, inr}
+use Rattle.std.proofs.Common.{◌≡◌, ℕ, ◌<◌, Bool, true, false, List, [], ◌∷◌, length, slice_get, Some, refl, sym, ap, subst, ◌∙◌, arith, inl, inr}
 use Rattle.std.proofs.lemmas.Option.{slice_get_within, slice_get-get_or}
 use Rattle.std.specs.Int.NonZero.{non_zero_u32_get}
 use Rattle.segword.specs.Words.{IsValid}
 use Rattle.segmodel.specs.Words.{after, Entry}
 use Rattle.segmodel.specs.History as histories
-use Rattle.segbase.specs.Words.{Board, HasEach, mine, number, number_of, Pass, seen}
-use Rattle.segstore.specs.Words.{IsQuiet}
+use Rattle.segbase.specs.Words.{Board, mine, number, number_of, Pass, seen}
 use Rattle.segindex.specs.Words.{AnswersCommand, AreAllQuiet, IsEndOfAll}
 use Rattle.segindex.proofs.Made.{new_quiet}
 use Rattle.segload.specs.Words.{PassTotals, Plan, Totals, Worker}

@@ -1,7 +1,7 @@
 -- What the commands of a pass do in a load: how each is counted, which entries the pass adds,
 -- and what its next commands depend on.
 -- A read adds no entry. That it was made is said by the calls (`Calls`).
-use Rattle.std.specs.Prelude.{◌≡◌, ◌≢◌, ◌⊎◌, ℕ, zero, suc, ◌*◌, ◌≤◌, true, false, List, [], ◌∷◌, ◌++◌, Option, Some, None}
+use Rattle.std.specs.Prelude.{◌≡◌, ◌≢◌, ◌⊎◌, ℕ, zero, suc, ◌≤◌, true, false, List, [], ◌∷◌, ◌++◌, Option, Some, None}
 use Rattle.segword.specs.Words.{Shape}
 use Rattle.segmodel.specs.declared.request.Request.TheVariants as request
 use Rattle.segmodel.specs.declared.request.Reply.TheVariants as reply

@@ -1,5 +1,5 @@
 //! How a load is run: a thread for each pass.
-ghost use Rattle.std.specs.Prelude.{◌≡◌, ℕ, List, None, IfOk, IfErr, IfSome, vec_len};
+ghost use Rattle.std.specs.Prelude.{◌≡◌, List, None, IfOk, IfErr, IfSome, vec_len};
 ghost use Rattle.std.specs.Int.NonZero.{non_zero_u32_get};
 ghost use Rattle.std.specs.Thread.{IsSync};
 ghost use Rattle.segmodel.specs.declared.entry.Entry.{Entry};

@@ -4,7 +4,7 @@ use Rattle.std.specs.List.{flat_map}
 use Rattle.std.specs.Option.{option_map}
 use Rattle.std.proofs.lemmas.List.{take_more, take-append-drop}
 use Rattle.segclient.specs.Counting.{with_more}
-use Rattle.segscript.specs.Script.{ended, IsLine, Splits}
+use Rattle.segscript.specs.Script.{ended, Splits}
 use Rattle.segscript.proofs.LineLemmas.{IsLine-append, Splits-byte, Splits-end}
 use Rattle.segreplay.specs.declared.fault.TraceFault.{TraceFault}
 use Rattle.segreplay.specs.declared.fault.TraceFault.TheVariants as fault
@@ -15,7 +15,7 @@ use Rattle.segreplay.specs.declared.reading.Reading.{Reading}
 use Rattle.segreplay.specs.declared.reading.Rules.{Rules}
 use Rattle.segreplay.specs.Lines.{is_blank, stated}
 use Rattle.segreplay.specs.Replays.{is_read_end}
-use Rattle.segreplay.specs.Traces.{EndsBad, EndsEarly, EndsTrace, EndsWhole, Feeds, HasRead, line_after, number_after, requests_of, State, TakesLine, turn_of, turns_from}
+use Rattle.segreplay.specs.Traces.{EndsBad, EndsEarly, EndsTrace, Feeds, HasRead, line_after, number_after, requests_of, State, TakesLine, turn_of, turns_from}
 
 state_more : (form : Form) (lines : List (List ℕ)) (line : List ℕ) (rs more : List Request) → State form lines rs → requests_of form line ≡ Some more → State form (lines ++ line ∷ []) (rs ++ more)
 state_more form [] line rs more said one = (more, [], one, refl, ap (λ l. l ++ more) said ∙ sym (append-nil more))
@@ -44,9 +44,6 @@ turns_taken rules made old new rs more number was at took =
     ∙ sym (turns_more rules 0 rs more)
 
 module _ (rules : Rules) (seen : List ℕ) (made : List Turn) (old new : Reading) (here : HasRead rules seen made old) where
-  abbrev Said : List Request → Type 0
-  Said more = requests_of old.rules.form old.line.items ≡ Some more
-
   form_same : {r : _} → requests_of old.rules.form old.line.items ≡ r → requests_of rules.form old.line.items ≡ r
   form_same {r} is = subst (λ (x : Rules). requests_of x.form old.line.items ≡ r) here.same is
 

@@ -1,5 +1,5 @@
 -- What a replay counts of each command.
-use Rattle.std.specs.Prelude.{ℕ, ◌+◌, ◌-◌, ◌^◌, min}
+use Rattle.std.specs.Prelude.{ℕ}
 use Rattle.segmodel.specs.Words.{DeleteAnswer}
 use Rattle.segmodel.specs.declared.answer.DeleteAnswer.TheVariants as delete
 use Rattle.segclient.specs.declared.put.PutAnswer.{PutAnswer}

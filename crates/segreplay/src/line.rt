@@ -1,6 +1,6 @@
 //! Reads one line of a trace: the command that it states.
-ghost use Rattle.std.specs.Prelude.{◌≡◌, ◌∷◌, ◌++◌, ◌==◌, ◌<◌, false, All, MatchOption};
-ghost use Rattle.std.specs.List.{before_first, after_first, slice_split};
+ghost use Rattle.std.specs.Prelude.{◌≡◌, ◌∷◌, ◌++◌, ◌==◌, false, All, MatchOption};
+ghost use Rattle.std.specs.List.{slice_split};
 ghost use Rattle.segword.specs.Fnv.{hash_of};
 ghost use Rattle.segreplay.specs.Lines.{client_of, csv_request, is_blank, key_named, lasting};
 ghost use Rattle.segreplay.specs.Lines.{number_named, plain_request, request_of, stated};

@@ -1,5 +1,5 @@
 //! A reader that looks at what it hands out, for the first bad line of a script.
-ghost use Rattle.std.specs.Prelude.{◌≡◌, ◌++◌, ◌∷◌, [], ℕ, List, None, MatchOption};
+ghost use Rattle.std.specs.Prelude.{◌≡◌, ◌∷◌, [], ℕ, List, None, MatchOption};
 ghost use Rattle.segscript.specs.Explaining.{FindsBad, HasLooked, KeepsByte, look_at};
 ghost use Rattle.segscript.specs.Explaining.{looks_more, looks_none, LooksAt};
 ghost use Rattle.segscript.specs.Reasons.{line_fault};

@@ -1,6 +1,6 @@
 //! Runs a script from a reader to a writer, over an engine.
-ghost use Rattle.std.specs.Prelude.{◌≡◌, ◌+◌, ◌<◌, ◌≤◌, ◌^◌, ◌++◌, ◌∷◌, [], ◌⊎◌, ℕ, List, length};
-ghost use Rattle.std.specs.Prelude.{take, false, IsOk, IfOk, OnErr, is_err};
+ghost use Rattle.std.specs.Prelude.{◌≡◌, ◌+◌, ◌<◌, ◌≤◌, ◌^◌, ◌++◌, ◌∷◌, [], ℕ, List, length};
+ghost use Rattle.std.specs.Prelude.{take, false, IfOk, OnErr, is_err};
 ghost use Rattle.segscript.specs.Running.{AllReplied};
 ghost use Rattle.segscript.specs.Device.{ends_after};
 ghost use Rattle.segscript.specs.Run.{EndOfRun, EndsOnce, is_read_fault, is_write_fault};

@@ -1,18 +1,18 @@
 -- With one pass and any draw, a get and a gets are served as the model says, but for the frequencies of items.
-use Rattle.std.proofs.Common.{◌≡◌, ◌≢◌, ℕ, zero, suc, Bool, true, false, cond, eqb, List, [], length, Option, Some, None, option_map, refl, sym, ap, subst, ◌∙◌}
-use Rattle.std.proofs.lemmas.Bool.{cases_Bool, eqb-true}
+use Rattle.std.proofs.Common.{◌≡◌, ℕ, zero, suc, Bool, true, false, cond, eqb, List, [], length, Option, Some, None, option_map, refl, sym, ap, subst, ◌∙◌}
+use Rattle.std.proofs.lemmas.Bool.{eqb-true}
 use Rattle.segword.specs.Words.{Shape}
 use Rattle.segmodel.specs.declared.answer.Answer.TheVariants as answer
 use Rattle.segmodel.specs.declared.answer.Command.{Command}
 use Rattle.segmodel.specs.declared.answer.Command.TheVariants as command
-use Rattle.segmodel.specs.Words.{after, after_hit, Answer, Cached, Filling, GetAnswer, GetsAnswer, is_locked, IsSound, present, raised_in, Serves, State}
+use Rattle.segmodel.specs.Words.{after, after_hit, Answer, Cached, Filling, GetAnswer, GetsAnswer, is_locked, IsSound, present, raised_in, State}
 use Rattle.segbase.specs.Words.{Board, Memo, Pass, seen, state_in, own_segment}
 use Rattle.segbase.specs.declared.pass.PlainPart.{PlainPart}
 use Rattle.segindex.proofs.Since.{get_since, gets_since}
 use Rattle.segstore.specs.Words.{ChangesNothing, DrawsNothing, GoesOn}
 use Rattle.segread.specs.Words.{ReadsKey, ReadsVersion}
 use Rattle.segstore.proofs.Keeping.{stored_in}
-use Rattle.segsolo.specs.Alone.{frequencies_in, IsAlone, IsSameButFrequencies, item_of, keys_stored_in, of_rows, or_empty, ServesAlone, ServesButFrequencies, state_at, with_frequencies}
+use Rattle.segsolo.specs.Alone.{frequencies_in, IsAlone, item_of, keys_stored_in, of_rows, or_empty, ServesAlone, ServesButFrequencies, state_at, with_frequencies}
 use Rattle.segsolo.proofs.AlonePass.{at_state, counts_still, same_seen}
 use Rattle.segsolo.proofs.AloneReads.{got, versioned}
 use Rattle.segsolo.proofs.AloneRows.{still_named}

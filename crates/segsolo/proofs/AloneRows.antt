@@ -16,7 +16,7 @@ use Rattle.segmodel.specs.History.{next}
 use Rattle.segmodel.proofs.HistoryLemmas.{standing-without}
 use Rattle.segmodel.proofs.Commands.{turns_keep}
 use Rattle.segcore.specs.Bucket.{Slot, slot}
-use Rattle.segcore.specs.Mark.{last_at, linked_in, frequency_in, Mark, same_key}
+use Rattle.segcore.specs.Mark.{last_at, linked_in, frequency_in, same_key}
 use Rattle.segcore.specs.Mark as mark
 use Rattle.segcore.specs.Words.{cached, entries, raised}
 use Rattle.segcore.proofs.Exact.{stands_at}

@@ -1,9 +1,8 @@
 //! The bits of buckets: taken and given back in a call, or kept by a lock for longer.
-ghost use Rattle.std.specs.Prelude.{◌≡◌, ◌≢◌, ◌<◌, ◌↔◌, is_some, None, IfSome, false};
+ghost use Rattle.std.specs.Prelude.{◌≡◌, ◌<◌, IfSome};
 ghost use Rattle.segcore.specs.Words.{HasBit};
-ghost use Rattle.segstore.specs.declared.bucket.LockAnswer.TheVariants as lock;
 ghost use Rattle.segstore.specs.Taking.{TakesToWrite};
-ghost use Rattle.segbase.specs.Words.{IsPassOf, locked_of, number, trace, view};
+ghost use Rattle.segbase.specs.Words.{IsPassOf, number, trace, view};
 ghost use Rattle.segstore.specs.Quiet.{IsQuiet};
 ghost use Rattle.segstore.specs.Calls.{memo};
 ghost use Rattle.segstore.specs.Locks.{LocksBucket, SetsLock, UnlocksBucket};

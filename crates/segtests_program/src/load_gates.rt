@@ -1,5 +1,4 @@
 //! Gates that hold and stop the passes of a load.
-ghost use Rattle.std.specs.Prelude.{◌≡◌};
 
 use crate::load_runs::{SHAPE, run};
 use crate::same::same;

@@ -43,9 +43,6 @@ Shape = declared_shape.Shape
 abbrev pub row_width : ℕ
 row_width = ROW_WORDS
 
-abbrev pub head_width : ℕ
-head_width = HEAD_WORDS
-
 abbrev pub value_width : ℕ
 value_width = VALUE_WORDS
 

@@ -3,9 +3,9 @@ use Rattle.std.proofs.Common.{◌≡◌, ◌≢◌, ℕ, ◌≤◌, false, List,
 use Rattle.segword.specs.Words.{IsSameItem, Item}
 use Rattle.segmodel.specs.Words.{bucket_of, key_of, Request}
 use Rattle.segcore.specs.declared.event.Event.TheVariants.{Linked, Unlinked}
-use Rattle.segcore.specs.Words.{by, Event, Fits, HasBit, is_of_now, IsLawful, Leaving, link, May, NoneBy}
+use Rattle.segcore.specs.Words.{by, Event, Fits, HasBit, is_of_now, IsLawful, Leaving, NoneBy}
 use Rattle.segcore.proofs.Quiet.{later}
-use Rattle.segbase.specs.Words.{AddsAtOnce, AddsEvents, Board, cell_at, HasItemOf, IsFree, IsPassOf}
+use Rattle.segbase.specs.Words.{AddsAtOnce, AddsEvents, Board, HasItemOf, IsFree, IsPassOf}
 use Rattle.segbase.specs.Words.{Missed, number, Pass, Place, position, trace}
 use Rattle.segbase.proofs.Moves.{stays, moved_then}
 use Rattle.segcore.proofs.Moments.{none_both}
@@ -95,14 +95,6 @@ module _ (b : Board) (request : Request) (item : Item) where
   -- into an empty word
   pub is_free : (target : Target) (p : Pass) → IsTarget b (key_of request) target p → target.word ≡ 0 → IsFree b (key_of request) target.place p
   is_free target p is none = ⊎_elim (λ free. free.1) (λ has. absurd (not_empty target p has.1 none)) is.is
-
-  pub may_link : (target : Target) (old : ℕ) (p : Pass) → IsTarget b (key_of request) target p → Fits b.shape (trace p) (linked_by b request item.seg item.row target.place p)
-      → May b.shape (trace p) (number p) (link request item.seg item.row (position b.shape (trace p) target.place) (cell_at b.shape target.place) old)
-  may_link target old p is fits = (fits, is.chain.at)
-
-  pub may_replace : (place : Place) (old : ℕ) (first p : Pass) → Retrying b (key_of request) (link_event request item.seg item.row) place old first p
-      → May b.shape (trace p) (number p) (link request item.seg item.row (position b.shape (trace p) place) (cell_at b.shape place) old)
-  may_replace place old first p l = (l.fits, l.chain.at)
 
 -- ---- a clear
 

@@ -108,9 +108,6 @@ delete_adds b key now delete.Busy said p q answer is = absurd (none-some said is
 pub delete_since : (b : Board) (key : List ℕ) (now : ℕ) (told : DeleteAnswer) (said : Reply) (p q : Pass) → Deletes b key now told p q → reply_of_delete told ≡ Some said → SinceFirst p q (λ start. WasTold b.shape (number p) (Delete key now) said (event.seen start) (seen q))
 delete_since b key now told said p q d is = let t = told_since b (Delete key now) said None p q d.on (delete_adds b key now told said p q d.answer is) in (t.0, t.1, (None, t.2))
 
-pub delete_told : (b : Board) (key : List ℕ) (now : ℕ) (told : DeleteAnswer) (said : Reply) (p q : Pass) → Deletes b key now told p q → reply_of_delete told ≡ Some said → WasTold b.shape (number p) (Delete key now) said (seen p) (seen q)
-delete_told b key now told said p q d is = (None, told_at b (Delete key now) said None p q d.on (delete_adds b key now told said p q d.answer is))
-
 -- ---- the version law
 
 module _ (b : Board) (key read value : List ℕ) (version now : ℕ) (told : WriteAnswer) (said : Reply) (p q : Pass) (few : b.shape.first_version < 2 ^ 32) (w : Writes b (Cas key value version now) told p q) (is : reply_of_write told ≡ Some said) where

@@ -1,4 +1,4 @@
-use Rattle.std.proofs.Common.{◌≡◌, ◌++◌, ◌∷◌, [], suc, length, slice_get, Some, sym, ap, subst, ◌∙◌, arith, rules}
+use Rattle.std.proofs.Common.{◌≡◌, ◌++◌, ◌∷◌, [], suc, length, slice_get, Some, sym, ap, subst, ◌∙◌, arith}
 use Rattle.segload.proofs.Ending.{AreEnds, one_more_ended}
 use Rattle.segload.proofs.Lists.{all_none}
 use Rattle.segload.proofs.load.end_all.Goals as goal

@@ -1,4 +1,4 @@
-use Rattle.std.proofs.Common.{◌+◌, refl, ap, ◌∙◌}
+use Rattle.std.proofs.Common.{◌+◌, refl, ap}
 use Rattle.segload.specs.Making.{load_deadline}
 use Rattle.segload.proofs.Recycling.{refill_recycles}
 use Rattle.segload.proofs.client.Client.refill.Goals as goal

@@ -1,4 +1,3 @@
-use Rattle.std.proofs.Common.{refl}
 use Rattle.std.proofs.lemmas.List.{take_all}
 use Rattle.segreplay.proofs.Steps.{plays_next}
 use Rattle.segreplay.proofs.player.Player.play.Goals as goal

@@ -1,6 +1,5 @@
-use Rattle.std.proofs.Common.{◌∙◌, ◌++◌, Err, ap, sym, take, drop, append_assoc, append-nil}
-use Rattle.std.proofs.lemmas.List.{take_more, take_all}
-use Rattle.segreplay.specs.Traces.{Feeds, HasRead}
+use Rattle.std.proofs.Common.{◌++◌, take, append-nil}
+use Rattle.std.proofs.lemmas.List.{take_all}
 use Rattle.segreplay.proofs.Feeding.{fault_within, fed_on}
 use Rattle.segreplay.proofs.reading.Reading.feed_all.Goals as goal
 

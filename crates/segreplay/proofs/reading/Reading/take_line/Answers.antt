@@ -1,5 +1,4 @@
-use Rattle.std.proofs.Common.{◌≡◌, ◌++◌, ◌∷◌, ◌∙◌, ℕ, List, [], nat_le, Some, None, ap, refl, sym, append-nil}
-use Rattle.segreplay.specs.declared.player.Turn.{Turn}
+use Rattle.std.proofs.Common.{◌++◌, ◌∷◌, ◌∙◌, ℕ, [], nat_le, Some, None, ap, refl, sym, append-nil}
 use Rattle.segreplay.specs.Lines.{is_blank, stated}
 use Rattle.segreplay.proofs.Feeding.{blank_line, full_line}
 use Rattle.segreplay.proofs.reading.Reading.take_line.Goals as goal
