@@ -24,7 +24,7 @@ fn unread(deadline: u32) -> u64
 }
 
 impl Board {
-    ghost use Rattle.segbase.specs.Passes.{number, seen, trace, IsPassOf, AddsAtOnce, Stepped};
+    ghost use Rattle.segbase.specs.Passes.{seen, trace, IsPassOf, AddsAtOnce, Stepped};
     ghost use Rattle.segbase.specs.PlainPart.{deadline_of};
     ghost use Rattle.segbase.specs.Steps.{AsksReaders, MayTake, TakesStep, AddsOne};
 

@@ -1,6 +1,6 @@
 //! How a put makes room by two queues: it moves what was read into main segments,
 //! each row by a cutoff of its own, and evicts the rest.
-ghost use Rattle.std.specs.Prelude.{◌≡◌, ◌<◌, ◌≤◌, ◌+◌, ◌*◌, ◌/◌, ◌^◌, ℕ, max, Option, Some, IfSome};
+ghost use Rattle.std.specs.Prelude.{◌≡◌, ◌<◌, ◌≤◌, ◌+◌, ◌/◌, ◌^◌, ℕ, max, Option, Some, IfSome};
 ghost use Rattle.segmodel.specs.Words.{owner};
 ghost use Rattle.segbase.specs.Words.{number};
 ghost use Rattle.segindex.specs.Words.{board_of, shape_of};

@@ -8,7 +8,7 @@ use Rattle.segcore.specs.Words.{bounced}
 use Rattle.segbase.specs.declared.pass.PlainPart.{PlainPart}
 use Rattle.segbase.specs.Words.{Board, count, current_of, marked, Pass, state_of, trace, used_of}
 use Rattle.segbase.proofs.Moves.{moved_count}
-use Rattle.segstore.specs.Words.{ChangesNothing, has_room, is_below, IsQuiet, KeepsSegments, TakesNoBit}
+use Rattle.segstore.specs.Words.{ChangesNothing, has_room, is_below, IsQuiet, TakesNoBit}
 use Rattle.segstore.proofs.Idling.{goes_same}
 use Rattle.segevict.specs.declared.retention.KeepRowAnswer.{KeepRowAnswer}
 use Rattle.segevict.specs.declared.retention.KeepRowAnswer.TheVariants as kept
@@ -22,10 +22,6 @@ use Rattle.segevict.proofs.Carrying.{carried}
 use Rattle.segevict.proofs.Naming.{unnamed}
 
 -- ---- the segment to move into
-
--- the current segment is one to move into if it is a keep's
-pub move_target : (b : Board) (segment into : ℕ) (p : Pass) → KeepsSegments b p → IsKeepTarget segment into p → IsMoveTarget segment into p
-move_target b segment into p k target = record { in_use = k.in_use into target.current; other = target.other; deadlines = target.deadlines }
 
 -- whether it has a row left
 pub room_now : (b : Board) (into : ℕ) (p : Pass) → current_of p ≡ Some into → has_room_in b.shape into p ≡ has_room b.shape p

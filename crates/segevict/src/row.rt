@@ -1,5 +1,5 @@
 //! Rows of a segment of the pass's own: whose key was stored in each, and which word names it.
-ghost use Rattle.std.specs.Prelude.{◌≡◌, ◌<◌, Option, true, false};
+ghost use Rattle.std.specs.Prelude.{◌≡◌, ◌<◌, true, false};
 ghost use Rattle.segbase.specs.Words.{HasStep, IsPassOf};
 ghost use Rattle.segstore.specs.Words.{Idles, IsQuiet};
 ghost use Rattle.segevict.specs.Rows.{HasRow, IsUsedRow, IsStoredIn, FindsRow};

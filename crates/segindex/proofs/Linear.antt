@@ -8,7 +8,7 @@ use Rattle.segmodel.specs.declared.entry.Entry.TheVariants.{Wrote}
 use Rattle.segcore.specs.Event as event
 use Rattle.segcore.specs.Words.{IsRun, World}
 use Rattle.segbase.specs.Words.{seen, view}
-use Rattle.segindex.specs.Linearizable.{Call, CallsAreLinearizable, Effect, gets_value, gets_version, HasEffect, IsCallOf, IsOrdered, IsPlaced, IsRightAt, Linearizable, MayPrecede, Placed, writes}
+use Rattle.segindex.specs.Linearizable.{Call, CallsAreLinearizable, Effect, gets_value, gets_version, HasEffect, IsCallOf, IsOrdered, IsPlaced, IsRightAt, MayPrecede, Placed, writes}
 use Rattle.segindex.specs.Linearizable as linear
 use Rattle.segindex.proofs.Moments.{came, entered, history_at, takes}
 use Rattle.segindex.proofs.Ordering.{call_of, Comes, in_order, Sorted}

@@ -67,10 +67,6 @@ one_entry (kind.row_load s r j) p f = none
 
 -- ---- lists
 
-longer : {A : Type 0} (more h : List A) → h ≡ more ++ h → more ≡ []
-longer [] h is = refl
-longer (x ∷ more) h is = let long : length h ≡ suc (length more) + length h = ap length is ∙ length-append (x ∷ more) h in absurd (omega (arith, long))
-
 -- what is longer than a list doesn't begin it
 not_longer : (x : Entry) (more h g : List Entry) → g ≡ x ∷ (more ++ h) → ¬ (Begins g h)
 not_longer x more h g is b =

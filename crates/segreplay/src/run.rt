@@ -1,5 +1,5 @@
 //! A replay: the commands of a trace, made by the clients of one cache or several.
-ghost use Rattle.std.specs.Prelude.{◌≡◌, ◌<◌, ◌++◌, [], ℕ, List, false, IfOk, OnOk};
+ghost use Rattle.std.specs.Prelude.{◌≡◌, ◌++◌, [], ℕ, List, false, IfOk, OnOk};
 ghost use Rattle.segreplay.specs.declared.player.Turn.{Turn};
 ghost use Rattle.segreplay.specs.Playing.{Plays};
 ghost use Rattle.segreplay.specs.Replays.{AllPlay, is_read_end, IsReplay, MakesSome, value_of};

@@ -1,5 +1,5 @@
 -- A pass that only looks: looks add up, and what it may read stays as it is.
-use Rattle.std.proofs.Common.{◌≡◌, ℕ, zero, suc, ◌+◌, ◌<◌, List, [], ◌++◌, length, take, drop, get_or, refl, sym, ap, ◌∙◌, subst, append_assoc, arith}
+use Rattle.std.proofs.Common.{◌≡◌, ℕ, zero, suc, ◌+◌, ◌<◌, List, [], ◌++◌, length, drop, get_or, refl, sym, ap, ◌∙◌, subst, append_assoc, arith}
 use Rattle.std.proofs.lemmas.Grind.{same_number_lists}
 use Rattle.std.proofs.lemmas.List.{get_or-drop}
 use Rattle.std.specs.Prelude.{slice_index}
@@ -96,14 +96,10 @@ are_words found words from count long each =
     same_number_lists found (words_at words from count) (long ∙ sym (length-words_at words from count))
     (λ k lt. let less : k < count = omega (arith, lt, long) in each k less ∙ sym (get_or-words_at words from count k less))
 
--- the words of a row that holds a pair: all, those with the key, and those with the value
+-- the words of a row that holds a pair: all, and those with the value
 module _ (words : ℕ → ℕ) (key value : List ℕ) (holds : (place : ℕ) → place < row_width → words place ≡ slice_index (row_of key value) place) where
   pub whole_row : row_of key value ≡ words_at words 0 row_width
   whole_row = are_words (row_of key value) words 0 row_width (length-row_of key value) (λ k lt. sym (holds k lt) ∙ ap words (omega arith))
-
-  pub head_words : take head_width (row_of key value) ≡ words_at words 0 head_width
-  head_words = are_words (take head_width (row_of key value)) words 0 head_width refl
-      (λ k lt. get_or-take head_width (row_of key value) k 0 lt ∙ (sym (holds k (omega (arith, lt))) ∙ ap words (omega arith)))
 
   pub value_words : drop head_width (row_of key value) ≡ words_at words head_width value_width
   value_words = are_words (drop head_width (row_of key value)) words head_width value_width (length-words_from value_width value 0)

@@ -1,7 +1,7 @@
 -- The words of this crate that others use, from one place.
 use Rattle.std.specs.Prelude.{ℕ}
 use Rattle.segword.specs.declared.key.TheConstants.{KEY_BYTES}
-use Rattle.segword.specs.declared.row.TheConstants.{HEAD_WORDS, ROW_WORDS}
+use Rattle.segword.specs.declared.row.TheConstants.{ROW_WORDS}
 use Rattle.segword.specs.declared.sizes.TheConstants.{MOST_KEYS}
 use Rattle.segword.specs.declared.value.TheConstants.{VALUE_BYTES, VALUE_WORDS}
 pub use Rattle.segword.specs.Bytes.{IsKey, IsValue}

@@ -1,4 +1,4 @@
-use Rattle.std.proofs.Common.{◌≡◌, ◌+◌, ◌*◌, ◌%◌, ◌^◌, ◌<◌, ◌≤◌, ◌∷◌, [], ◌++◌, ℕ, List, bit_or, get_or, length, replicate, set, sym, subst, ◌∙◌, ap, arith}
+use Rattle.std.proofs.Common.{◌≡◌, ◌+◌, ◌*◌, ◌%◌, ◌^◌, ◌∷◌, ◌++◌, ℕ, List, bit_or, get_or, length, replicate, set, sym, subst, ◌∙◌, ap, arith}
 use Rattle.std.specs.Int.Bits.{or_shifted_r}
 use borrow.Rule.Slice.PartMut.{put_mid}
 use Rattle.segword.specs.declared.key.TheConstants.{KEY_WORDS}
