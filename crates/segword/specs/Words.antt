@@ -1,7 +1,7 @@
 -- The words of this crate that others use, from one place.
 use Rattle.std.specs.Prelude.{ℕ}
 use Rattle.segword.specs.declared.key.TheConstants.{KEY_BYTES}
-use Rattle.segword.specs.declared.row.TheConstants.{ROW_WORDS}
+use Rattle.segword.specs.declared.row.TheConstants.{HEAD_WORDS, ROW_WORDS}
 use Rattle.segword.specs.declared.sizes.TheConstants.{MOST_KEYS}
 use Rattle.segword.specs.declared.value.TheConstants.{VALUE_BYTES, VALUE_WORDS}
 pub use Rattle.segword.specs.Bytes.{IsKey, IsValue}
@@ -42,6 +42,9 @@ Shape = declared_shape.Shape
 -- how many bytes a key and a value have at most; and the most keys that for_keys takes.
 abbrev pub row_width : ℕ
 row_width = ROW_WORDS
+
+abbrev pub head_width : ℕ
+head_width = HEAD_WORDS
 
 abbrev pub value_width : ℕ
 value_width = VALUE_WORDS
