@@ -4,7 +4,7 @@ use Rattle.std.proofs.lemmas.Grind.{same_number_lists}
 use Rattle.std.proofs.lemmas.List.{get_or-drop}
 use Rattle.std.specs.Prelude.{slice_index}
 use Rattle.segcore.specs.Words.{IsLawful, May, MayRead, NoneBy, Row, row_after, row_load}
-use Rattle.segword.specs.Words.{row_of, row_width, value_width}
+use Rattle.segword.specs.Words.{head_width, row_of, row_width, value_width}
 use Rattle.segword.proofs.RowLemmas.{length-row_of, length-words_from}
 use Rattle.segcore.proofs.Readable.{read_row, may_read}
 use Rattle.segcore.proofs.Moments.{none_both}
