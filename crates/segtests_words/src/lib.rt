@@ -15,6 +15,8 @@ mod readers;
 #[cfg(test)]
 mod same;
 #[cfg(test)]
+mod storing;
+#[cfg(test)]
 mod table;
 #[cfg(test)]
 mod words;
