@@ -1,5 +1,5 @@
 -- How the commands of the program end, and what is reported then.
-use Rattle.std.specs.Prelude.{◌≡◌, ◌⊎◌, ◌++◌, ℕ, true, List, [], Result, Ok, Err, string_bytes}
+use Rattle.std.specs.Prelude.{◌≡◌, ◌⊎◌, ◌++◌, ℕ, true, List, [], OnOk, Result, Ok, Err, string_bytes}
 use Rattle.std.specs.Int.NonZero.{non_zero_u32_get}
 use Rattle.segword.specs.Words.{Shape}
 use Rattle.segcli.specs.Explained.{SpellsWord, explanation}
@@ -100,6 +100,7 @@ end_of_replay (Err f) _ = Err f
 
 -- The trace of the reader was replayed, and its totals were shown.
 -- They are those of the commands before the trace's fault, if it has one.
+-- If it has none, the reader came to its end.
 pub record ShowsReplay (asked : Replay) {R W : Type 0} (i : Input R) (o : Output W)
     (end : Result (Unit {0}) ProgramFault) : Type 0 where
   pub plan : Plan
@@ -109,6 +110,7 @@ pub record ShowsReplay (asked : Replay) {R W : Type 0} (i : Input R) (o : Output
   pub planned : IsPlanOf asked plan
   pub read : HandedOut i seen
   pub replays : IsReplay plan seen replayed
+  pub whole : OnOk replayed.end (i.source.is_at_end i.new)
   pub shows : ShowOutcome (replay_text asked.format replayed.totals.items) o shown
   pub ended : end ≡ end_of_replay shown replayed.end
 

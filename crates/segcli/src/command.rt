@@ -19,7 +19,7 @@ use crate::progress::{Followed, Watch, Watched};
 use crate::replayed::{plan_of, text_of_replay};
 use crate::streams::Streams;
 use crate::totals::text_in;
-use segload::{LoadFault, OpenGate, Plan, Totals, run_crowd};
+use segload::{LoadFault, OpenGate, Totals, run_crowd};
 use segreplay::{TraceFault, replay};
 use segscript::{Sink, Source, run_script};
 use segword::Shape;
@@ -48,6 +48,14 @@ pub enum Command<'a> {
     Show(String),
 }
 
+/// Where a command is carried out, and who looks on.
+#[derive(Drop)]
+pub(crate) struct Host<'h, R, V> {
+    pub(crate) rt: &'h R,
+    pub(crate) alloc: Global,
+    pub(crate) watch: &'h V,
+}
+
 /// Carries out a command, and returns the exit status.
 /// Replies, totals and explanations go to the writer.
 /// For a fault the writer is asked to flush, and then one line goes to the error writer,
@@ -74,32 +82,60 @@ pub fn run_command<R: Threads + Wait + AllocGlobal + Sync, S: Source, W: Sink, E
         × Concludes (output W.Sink there streams.new.writer)
         (output E.Sink streams.old.errors streams.new.errors) command.now end result }
 {
-    let end = perform(rt, alloc, command, streams, watch);
-    conclude(command, end, &mut streams.writer, &mut streams.errors)
+    let host = Host { rt, alloc, watch };
+    let Streams {
+        source,
+        writer,
+        errors,
+    } = streams;
+    carry_out(&host, command, source, writer, errors)
 }
 
-// Carries out a command, and leaves the error writer alone.
-fn perform<R: Threads + Wait + AllocGlobal + Sync, S: Source, W: Sink, E, V: Watch>(
-    rt: &R,
-    alloc: Global,
+/// Carries out a command over these devices.
+pub(crate) fn carry_out<
+    R: Threads + Wait + AllocGlobal + Sync,
+    S: Source,
+    W: Sink,
+    E: Sink,
+    V: Watch,
+>(
+    host: &Host<'_, R, V>,
     command: &Command<'_>,
-    streams: &mut Streams<S, W, E>,
-    watch: &V,
+    source: &mut S,
+    writer: &mut W,
+    errors: &mut E,
+) -> u8
+    requires source_works { S.has_failed source.old ≡ false }
+    requires writer_works { W.has_failed writer.old ≡ false }
+    requires errors_work { E.has_failed errors.old ≡ false }
+    ensures outcome { (there : W) × (end : Result (Unit {0}) ProgramFault)
+        × CommandOutcome (input S.Source source.old source.new)
+        (output W.Sink writer.old there) command.now end
+        × Concludes (output W.Sink there writer.new)
+        (output E.Sink errors.old errors.new) command.now end result }
+{
+    let end = perform(host, command, source, writer);
+    conclude(command, end, writer, errors)
+}
+
+// Carries out a command, whose fault isn't reported yet.
+fn perform<R: Threads + Wait + AllocGlobal + Sync, S: Source, W: Sink, V: Watch>(
+    host: &Host<'_, R, V>,
+    command: &Command<'_>,
+    source: &mut S,
+    writer: &mut W,
 ) -> Result<(), ProgramFault>
-    requires source_works { S.has_failed streams.old.source ≡ false }
-    requires writer_works { W.has_failed streams.old.writer ≡ false }
-    ensures outcome { CommandOutcome (input S.Source streams.old.source streams.new.source)
-        (output W.Sink streams.old.writer streams.new.writer) command.now result }
-    ensures errors { streams.new.errors ≡ streams.old.errors }
+    requires source_works { S.has_failed source.old ≡ false }
+    requires writer_works { W.has_failed writer.old ≡ false }
+    ensures { CommandOutcome (input S.Source source.old source.new)
+        (output W.Sink writer.old writer.new) command.now result }
 {
     match command {
-        Command::Script { shape, .. } => {
-            perform_script(alloc, *shape, &mut streams.source, &mut streams.writer)
-        }
-        Command::Load(load) => perform_load(rt, alloc, load, watch, &mut streams.writer),
-        Command::Replay(replay) => perform_replay(rt, alloc, replay, streams, watch),
-        Command::Word(word) => perform_word(word, &mut streams.writer),
-        Command::Show(text) => show(text.as_bytes(), &mut streams.writer),
+        Command::Script { shape, .. } => perform_script(host.alloc, *shape, source, writer),
+        Command::Load(load) => perform_load(host, load, writer),
+        Command::Replay(replay) => perform_replay(host, replay, source, writer),
+        Command::Word(word) => perform_word(word, writer),
+        Command::Show(text) => show(text.as_bytes(), writer),
     }
 }
 
@@ -118,26 +154,22 @@ fn perform_script<S: Source, W: Sink>(
 }
 
 fn perform_load<R: Threads + Wait + AllocGlobal + Sync, W: Sink, V: Watch>(
-    rt: &R,
-    alloc: Global,
+    host: &Host<'_, R, V>,
     load: &Load,
-    watch: &V,
     writer: &mut W,
 ) -> Result<(), ProgramFault>
     requires writer_works { W.has_failed writer.old ≡ false }
     ensures outcome { LoadOutcome load.now (output W.Sink writer.old writer.new) result }
     ensures failed { W.has_failed writer.new ≡ is_write_end result }
 {
-    let text = load_text(rt, alloc, load, watch)?;
+    let text = load_text(host, load)?;
     show(text.as_slice(), writer)
 }
 
 // Runs a load, and returns the text of its totals.
 fn load_text<R: Threads + Wait + AllocGlobal + Sync, V: Watch>(
-    rt: &R,
-    alloc: Global,
+    host: &Host<'_, R, V>,
     load: &Load,
-    watch: &V,
 ) -> Result<Vec<u8>, ProgramFault>
     ensures text { IfOk result (λ text. (totals : Totals)
         × IsLoad load.now.shape load.now.seed (non_zero_u32_get load.now.keys)
@@ -145,61 +177,58 @@ fn load_text<R: Threads + Wait + AllocGlobal + Sync, V: Watch>(
         × (text.items ≡ text_in load.now.format totals)) }
     ensures fault { IfErr result (IsFaultOfLoad load.now.shape load.now.commands) }
 {
-    let totals = totals_of(rt, alloc, load, watch)?;
+    let totals = totals_of(host, load)?;
     if load.stats {
-        watch.ended(&totals);
+        host.watch.ended(&totals);
     }
-    Ok(text_in(alloc, load.format, &totals)?)
+    Ok(text_in(host.alloc, load.format, &totals)?)
 }
 
 // Runs a load, at which the watch looks on if it is asked to.
 fn totals_of<R: Threads + Wait + AllocGlobal + Sync, V: Watch>(
-    rt: &R,
-    alloc: Global,
+    host: &Host<'_, R, V>,
     load: &Load,
-    watch: &V,
 ) -> Result<Totals, LoadFault>
     ensures load { IfOk result (IsLoad load.now.shape load.now.seed
         (non_zero_u32_get load.now.keys) load.now.commands) }
     ensures fault { IfErr result (IsLoadFault load.now.shape load.now.commands
         lets_all_through knows_nothing) }
 {
-    let shape = load.shape;
-    let plan = Plan {
-        seed: load.seed,
-        commands: load.commands,
-        keys: load.keys,
-    };
+    let Host { rt, alloc, watch } = *host;
+    let Load {
+        shape,
+        seed,
+        commands,
+        ..
+    } = *load;
+    let keys = load.keys.get();
     if load.progress {
-        let gate = Watched::new(watch, shape.passes, plan.commands);
-        run_crowd(rt, alloc, shape, plan, &gate)
+        let gate = Watched::new(watch, shape.passes, commands);
+        run_crowd(rt, alloc, shape, seed, commands, keys, &gate)
     } else {
-        run_crowd(rt, alloc, shape, plan, &OpenGate)
+        run_crowd(rt, alloc, shape, seed, commands, keys, &OpenGate)
     }
 }
 
-fn perform_replay<R: Threads + Wait + AllocGlobal + Sync, S: Source, W: Sink, E, V: Watch>(
-    rt: &R,
-    alloc: Global,
+fn perform_replay<R: Threads + Wait + AllocGlobal + Sync, S: Source, W: Sink, V: Watch>(
+    host: &Host<'_, R, V>,
     asked: &Replay<'_>,
-    streams: &mut Streams<S, W, E>,
-    watch: &V,
+    source: &mut S,
+    writer: &mut W,
 ) -> Result<(), ProgramFault>
-    requires source_works { S.has_failed streams.old.source ≡ false }
-    requires writer_works { W.has_failed streams.old.writer ≡ false }
-    ensures outcome { ReplayOutcome asked.now
-        (input S.Source streams.old.source streams.new.source)
-        (output W.Sink streams.old.writer streams.new.writer) result }
-    ensures failed { W.has_failed streams.new.writer ≡ is_write_end result }
-    ensures errors { streams.new.errors ≡ streams.old.errors }
+    requires source_works { S.has_failed source.old ≡ false }
+    requires writer_works { W.has_failed writer.old ≡ false }
+    ensures outcome { ReplayOutcome asked.now (input S.Source source.old source.new)
+        (output W.Sink writer.old writer.new) result }
+    ensures failed { W.has_failed writer.new ≡ is_write_end result }
 {
     let follow = Followed {
-        watch,
+        watch: host.watch,
         is_asked: asked.progress,
     };
-    let replayed = replay(rt, alloc, &mut streams.source, &plan_of(asked), &follow)?;
-    let text = text_of_replay(alloc, asked.format, replayed.totals.as_slice())?;
-    let shown = show(text.as_slice(), &mut streams.writer);
+    let replayed = replay(host.rt, host.alloc, source, &plan_of(asked), &follow)?;
+    let text = text_of_replay(host.alloc, asked.format, replayed.totals.as_slice())?;
+    let shown = show(text.as_slice(), writer);
     end_of_replay(shown, replayed.end)
 }
 

@@ -8,7 +8,7 @@ ghost use Rattle.segcli.specs.Asked.{IsReadAsCommand};
 ghost use Rattle.segcli.specs.Program.{refusal_status, refusal_text, ProgramOutcome};
 
 use crate::arguments::{Refusal, read_command};
-use crate::command::run_command;
+use crate::command::{Host, carry_out};
 use crate::fault::{ProgramFault, print_after, report};
 use crate::progress::{Nobody, Watch};
 use crate::streams::Streams;
@@ -30,20 +30,27 @@ pub fn run_program<R: Threads + Wait + AllocGlobal + Sync, S: Source, W: Sink, E
     rt: &R,
     alloc: Global,
     words: &[String],
-    streams: &mut Streams<S, W, E>,
+    source: &mut S,
+    writer: &mut W,
+    errors: &mut E,
 ) -> u8
-    requires source_works { S.has_failed streams.old.source ≡ false }
-    requires writer_works { W.has_failed streams.old.writer ≡ false }
-    requires errors_work { E.has_failed streams.old.errors ≡ false }
+    requires source_works { S.has_failed source.old ≡ false }
+    requires writer_works { W.has_failed writer.old ≡ false }
+    requires errors_work { E.has_failed errors.old ≡ false }
 
     // The command that is read from the words is carried out, or the words are refused.
     ensures outcome { (read : Result Asked Refusal)
         × IsReadAsCommand (map (λ word. string_bytes word) words.now) read
-        × ProgramOutcome (input S.Source streams.old.source streams.new.source)
-        (output W.Sink streams.old.writer streams.new.writer)
-        (output E.Sink streams.old.errors streams.new.errors) read result }
+        × ProgramOutcome (input S.Source source.old source.new)
+        (output W.Sink writer.old writer.new)
+        (output E.Sink errors.old errors.new) read result }
 {
-    run_watched(rt, alloc, words, streams, &Nobody)
+    let host = Host {
+        rt,
+        alloc,
+        watch: &Nobody,
+    };
+    run_words(&host, words, source, writer, errors)
 }
 
 /// Does what `run_program` does. If the words ask for it, the watch looks on at a load.
@@ -67,9 +74,35 @@ pub fn run_watched<R: Threads + Wait + AllocGlobal + Sync, S: Source, W: Sink, E
         (output W.Sink streams.old.writer streams.new.writer)
         (output E.Sink streams.old.errors streams.new.errors) read result }
 {
-    match read_command(alloc, words) {
-        Ok(command) => run_command(rt, alloc, &command, streams, watch),
-        Err(refusal) => refuse(&refusal, &mut streams.writer, &mut streams.errors),
+    let host = Host { rt, alloc, watch };
+    let Streams {
+        source,
+        writer,
+        errors,
+    } = streams;
+    run_words(&host, words, source, writer, errors)
+}
+
+// Does what the words ask for, over these devices.
+fn run_words<R: Threads + Wait + AllocGlobal + Sync, S: Source, W: Sink, E: Sink, V: Watch>(
+    host: &Host<'_, R, V>,
+    words: &[String],
+    source: &mut S,
+    writer: &mut W,
+    errors: &mut E,
+) -> u8
+    requires source_works { S.has_failed source.old ≡ false }
+    requires writer_works { W.has_failed writer.old ≡ false }
+    requires errors_work { E.has_failed errors.old ≡ false }
+    ensures outcome { (read : Result Asked Refusal)
+        × IsReadAsCommand (map (λ word. string_bytes word) words.now) read
+        × ProgramOutcome (input S.Source source.old source.new)
+        (output W.Sink writer.old writer.new)
+        (output E.Sink errors.old errors.new) read result }
+{
+    match read_command(host.alloc, words) {
+        Ok(command) => carry_out(host, &command, source, writer, errors),
+        Err(refusal) => refuse(&refusal, writer, errors),
     }
 }
 

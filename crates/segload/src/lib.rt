@@ -14,6 +14,5 @@ mod worker;
 pub use fault::LoadFault;
 pub use gate::{Gate, OpenGate};
 pub use laws::one_pass_is_modelled;
-pub use load::run_crowd;
-pub use plan::Plan;
+pub use load::{run_crowd, run_load};
 pub use totals::{PassTotals, Recycled, Tallies, Totals};

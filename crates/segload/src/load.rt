@@ -1,5 +1,5 @@
 //! How a load is run: a thread for each pass.
-ghost use Rattle.std.specs.Prelude.{◌≡◌, List, None, IfOk, IfErr, IfSome, vec_len};
+ghost use Rattle.std.specs.Prelude.{◌≡◌, ◌≤◌, List, None, IfOk, IfErr, IfSome, vec_len};
 ghost use Rattle.std.specs.Int.NonZero.{non_zero_u32_get};
 ghost use Rattle.std.specs.Thread.{IsSync};
 ghost use Rattle.segmodel.specs.declared.entry.Entry.{Entry};
@@ -17,6 +17,7 @@ use crate::plan::Plan;
 use crate::totals::{PassTotals, Totals};
 use crate::worker::Worker;
 use segindex::{Index, Pass};
+use segpolicy::Workload;
 use segword::Shape;
 use std::alloc::{AllocError, AllocGlobal, Global};
 use std::sync::Wait;
@@ -165,12 +166,8 @@ fn count_keys(alloc: Global, index: Index, passes: Vec<Pass>) -> Option<u32>
     Some(content.len() as u32)
 }
 
-/// Runs a load on a new index: each pass makes the commands of the plan.
-/// The totals count how the commands were answered.
-///
-/// The call waits for its threads, one for each pass. Its contract holds if it returns.
-/// The contract doesn't cover threads, or how often the gate is asked. Tests do.
-pub fn run_crowd<R: Threads + Wait + AllocGlobal + Sync, G: Gate>(
+// Runs a load on a new index: each pass makes the commands of the plan.
+fn run_plan<R: Threads + Wait + AllocGlobal + Sync, G: Gate>(
     rt: &R,
     alloc: Global,
     shape: Shape,
@@ -208,4 +205,48 @@ pub fn run_crowd<R: Threads + Wait + AllocGlobal + Sync, G: Gate>(
         passes: ended.totals,
         keys: standing,
     })
+}
+
+/// Runs a load on a new index: each pass makes so many commands, drawn with the seed over `keys` keys.
+/// There is at least one key. The totals count how the commands were answered.
+///
+/// The call waits for its threads, one for each pass. Its contract holds if it returns.
+/// The contract doesn't cover threads, or how often the gate is asked. Tests do.
+pub fn run_crowd<R: Threads + Wait + AllocGlobal + Sync, G: Gate>(
+    rt: &R,
+    alloc: Global,
+    shape: Shape,
+    seed: u64,
+    commands: u32,
+    keys: u32,
+    gate: &G,
+) -> Result<Totals, LoadFault>
+    requires some { 1 ≤ keys }
+    ensures load { IfOk result (IsLoad shape seed keys commands) }
+    ensures let_through { IfOk result (λ _. IsLetThrough shape commands (G.may_answer gate.now)) }
+    ensures told { IfOk result (λ _. IsToldOfAll shape commands (G.told gate.now)) }
+    ensures fault { IfErr result (IsLoadFault shape commands
+        (G.may_answer gate.now) (G.told gate.now)) }
+{
+    run_plan(rt, alloc, shape, Plan::new(seed, commands, keys), gate)
+}
+
+/// Runs a load over the 64 keys `k0` to `k63`, as `run_crowd` does.
+///
+/// The call waits for its threads, one for each pass. Its contract holds if it returns.
+pub fn run_load<R: Threads + Wait + AllocGlobal + Sync, G: Gate>(
+    rt: &R,
+    alloc: Global,
+    shape: Shape,
+    seed: u64,
+    commands: u32,
+    gate: &G,
+) -> Result<Totals, LoadFault>
+    ensures load { IfOk result (IsLoad shape seed 64 commands) }
+    ensures let_through { IfOk result (λ _. IsLetThrough shape commands (G.may_answer gate.now)) }
+    ensures told { IfOk result (λ _. IsToldOfAll shape commands (G.told gate.now)) }
+    ensures fault { IfErr result (IsLoadFault shape commands
+        (G.may_answer gate.now) (G.told gate.now)) }
+{
+    run_crowd(rt, alloc, shape, seed, commands, Workload::KEYS, gate)
 }

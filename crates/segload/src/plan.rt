@@ -1,5 +1,5 @@
 //! What the passes of a load are to do.
-ghost use Rattle.std.specs.Prelude.{◌≡◌};
+ghost use Rattle.std.specs.Prelude.{◌≡◌, ◌≤◌};
 ghost use Rattle.std.specs.Int.NonZero.{non_zero_u32_get};
 
 use segpolicy::Workload;
@@ -7,25 +7,25 @@ use std::num::NonZeroU32;
 
 /// So many commands for each pass, over so many keys, drawn with this seed.
 #[derive(Clone, Copy, Debug)]
-pub struct Plan {
-    pub seed: u64,
-    pub commands: u32,
-    pub keys: NonZeroU32,
+pub(crate) struct Plan {
+    pub(crate) seed: u64,
+    pub(crate) commands: u32,
+    pub(crate) keys: NonZeroU32,
 }
 
 impl Plan {
     ghost use Rattle.segload.specs.Working.{draws_for};
 
-    /// A load over 64 keys.
-    pub fn new(seed: u64, commands: u32) -> Plan
+    pub(crate) fn new(seed: u64, commands: u32, keys: u32) -> Plan
+        requires { 1 ≤ keys }
         ensures seed { result.seed ≡ seed }
         ensures commands { result.commands ≡ commands }
-        ensures keys { non_zero_u32_get result.keys ≡ 64 }
+        ensures keys { non_zero_u32_get result.keys ≡ keys }
     {
         Plan {
             seed,
             commands,
-            keys: NonZeroU32::new(Workload::KEYS).unwrap(),
+            keys: NonZeroU32::new(keys).unwrap(),
         }
     }
 

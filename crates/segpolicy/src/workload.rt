@@ -32,7 +32,7 @@ impl Workload {
 
     /// The commands of a pass over the keys `k0` to `k63`.
     pub fn new(seed: u64, pass: u32) -> Workload
-        ensures { result ≡ draws_of seed pass 64 }
+        ensures { result ≡ draws_of seed pass Workload.KEYS }
     {
         Workload::with_keys(seed, pass, Self::KEYS)
     }

@@ -2,7 +2,7 @@
 use crate::hoard::{RUNS, STEP, hoard, leave};
 use crate::same::same;
 use segindex::MakeFault;
-use segload::{Gate, LoadFault, Plan, Totals, run_crowd};
+use segload::{Gate, LoadFault, Totals, run_crowd, run_load};
 use segword::Shape;
 use std::alloc::{AllocError, AllocGlobal, Global};
 use std::num::NonZeroU32;
@@ -22,6 +22,8 @@ const SHAPE: Shape = Shape {
     rows: 1,
     first_version: 0,
 };
+
+const SEED: u64 = 7;
 
 const COMMANDS: u32 = 50;
 
@@ -115,11 +117,10 @@ fn load<R: Threads + Wait + AllocGlobal + Sync>(
     keys: Option<NonZeroU32>,
     gate: &Counter,
 ) -> Result<Totals, LoadFault> {
-    let mut plan = Plan::new(7, COMMANDS);
-    if let Some(keys) = keys {
-        plan.keys = keys;
+    match keys {
+        Some(keys) => run_crowd(rt, rt.alloc(), SHAPE, SEED, COMMANDS, keys.get(), gate),
+        None => run_load(rt, rt.alloc(), SHAPE, SEED, COMMANDS, gate),
     }
-    run_crowd(rt, rt.alloc(), SHAPE, plan, gate)
 }
 
 // How many runs were refused, by how many of their passes ran to their end.

@@ -1,6 +1,6 @@
 //! The program out of memory: each request is refused in turn, those of its command line among them.
 use crate::hoard::{RUNS, STEP, hoard, leave};
-use segcli::{Streams, run_program};
+use segcli::run_program;
 use segscript::{MemSink, MemSource};
 use std::alloc::{AllocError, AllocGlobal, Global};
 use std::process::Abort;
@@ -37,25 +37,27 @@ fn is_refused<R: Threads + Wait + AllocGlobal + Abort + Sync>(
     bytes: Option<usize>,
 ) -> bool {
     let list = words_of(rt.alloc(), words).expect(rt, "memory");
-    let mut streams = Streams {
-        source: MemSource::new(input_of(words)),
-        writer: MemSink::new(rt.alloc(), 10_000).expect(rt, "memory"),
-        errors: MemSink::new(rt.alloc(), 10_000).expect(rt, "memory"),
-    };
+    let mut source = MemSource::new(input_of(words));
+    let mut writer = MemSink::new(rt.alloc(), 10_000).expect(rt, "memory");
+    let mut errors = MemSink::new(rt.alloc(), 10_000).expect(rt, "memory");
     let taken = match bytes {
         Some(bytes) => Some(leave(rt.alloc(), bytes).expect(rt, "memory")),
         None => None,
     };
-    let ended = run_program(rt, rt.alloc(), list.as_slice(), &mut streams);
+    let ended = run_program(
+        rt,
+        rt.alloc(),
+        list.as_slice(),
+        &mut source,
+        &mut writer,
+        &mut errors,
+    );
     drop(taken);
     if ended == status {
         return false;
     }
     let wanted = (3, b"out of memory\n".as_slice(), b"".as_slice());
-    let (written, printed) = (
-        streams.writer.taken.as_slice(),
-        streams.errors.taken.as_slice(),
-    );
+    let (written, printed) = (writer.taken.as_slice(), errors.taken.as_slice());
     assert_eq!(rt; (ended, printed, written), wanted, "{words:?}");
     true
 }

@@ -94,7 +94,12 @@ pub fn run_over<R: Threads + Wait + AllocGlobal + Abort + Sync, S: Source, W: Si
     requires errors_work { E.has_failed streams.old.errors ≡ false }
 {
     let words = words_of(rt.alloc(), words).expect(rt, "memory for words");
-    run_program(rt, rt.alloc(), words.as_slice(), streams)
+    let Streams {
+        source,
+        writer,
+        errors,
+    } = streams;
+    run_program(rt, rt.alloc(), words.as_slice(), source, writer, errors)
 }
 
 fn reader_of(script: &[u8], good: Option<usize>) -> MemSource<'_>

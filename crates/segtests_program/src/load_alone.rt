@@ -1,10 +1,10 @@
 //! A load of one pass counts what a plain loop over the same commands counts.
 ghost use Rattle.std.specs.Prelude.{◌≡◌, ◌<◌, ◌≤◌, ◌^◌};
 
-use crate::load_runs::{SHAPE, run, run_over};
+use crate::load_runs::{SEED, SHAPE, run, run_over};
 use crate::same::{check_that, same};
 use segindex::IndexStats;
-use segload::{OpenGate, PassTotals, Plan, Recycled, Tallies, Totals};
+use segload::{OpenGate, PassTotals, Recycled, Tallies, Totals};
 use segmodel::{
     Answer, Command, DeleteAnswer, EvictAnswer, GetAnswer, GetsAnswer, RefillAnswer, Request,
     WriteAnswer,
@@ -13,16 +13,12 @@ use segpolicy::{Kind, Load, Ring, Workload};
 use segsolo::Solo;
 use segword::Shape;
 use std::alloc::{AllocGlobal, Global};
-use std::num::NonZeroU32;
 use std::process::Abort;
 use std::sync::Wait;
 use std::thread::Threads;
 
 // The moment of each command.
 const MOMENT: u32 = 0;
-
-// The seed of a load.
-const SEED: u64 = 7;
 
 // Each segment has rows enough for a while. The number of segments is even,
 // so that a load which skipped each second segment would leave some out.
@@ -144,17 +140,18 @@ struct PlainRun {
 }
 
 // What a plain loop counts over the commands of pass 0 of so many keys, and how many of these stand then.
-fn plain_loop(alloc: Global, shape: Shape, plan: Plan) -> Option<PlainRun>
+fn plain_loop(alloc: Global, shape: Shape, commands: u32, keys: u32) -> Option<PlainRun>
+    requires keys { 1 ≤ keys }
     requires one_pass { shape.passes ≡ 1 }
     requires some { (1 ≤ shape.segments_each) × (shape.segments_each < 2 ^ 32) }
 {
     let mut solo = Solo::new(alloc, shape).ok()?;
-    let mut workload = Workload::with_keys(plan.seed, 0, plan.keys.get());
+    let mut workload = Workload::with_keys(SEED, 0, keys);
     let mut segments = Ring::new(0, shape.segments_each);
     let mut version = 0;
     let mut counts = [0u32; PLACES];
     let mut recycled = Recycled::new();
-    for _ in 0..plan.commands {
+    for _ in 0..commands {
         let command = command_of(workload.next(), version);
         let answer = serve(&mut solo, &mut segments, &command, &mut recycled);
         if let Answer::Gets(GetsAnswer::Found(_, found)) = &answer {
@@ -163,11 +160,11 @@ fn plain_loop(alloc: Global, shape: Shape, plan: Plan) -> Option<PlainRun>
         let place = place_of(&answer);
         counts[place] = counts[place].saturating_add(1);
     }
-    let again = Workload::with_keys(plan.seed, 0, plan.keys.get());
+    let again = Workload::with_keys(SEED, 0, keys);
     Some(PlainRun {
         counts,
         recycled,
-        keys: keys_of(&mut solo, again, plan.commands),
+        keys: keys_of(&mut solo, again, commands),
     })
 }
 
@@ -195,24 +192,15 @@ fn counts_as_plain<R: Threads + Wait + AllocGlobal + Abort + Sync>(
     commands: u32,
     keys: u32,
 )
+    requires keys { 1 ≤ keys }
     requires one_pass { shape.passes ≡ 1 }
     requires some { (1 ≤ shape.segments_each) × (shape.segments_each < 2 ^ 32) }
 {
-    let plan = plan_of(rt, commands, keys);
-    let first = run_over(rt, shape, plan, &OpenGate).expect(rt, "totals");
-    let second = run_over(rt, shape, plan, &OpenGate).expect(rt, "totals");
+    let first = run_over(rt, shape, commands, keys, &OpenGate).expect(rt, "totals");
+    let second = run_over(rt, shape, commands, keys, &OpenGate).expect(rt, "totals");
     same(rt, &first, &second);
-    let plain = plain_loop(rt.alloc(), shape, plan).expect(rt, "an index");
+    let plain = plain_loop(rt.alloc(), shape, commands, keys).expect(rt, "an index");
     check_counts(rt, &first, &plain, commands);
-}
-
-/// A load of so many commands over so many keys.
-pub fn plan_of(rt: &impl Abort, commands: u32, keys: u32) -> Plan {
-    Plan {
-        seed: SEED,
-        commands,
-        keys: NonZeroU32::new(keys).expect(rt, "some keys"),
-    }
 }
 
 // Checks that the totals of one pass are what a plain loop came to, and that no command was busy.
@@ -261,13 +249,13 @@ fn a_load_is_over_any_number_of_keys(rt: HostRuntime) {
         counts_as_plain(&rt, WIDE, 2000, keys);
     }
     // Over one key each command finds what the one before it left.
-    let totals = run_over(&rt, WIDE, plan_of(&rt, 2000, 1), &OpenGate).expect(&rt, "totals");
+    let totals = run_over(&rt, WIDE, 2000, 1, &OpenGate).expect(&rt, "totals");
     check_that(&rt, totals.keys <= 1);
 }
 
 #[test]
 fn a_load_is_over_64_keys_where_nothing_is_said(rt: HostRuntime) {
-    let said = run_over(&rt, WIDE, plan_of(&rt, 500, 64), &OpenGate).expect(&rt, "totals");
+    let said = run_over(&rt, WIDE, 500, 64, &OpenGate).expect(&rt, "totals");
     let unsaid = run(&rt, WIDE, SEED, 500, &OpenGate).expect(&rt, "totals");
     same(&rt, &said, &unsaid);
 }

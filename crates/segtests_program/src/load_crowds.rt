@@ -1,5 +1,7 @@
 //! Crowds: four passes beside each other over one key, and over more keys than a cache of the machine has room for.
-use crate::load_alone::{counts_of, plan_of};
+ghost use Rattle.std.specs.Prelude.{◌≤◌};
+
+use crate::load_alone::counts_of;
 use crate::load_runs::{SHAPE, run_over};
 use crate::same::{check_that, same};
 use segload::OpenGate;
@@ -36,8 +38,10 @@ fn keys_of_crowd<R: Threads + Wait + AllocGlobal + Abort + Sync>(
     shape: Shape,
     commands: u32,
     keys: u32,
-) -> u32 {
-    let totals = run_over(rt, shape, plan_of(rt, commands, keys), &OpenGate).expect(rt, "totals");
+) -> u32
+    requires { 1 ≤ keys }
+{
+    let totals = run_over(rt, shape, commands, keys, &OpenGate).expect(rt, "totals");
     same(rt, &totals.passes.len(), &PASSES);
     let mut stored = 0u64;
     for pass in totals.passes.iter() {

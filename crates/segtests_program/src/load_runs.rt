@@ -1,6 +1,8 @@
 //! Loads as the tests run them.
-//! These functions have no contract, so that the proof of a test needn't read that of a load.
-use segload::{Gate, LoadFault, Plan, Totals, run_crowd};
+//! These functions ensure nothing, so that the proof of a test needn't read what a load ensures.
+ghost use Rattle.std.specs.Prelude.{◌≤◌};
+
+use segload::{Gate, LoadFault, Totals, run_crowd, run_load};
 use segword::Shape;
 use std::alloc::AllocGlobal;
 use std::sync::Wait;
@@ -16,6 +18,9 @@ pub const SHAPE: Shape = Shape {
     first_version: 0,
 };
 
+/// The seed of a load.
+pub const SEED: u64 = 7;
+
 /// Runs a load over 64 keys.
 pub fn run<R: Threads + Wait + AllocGlobal + Sync, G: Gate>(
     rt: &R,
@@ -24,15 +29,18 @@ pub fn run<R: Threads + Wait + AllocGlobal + Sync, G: Gate>(
     commands: u32,
     gate: &G,
 ) -> Result<Totals, LoadFault> {
-    run_crowd(rt, rt.alloc(), shape, Plan::new(seed, commands), gate)
+    run_load(rt, rt.alloc(), shape, seed, commands, gate)
 }
 
-/// Runs a load by a plan.
+/// Runs a load of so many commands over so many keys.
 pub fn run_over<R: Threads + Wait + AllocGlobal + Sync, G: Gate>(
     rt: &R,
     shape: Shape,
-    plan: Plan,
+    commands: u32,
+    keys: u32,
     gate: &G,
-) -> Result<Totals, LoadFault> {
-    run_crowd(rt, rt.alloc(), shape, plan, gate)
+) -> Result<Totals, LoadFault>
+    requires { 1 ≤ keys }
+{
+    run_crowd(rt, rt.alloc(), shape, SEED, commands, keys, gate)
 }

@@ -1,8 +1,6 @@
 -- The words of this crate that others use, from one place.
 use Rattle.std.specs.Prelude.{ℕ}
-use Rattle.segword.specs.declared.key.TheConstants.{KEY_BYTES}
 use Rattle.segword.specs.declared.row.TheConstants.{HEAD_WORDS, ROW_WORDS}
-use Rattle.segword.specs.declared.sizes.TheConstants.{MOST_KEYS}
 use Rattle.segword.specs.declared.value.TheConstants.{VALUE_BYTES, VALUE_WORDS}
 pub use Rattle.segword.specs.Bytes.{IsKey, IsValue}
 pub use Rattle.segword.specs.ChainWord.{chain_word, IsChainWord}
@@ -39,7 +37,7 @@ abbrev pub Shape : Type 0
 Shape = declared_shape.Shape
 
 -- How many words a row has, and how many of them come before the value's and have the value;
--- how many bytes a key and a value have at most; and the most keys that for_keys takes.
+-- and how many bytes a value has at most.
 abbrev pub row_width : ℕ
 row_width = ROW_WORDS
 
@@ -49,11 +47,5 @@ head_width = HEAD_WORDS
 abbrev pub value_width : ℕ
 value_width = VALUE_WORDS
 
-abbrev pub key_limit : ℕ
-key_limit = KEY_BYTES
-
 abbrev pub value_limit : ℕ
 value_limit = VALUE_BYTES
-
-abbrev pub most_keys : ℕ
-most_keys = MOST_KEYS

@@ -1,4 +1,4 @@
-use Rattle.segcli.proofs.command.run_command.Goals as goal
+use Rattle.segcli.proofs.command.carry_out.Goals as goal
 
 pub returns : goal.returns
-returns g c = record { outcome = (c.perform-end.new.streams.writer, c.perform-end.result, c.perform-end.ensures.outcome, rw (← c.perform-end.ensures.errors) c.conclude.ensures) }
+returns g c = record { outcome = (c.perform-end.new.writer, c.perform-end.result, c.perform-end.ensures, c.conclude.ensures) }

@@ -4,7 +4,7 @@ use Rattle.segword.specs.Words.{IsValid}
 use Rattle.segload.specs.Words.{Totals}
 use Rattle.segload.specs.Loads.{IsLoad, IsLetThrough, IsToldOfAll, IsStopped}
 use Rattle.segload.proofs.Loaded.{are_all, are_quiet, all_let_through, told_of_all, stopped_first, loaded}
-use Rattle.segload.proofs.load.run_crowd.Goals as goal
+use Rattle.segload.proofs.load.run_plan.Goals as goal
 
 pub returns-in-Some-clause-fault : goal.returns-in-Some-clause-fault
 returns-in-Some-clause-fault g c =
