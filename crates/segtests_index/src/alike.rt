@@ -199,12 +199,7 @@ impl Came {
 }
 
 // Serves a command by both caches, and returns what both answer.
-fn serve_both(
-    rt: &impl Abort,
-    plain: &mut Plain,
-    solo: &mut Solo,
-    command: &Command,
-) -> Answer {
+fn serve_both(rt: &impl Abort, plain: &mut Plain, solo: &mut Solo, command: &Command) -> Answer {
     let expected = plain.serve(command).expect(rt, "memory");
     let given = solo.serve(command).expect(rt, "memory");
     assert_eq!(rt; given, expected, "{command:?}");
