@@ -1,3 +1,4 @@
+use Rattle.std.proofs.Common.{Some}
 use Rattle.segindex.proofs.Refills.{refill_goes_on}
 use Rattle.segtests_words.proofs.calls.refill.Goals as goal
 
@@ -8,5 +9,5 @@ pub returns : goal.returns
 returns c =
     let r = c.refill.ensures in
     record {
-      quiet = (refill_goes_on c.args.board.now c.args.segment c.args.deadline c.refill.result c.args.pass.now c.refill.new.pass c.requires.quiet r.outcome r.segments).quiet;
+      quiet = (refill_goes_on c.args.board.now c.args.segment c.args.deadline (Some c.args.segment) c.refill.result c.args.pass.now c.refill.new.pass c.requires.quiet r.outcome r.segments).quiet;
     }
