@@ -6,7 +6,6 @@
  * Keys are drawn by Zipf's law with the exponent 0.99; a get that misses is not put. First each key is set once.
  * It prints one line of JSON: commands a second, hits, and how long a piece took, at the median and the 99th
  * percentile. */
-#define _GNU_SOURCE
 #include <arpa/inet.h>
 #include <math.h>
 #include <netinet/tcp.h>

@@ -1,0 +1,154 @@
+#include "listen.h"
+#include <errno.h>
+#include <fcntl.h>
+#include <netdb.h>
+#include <netinet/in.h>
+#include <poll.h>
+#include <stdio.h>
+#include <stdlib.h>
+#include <string.h>
+#include <sys/socket.h>
+#include <sys/stat.h>
+#include <sys/un.h>
+#include <unistd.h>
+
+enum { MOST_LISTENERS = sizeof((struct server *)NULL)->listeners / sizeof(int), PAUSE_MS = 10 };
+
+static const char too_many[] = "ERROR Too many open connections\r\n";
+
+static bool fault(const char *what, const char *why) {
+  fprintf(stderr, "segcache-server: to listen, %s: %s\n", what, why);
+  return false;
+}
+
+/* Takes a socket among the listeners once it is bound. */
+static bool listen_at(struct server *server, int socket, const struct sockaddr *address, socklen_t length,
+                      const char *what) {
+  if (server->listener_count == MOST_LISTENERS) return close(socket), fault(what, "too many addresses");
+  if (bind(socket, address, length) != 0 || listen(socket, (int)server->options.backlog) != 0)
+    return fault(what, strerror(errno)), close(socket), false;
+  server->listeners[server->listener_count++] = socket;
+  return true;
+}
+
+/* The port that the first listener has, for the others, if any free one will do. */
+static in_port_t port_of(const struct server *server) {
+  struct sockaddr_in6 address;
+  socklen_t length = sizeof address;
+  if (server->options.port != ANY_PORT) return htons((uint16_t)server->options.port);
+  if (server->listener_count == 0) return 0;
+  bool known = getsockname(server->listeners[0], (struct sockaddr *)&address, &length) == 0;
+  return known ? address.sin6_port : 0; /* it stands where that of an IPv4 address does */
+}
+
+static bool listen_name(struct server *server, const char *name) {
+  struct addrinfo wanted = {.ai_socktype = SOCK_STREAM, .ai_flags = AI_PASSIVE}, *found = NULL;
+  int status = getaddrinfo(name, NULL, &wanted, &found);
+  if (status != 0) return fault(name, gai_strerror(status));
+  bool listens = true;
+  for (struct addrinfo *it = found; it != NULL && listens; it = it->ai_next) {
+    if (it->ai_family != AF_INET && it->ai_family != AF_INET6) continue;
+    int made = socket(it->ai_family, SOCK_STREAM | SOCK_NONBLOCK | SOCK_CLOEXEC, 0);
+    if (made < 0) continue; /* a machine without IPv6 */
+    setsockopt(made, SOL_SOCKET, SO_REUSEADDR, &(int){1}, sizeof(int));
+    if (it->ai_family == AF_INET6) setsockopt(made, IPPROTO_IPV6, IPV6_V6ONLY, &(int){1}, sizeof(int));
+    if (it->ai_family == AF_INET) ((struct sockaddr_in *)(void *)it->ai_addr)->sin_port = port_of(server);
+    else ((struct sockaddr_in6 *)(void *)it->ai_addr)->sin6_port = port_of(server);
+    listens = listen_at(server, made, it->ai_addr, it->ai_addrlen, name);
+  }
+  freeaddrinfo(found);
+  return listens;
+}
+
+static bool listen_names(struct server *server) {
+  char *names = strdup(server->options.addresses), *rest = names;
+  bool listens = names != NULL;
+  for (char *name; listens && (name = strsep(&rest, ",")) != NULL;) listens = listen_name(server, name);
+  free(names);
+  return listens && (server->listener_count > 0 || fault(server->options.addresses, "no address"));
+}
+
+/* A file that was left behind by a server that is gone is taken away. Any other is left alone. */
+static bool listen_file(struct server *server) {
+  const char *path = server->options.socket_path;
+  struct sockaddr_un address = {.sun_family = AF_UNIX};
+  struct stat file;
+  if (strlen(path) >= sizeof address.sun_path) return fault(path, "the name is too long");
+  strcpy(address.sun_path, path);
+  int made = socket(AF_UNIX, SOCK_STREAM | SOCK_NONBLOCK | SOCK_CLOEXEC, 0);
+  if (made < 0) return fault(path, strerror(errno));
+  if (lstat(path, &file) == 0) {
+    bool in_use = !S_ISSOCK(file.st_mode) || connect(made, (struct sockaddr *)&address, sizeof address) == 0;
+    if (in_use || unlink(path) != 0) return close(made), fault(path, "the file is there and isn't a socket left over");
+  }
+  mode_t before = umask((mode_t)~server->options.socket_mode & 0777);
+  bool listens = listen_at(server, made, (struct sockaddr *)&address, sizeof address, path);
+  umask(before);
+  return listens;
+}
+
+bool listen_open(struct server *server) {
+  server->spare_descriptor = open("/dev/null", O_RDONLY | O_CLOEXEC);
+  return server->options.socket_path != NULL ? listen_file(server) : listen_names(server);
+}
+
+bool listen_tell_ports(const struct server *server) {
+  const char *path = getenv("MEMCACHED_PORT_FILENAME");
+  char beside[4096];
+  if (path == NULL || server->options.socket_path != NULL) return true;
+  if (snprintf(beside, sizeof beside, "%s.new", path) >= (int)sizeof beside) return fault(path, "the name is too long");
+  FILE *file = fopen(beside, "we");
+  if (file == NULL) return fault(beside, strerror(errno));
+  for (uint32_t i = 0; i < server->listener_count; i++) {
+    struct sockaddr_in6 address;
+    socklen_t length = sizeof address;
+    if (getsockname(server->listeners[i], (struct sockaddr *)&address, &length) == 0)
+      fprintf(file, "TCP %s: %u\n", address.sin6_family == AF_INET ? "INET" : "INET6", ntohs(address.sin6_port));
+  }
+  return (fclose(file) == 0 && rename(beside, path) == 0) || fault(path, strerror(errno));
+}
+
+/* Closes a connection that is one too many, with a line that says so. */
+static void turn_away(struct server *server, int socket) {
+  atomic_fetch_add(&server->rejected, 1);
+  ssize_t ignored = send(socket, too_many, sizeof too_many - 1, MSG_NOSIGNAL | MSG_DONTWAIT);
+  (void)ignored;
+  close(socket);
+}
+
+/* Where no descriptor is left, the spare one is given up for a moment, so that who comes is told. */
+static void turn_away_without_descriptor(struct server *server, int listener) {
+  if (server->spare_descriptor >= 0) close(server->spare_descriptor);
+  int socket = accept4(listener, NULL, NULL, SOCK_NONBLOCK | SOCK_CLOEXEC);
+  if (socket >= 0) turn_away(server, socket);
+  server->spare_descriptor = open("/dev/null", O_RDONLY | O_CLOEXEC);
+  if (server->spare_descriptor < 0) poll(NULL, 0, PAUSE_MS);
+}
+
+static void accept_one(struct server *server, int listener, uint32_t *turn) {
+  int socket = accept4(listener, NULL, NULL, SOCK_NONBLOCK | SOCK_CLOEXEC);
+  if (socket < 0) {
+    if (errno == EMFILE || errno == ENFILE) turn_away_without_descriptor(server, listener);
+    return;
+  }
+  atomic_fetch_add(&server->accepted, 1);
+  if (server->connections >= server->options.most_connections) turn_away(server, socket);
+  else worker_hand_over(&server->workers[(*turn)++ % server->options.threads], socket);
+}
+
+void listen_accept(struct server *server, int signals) {
+  struct pollfd waits[MOST_LISTENERS + 1] = {{.fd = signals, .events = POLLIN}};
+  for (uint32_t i = 0; i < server->listener_count; i++)
+    waits[i + 1] = (struct pollfd){.fd = server->listeners[i], .events = POLLIN};
+  for (uint32_t turn = 0; waits[0].revents == 0;) {
+    if (poll(waits, server->listener_count + 1, -1) < 0) continue;
+    for (uint32_t i = 0; i < server->listener_count; i++)
+      if (waits[i + 1].revents != 0) accept_one(server, server->listeners[i], &turn);
+  }
+}
+
+void listen_close(struct server *server) {
+  for (uint32_t i = 0; i < server->listener_count; i++) close(server->listeners[i]);
+  if (server->spare_descriptor >= 0) close(server->spare_descriptor);
+  if (server->listener_count > 0 && server->options.socket_path != NULL) unlink(server->options.socket_path);
+}

@@ -1,0 +1,121 @@
+/* A cache server that takes memcached's place. README.md says what it serves. */
+#include "clock.h"
+#include "listen.h"
+#include <errno.h>
+#include <fcntl.h>
+#include <grp.h>
+#include <pwd.h>
+#include <signal.h>
+#include <stdio.h>
+#include <stdlib.h>
+#include <string.h>
+#include <sys/resource.h>
+#include <sys/signalfd.h>
+#include <unistd.h>
+
+enum { OTHER_DESCRIPTORS = 300 }; /* those of workers, listeners and the library */
+
+static bool fault(const char *what, const char *why) {
+  fprintf(stderr, "segcache-server: %s: %s\n", what, why);
+  return false;
+}
+
+/* Asks for as many descriptors as the connections need. Without them those that are too many are turned away. */
+static void raise_descriptors(const struct options *options) {
+  struct rlimit limit;
+  rlim_t wanted = (rlim_t)options->most_connections + OTHER_DESCRIPTORS;
+  if (getrlimit(RLIMIT_NOFILE, &limit) != 0 || limit.rlim_cur >= wanted) return;
+  limit.rlim_cur = limit.rlim_max < wanted ? limit.rlim_max : wanted;
+  if (setrlimit(RLIMIT_NOFILE, &limit) != 0 || limit.rlim_cur < wanted)
+    fprintf(stderr, "segcache-server: -c %u: only %llu descriptors may be had\n", options->most_connections,
+            (unsigned long long)limit.rlim_cur);
+}
+
+/* Takes the rights of another user, if root is to give its own up. */
+static bool become_user(const char *name) {
+  if (name == NULL || geteuid() != 0) return true;
+  const struct passwd *user = getpwnam(name);
+  if (user == NULL) return fault(name, "there is no such user");
+  if (setgroups(0, NULL) != 0 || setgid(user->pw_gid) != 0 || setuid(user->pw_uid) != 0)
+    return fault(name, strerror(errno));
+  return true;
+}
+
+/* Goes on in the background. The parent ends well. */
+static bool become_daemon(void) {
+  pid_t child = fork();
+  if (child < 0) return fault("-d", strerror(errno));
+  if (child > 0) _exit(0);
+  int null = open("/dev/null", O_RDWR | O_CLOEXEC);
+  if (setsid() < 0 || null < 0) return fault("-d", strerror(errno));
+  for (int i = 0; i < 3; i++) dup2(null, i);
+  close(null);
+  return true;
+}
+
+static bool write_pid(const char *path) {
+  if (path == NULL) return true;
+  FILE *file = fopen(path, "we");
+  if (file == NULL) return fault(path, strerror(errno));
+  fprintf(file, "%ld\n", (long)getpid());
+  return fclose(file) == 0 || fault(path, strerror(errno));
+}
+
+/* SIGINT and SIGTERM end the server. SIGPIPE comes of a reply to who is gone, and SIGHUP of a terminal that is. */
+static int catch_signals(void) {
+  sigset_t ends;
+  sigemptyset(&ends);
+  sigaddset(&ends, SIGINT);
+  sigaddset(&ends, SIGTERM);
+  signal(SIGPIPE, SIG_IGN);
+  pthread_sigmask(SIG_BLOCK, &ends, NULL);
+  return signalfd(-1, &ends, SFD_CLOEXEC);
+}
+
+static bool open_store(struct server *server) {
+  const struct options *options = &server->options;
+  static struct store_client clients[STORE_MOST_CLIENTS];
+  struct store_plan plan = {options_keys(options), options->threads, options->time_to_live, options->keep_from};
+  const char *why = store_open(&server->store, &plan, clients);
+  if (why != NULL) return fault("the cache can't be opened", why);
+  for (uint32_t i = 0; i < options->threads; i++) server->workers[i].client = clients[i];
+  if (options->keys == 0 && (uint64_t)options->megabytes * 1024 * 1024 / STORE_BYTES_A_KEY > STORE_MOST_KEYS)
+    fprintf(stderr, "segcache-server: -m %u: the library has room for %d keys, which is %d MiB; the rest isn't used\n",
+            options->megabytes, STORE_MOST_KEYS, STORE_MOST_KEYS / (1024 * 1024 / STORE_BYTES_A_KEY));
+  return true;
+}
+
+static bool close_store(struct server *server) {
+  static struct store_client clients[STORE_MOST_CLIENTS];
+  for (uint32_t i = 0; i < server->options.threads; i++) clients[i] = server->workers[i].client;
+  return store_close(&server->store, clients);
+}
+
+/* Serves until a signal comes. */
+static bool run(struct server *server, int signals) {
+  uint32_t started = 0, threads = server->options.threads;
+  while (started < threads && worker_start(server, &server->workers[started])) started++;
+  if (started == threads) listen_accept(server, signals);
+  else fault("a thread can't be had", strerror(errno));
+  for (uint32_t i = 0; i < started; i++) worker_stop(&server->workers[i]);
+  return started == threads;
+}
+
+int main(int count, char **words) {
+  static struct server server;
+  static struct worker workers[STORE_MOST_CLIENTS];
+  enum reading reading = options_read(&server.options, count, words);
+  if (reading != RUN) return reading == SHOWN ? 0 : 64;
+  server.workers = workers;
+  server.verbosity = server.options.verbosity;
+  clock_begin();
+  raise_descriptors(&server.options);
+  bool ran = listen_open(&server) && become_user(server.options.user) && open_store(&server);
+  if (!ran) return listen_close(&server), 71;
+  int signals = -1;
+  ran = (!server.options.daemon || become_daemon()) && write_pid(server.options.pid_file) &&
+        (signals = catch_signals()) >= 0 && listen_tell_ports(&server) && run(&server, signals);
+  listen_close(&server);
+  if (server.options.pid_file != NULL) unlink(server.options.pid_file);
+  return close_store(&server) && ran ? 0 : 1;
+}

@@ -1,0 +1,191 @@
+#include "options.h"
+#include "items.h"
+#include "words.h"
+#include <getopt.h>
+#include <limits.h>
+#include <stdio.h>
+#include <stdlib.h>
+#include <string.h>
+
+enum { USUAL_ITEM = 1024 * 1024 };                                      /* bytes, without -I */
+enum { KEYS = UCHAR_MAX + 1, TIME_TO_LIVE, KEEP_FROM, IDLE_TIMEOUT }; /* options without a letter */
+
+static const char letters[] = ":p:s:a:l:dP:u:m:c:t:b:R:I:B:U:o:hVvACF";
+
+static const struct option names[] = {
+    {"port", required_argument, NULL, 'p'},
+    {"unix-socket", required_argument, NULL, 's'},
+    {"unix-mask", required_argument, NULL, 'a'},
+    {"listen", required_argument, NULL, 'l'},
+    {"daemon", no_argument, NULL, 'd'},
+    {"pidfile", required_argument, NULL, 'P'},
+    {"user", required_argument, NULL, 'u'},
+    {"memory-limit", required_argument, NULL, 'm'},
+    {"conn-limit", required_argument, NULL, 'c'},
+    {"threads", required_argument, NULL, 't'},
+    {"listen-backlog", required_argument, NULL, 'b'},
+    {"max-reqs-per-event", required_argument, NULL, 'R'},
+    {"max-item-size", required_argument, NULL, 'I'},
+    {"protocol", required_argument, NULL, 'B'},
+    {"udp-port", required_argument, NULL, 'U'},
+    {"extended", required_argument, NULL, 'o'},
+    {"help", no_argument, NULL, 'h'},
+    {"version", no_argument, NULL, 'V'},
+    {"verbose", no_argument, NULL, 'v'},
+    {"enable-shutdown", no_argument, NULL, 'A'},
+    {"disable-cas", no_argument, NULL, 'C'},
+    {"disable-flush-all", no_argument, NULL, 'F'},
+    {"keys", required_argument, NULL, KEYS},
+    {"time-to-live", required_argument, NULL, TIME_TO_LIVE},
+    {"keep-from", required_argument, NULL, KEEP_FROM},
+    {"idle_timeout", required_argument, NULL, IDLE_TIMEOUT},
+    {NULL, 0, NULL, 0},
+};
+
+static const char help[] =
+    "segcache-server " SERVER_VERSION ": serves memcached's text and meta protocols\n"
+    "-p, --port=NUMBER             port (11211); 0: none, -1: any free one\n"
+    "-l, --listen=ADDRESSES        addresses or names, with commas between them (127.0.0.1)\n"
+    "-s, --unix-socket=FILE        a UNIX socket in place of a port\n"
+    "-a, --unix-mask=MODE          access to the UNIX socket, in octal (700)\n"
+    "-m, --memory-limit=MEGABYTES  memory for items, all taken at the start (64)\n"
+    "-I, --max-item-size=SIZE      largest item; with k or m behind it, in KiB or MiB (1m, or half of -m)\n"
+    "-t, --threads=NUMBER          worker threads, 1 to 64 (4)\n"
+    "-c, --conn-limit=NUMBER       connections at a time (1024)\n"
+    "-b, --listen-backlog=NUMBER   connections that wait to be accepted (1024)\n"
+    "-R, --max-reqs-per-event=N    commands of a connection before its worker looks at others (256)\n"
+    "-o, --extended=idle_timeout=SECONDS, or --idle_timeout=SECONDS\n"
+    "                              closes connections that were silent for so long\n"
+    "-d, --daemon                  runs in the background\n"
+    "-P, --pidfile=FILE            writes the number of the process\n"
+    "-u, --user=NAME               whose rights to take, if root starts it\n"
+    "-A, --enable-shutdown         the command shutdown ends the server\n"
+    "-C, --disable-cas             flush_all also takes what is stored in the same second\n"
+    "-F, --disable-flush-all       refuses flush_all\n"
+    "-B, --protocol=auto|ascii     the text protocol, either way\n"
+    "-U, --udp-port=0              there is no UDP\n"
+    "-v, --verbose                 tells of errors on standard error; twice: of commands too\n"
+    "-V, --version; -h, --help\n"
+    "    --keys=NUMBER             room for so many keys, whatever -m says\n"
+    "    --time-to-live=SECONDS    the most that any item lives\n"
+    "    --keep-from=FREQUENCY     keeps items that were read so often, or nothing with 0\n"
+    "When environment has MEMCACHED_PORT_FILENAME, that file gets the ports.\n";
+
+/* Says what is wrong with an option. */
+static enum reading bad(const char *name, const char *why) {
+  fprintf(stderr, "segcache-server: %s: %s\n", name, why);
+  return BAD;
+}
+
+/* A number from `least` to `most`. False, and said, if the text is something else. */
+static bool number(const char *name, const char *text, uint64_t least, uint64_t most, uint32_t *to) {
+  uint64_t read;
+  if (read_number((struct word){text, strlen(text)}, most, &read) && read >= least) {
+    *to = (uint32_t)read;
+    return true;
+  }
+  fprintf(stderr, "segcache-server: %s: needs a number from %llu to %llu, and not \"%s\"\n", name,
+          (unsigned long long)least, (unsigned long long)most, text);
+  return false;
+}
+
+static bool port(const char *text, int32_t *to) {
+  uint32_t read;
+  if (strcmp(text, "-1") == 0) return *to = ANY_PORT, true;
+  if (!number("-p", text, 0, UINT16_MAX, &read)) return false;
+  *to = (int32_t)read;
+  return true;
+}
+
+static bool item_size(const char *text, uint32_t *to) {
+  size_t length = strlen(text);
+  uint64_t unit = 1, read;
+  if (length > 0 && strchr("kK", text[length - 1]) != NULL) unit = 1024, length--;
+  else if (length > 0 && strchr("mM", text[length - 1]) != NULL) unit = 1024 * 1024, length--;
+  if (!read_number((struct word){text, length}, UINT32_MAX / unit, &read) || read * unit < 1024)
+    return bad("-I", "an item's size is at least 1024, as in -I 1024, -I 512k or -I 1m"), false;
+  *to = (uint32_t)(read * unit);
+  return true;
+}
+
+/* -o: memcached's idle_timeout. Its others are about what this server doesn't have. */
+static bool extended(struct options *options, char *text) {
+  char *const known[] = {(char[]){"idle_timeout"}, NULL};
+  for (char *value; *text != '\0';) {
+    if (getsubopt(&text, known, &value) != 0 || value == NULL)
+      return bad("-o", "only idle_timeout=SECONDS is known"), false;
+    if (!number("-o idle_timeout", value, 0, INT32_MAX, &options->idle_seconds)) return false;
+  }
+  return true;
+}
+
+static bool mode(const char *text, uint32_t *to) {
+  char *end;
+  unsigned long read = strtoul(text, &end, 8);
+  if (*text == '\0' || *end != '\0' || read > 0777) return bad("-a", "needs access bits in octal, as 700"), false;
+  *to = (uint32_t)read;
+  return true;
+}
+
+/* One option with an argument, or a flag. */
+static bool take(struct options *options, int option, char *argument) {
+  switch (option) {
+  case 'p': return port(argument, &options->port);
+  case 's': return options->socket_path = argument, true;
+  case 'a': return mode(argument, &options->socket_mode);
+  case 'l': return options->addresses = argument, true;
+  case 'd': return options->daemon = true;
+  case 'P': return options->pid_file = argument, true;
+  case 'u': return options->user = argument, true;
+  case 'm': return number("-m", argument, 1, UINT32_MAX, &options->megabytes);
+  case 'c': return number("-c", argument, 1, INT32_MAX, &options->most_connections);
+  case 't': return number("-t", argument, 1, STORE_MOST_CLIENTS, &options->threads);
+  case 'b': return number("-b", argument, 1, INT32_MAX, &options->backlog);
+  case 'R': return number("-R", argument, 1, INT32_MAX, &options->commands_a_turn);
+  case 'I': return item_size(argument, &options->most_item);
+  case 'o': return extended(options, argument);
+  case 'v': return options->verbosity++, true;
+  case 'A': return options->may_shut_down = true;
+  case 'C': return options->no_unique = true;
+  case 'F': return options->no_flush = true;
+  case KEYS: return number("--keys", argument, 1, STORE_MOST_KEYS, &options->keys);
+  case TIME_TO_LIVE: return number("--time-to-live", argument, 1, INT32_MAX, &options->time_to_live);
+  case KEEP_FROM: return number("--keep-from", argument, 0, UCHAR_MAX, &options->keep_from);
+  case IDLE_TIMEOUT: return number("--idle_timeout", argument, 0, INT32_MAX, &options->idle_seconds);
+  case 'U': return strcmp(argument, "0") == 0 || bad("-U", "there is no UDP: only -U 0") != BAD;
+  case 'B':
+    if (strcmp(argument, "auto") != 0 && strcmp(argument, "ascii") != 0)
+      return bad("-B", "only the text protocol is served: -B auto or -B ascii"), false;
+    return options->protocol = *argument == 'a' && argument[1] == 's' ? "ascii" : "auto-negotiate", true;
+  default: return false;
+  }
+}
+
+enum reading options_read(struct options *options, int count, char **words) {
+  *options = (struct options){.addresses = "127.0.0.1", .socket_mode = 0700, .port = 11211, .megabytes = 64,
+                              .threads = 4, .most_connections = 1024, .backlog = 1024, .commands_a_turn = 256,
+                              .keep_from = STORE_BY_QUEUES, .protocol = "auto-negotiate"};
+  for (int option; (option = getopt_long(count, words, letters, names, NULL)) != -1;) {
+    if (option == ':') return bad(words[optind - 1], "needs an argument; -h shows them all");
+    if (option == '?') return bad(words[optind - 1], "isn't known; -h shows those that are");
+    if (option == 'h') return fputs(help, stdout), SHOWN;
+    if (option == 'V') return puts("segcache-server " SERVER_VERSION), SHOWN;
+    if (!take(options, option, optarg)) return BAD;
+  }
+  if (optind < count) return bad(words[optind], "isn't an option; -h shows them");
+  uint64_t half = (uint64_t)options->megabytes * 1024 * 512;
+  if (options->most_item > half) return bad("-I", "an item has half of -m at most");
+  if (options->most_item == 0) options->most_item = half < USUAL_ITEM ? (uint32_t)half : USUAL_ITEM;
+  if (options->socket_path == NULL && options->port == NO_PORT) return bad("-p 0", "needs a socket by -s");
+  return RUN;
+}
+
+uint32_t options_keys(const struct options *options) {
+  uint64_t keys = options->keys > 0 ? options->keys : (uint64_t)options->megabytes * 1024 * 1024 / STORE_BYTES_A_KEY;
+  return keys < STORE_MOST_KEYS ? (uint32_t)keys : STORE_MOST_KEYS;
+}
+
+uint32_t options_most_data(const struct options *options, uint32_t key_length) {
+  uint32_t around = key_length + HEADER, most = options->most_item < around ? 0 : options->most_item - around;
+  return most < MOST_DATA ? most : MOST_DATA;
+}

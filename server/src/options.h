@@ -1,0 +1,41 @@
+/* The options of the command line: memcached's names, where this server has the thing. */
+#ifndef OPTIONS_H
+#define OPTIONS_H
+
+#include <stdbool.h>
+#include <stdint.h>
+
+#define SERVER_VERSION "1.6.0-segcache"
+
+enum { ANY_PORT = -1, NO_PORT = 0 };
+
+struct options {
+  const char *addresses;   /* names or numbers, with commas between them */
+  const char *socket_path; /* of a UNIX socket in place of the addresses, or NULL */
+  uint32_t socket_mode;    /* its access bits */
+  int32_t port;            /* or ANY_PORT or NO_PORT */
+  uint32_t megabytes, threads, most_connections, backlog;
+  uint32_t commands_a_turn; /* of one connection, before its worker looks at the others */
+  uint32_t idle_seconds;    /* after which a connection is closed; 0: never */
+  uint32_t most_item;       /* bytes of key, header and data */
+  uint32_t verbosity;
+  uint32_t keys;         /* that there is to be room for; 0: as many as the megabytes hold */
+  uint32_t time_to_live; /* the most seconds that an item lives; 0: until it is evicted */
+  uint32_t keep_from;    /* STORE_BY_QUEUES, or the frequency from which on items are kept */
+  bool daemon, may_shut_down, no_flush, no_unique;
+  const char *pid_file, *user;
+  const char *protocol; /* as it was given: "auto-negotiate" or "ascii" */
+};
+
+enum reading { RUN, SHOWN /* what was asked for; the program ends well */, BAD };
+
+/* Reads the options. What is bad is said on standard error, in one line. */
+enum reading options_read(struct options *options, int count, char **words);
+
+/* For how many keys a store is opened: at most as many as the library has room for. */
+uint32_t options_keys(const struct options *options);
+
+/* The data of an item is no longer than this, with a key of so many bytes. */
+uint32_t options_most_data(const struct options *options, uint32_t key_length);
+
+#endif

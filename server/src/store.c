@@ -1,0 +1,109 @@
+#include "store.h"
+#include <time.h>
+
+enum {
+  TRIES = 64,       /* of a call that is Busy */
+  PAUSE_NS = 50000, /* before each but the first, so that a preempted thread goes on */
+};
+
+static bool once_more(int *tries) {
+  if (*tries > 0) nanosleep(&(struct timespec){.tv_nsec = PAUSE_NS}, NULL);
+  return (*tries)++ < TRIES;
+}
+
+static enum store_status status_of(uint32_t status) {
+  switch (status) {
+  case SEGCACHE_OK: return STORE_OK;
+  case SEGCACHE_MISS:
+  case SEGCACHE_NOT_FOUND: return STORE_ABSENT;
+  case SEGCACHE_NOT_STORED: return STORE_PRESENT;
+  case SEGCACHE_EXISTS: return STORE_CHANGED;
+  case SEGCACHE_BUSY: return STORE_BUSY;
+  default: return STORE_FULL;
+  }
+}
+
+const char *store_open(struct store *store, const struct store_plan *plan, struct store_client *clients) {
+  segcache_client opened[STORE_MOST_CLIENTS];
+  if (plan->clients < 1 || plan->clients > STORE_MOST_CLIENTS) return "a store has 1 to 64 clients";
+  uint32_t status = segcache_open(plan->keys, plan->clients, &store->cache, opened);
+  if (status != SEGCACHE_OK) return segcache_text(status);
+  store->plan = *plan;
+  for (uint32_t i = 0; i < plan->clients; i++) {
+    clients[i] = (struct store_client){.client = opened[i], .plan = *plan};
+    if (plan->time_to_live > 0) segcache_set_time_to_live(&clients[i].client, plan->time_to_live);
+    if (plan->keep_from != STORE_BY_QUEUES) segcache_keep_from(&clients[i].client, plan->keep_from);
+  }
+  return NULL;
+}
+
+bool store_close(struct store *store, struct store_client *clients) {
+  for (uint32_t i = 0; i < store->plan.clients; i++) segcache_give_back(&store->cache, &clients[i].client);
+  return segcache_free(&store->cache) == SEGCACHE_OK;
+}
+
+enum store_status store_read(struct store_client *client, struct word key, uint32_t now, void *value, size_t *length,
+                             uint32_t *version) {
+  uint32_t status = SEGCACHE_BUSY;
+  for (int tries = 0; status == SEGCACHE_BUSY && once_more(&tries);)
+    status = segcache_gets(&client->client, key.at, key.length, now, value, STORE_MOST_VALUE, length, version);
+  return status_of(status);
+}
+
+/* A segment's deadline is a multiple of half the time to live. So one begins at each such multiple, and a value
+ * lives for half of that time at least. */
+static void renew(struct store_client *client, uint32_t now) {
+  uint32_t time_to_live = client->plan.time_to_live;
+  if (time_to_live == 0 || now < client->renew_at) return;
+  uint32_t half = time_to_live / 2 > 0 ? time_to_live / 2 : 1;
+  if (segcache_make_room(&client->client, now) == SEGCACHE_OK) client->renew_at = now - now % half + half;
+}
+
+enum store_status store_put(struct store_client *client, struct word key, struct store_value value, uint32_t now) {
+  uint32_t status = SEGCACHE_BUSY;
+  renew(client, now);
+  for (int tries = 0; status == SEGCACHE_BUSY && once_more(&tries);)
+    status = segcache_put(&client->client, key.at, key.length, value.at, value.length, now);
+  return status_of(status);
+}
+
+enum store_status store_add(struct store_client *client, struct word key, struct store_value value, uint32_t now) {
+  uint32_t status = SEGCACHE_BUSY;
+  renew(client, now);
+  for (int tries = 0; once_more(&tries);) {
+    status = segcache_add(&client->client, key.at, key.length, value.at, value.length, now);
+    bool made_room = status == SEGCACHE_NO_ROOM && segcache_make_room(&client->client, now) == SEGCACHE_OK;
+    if (status != SEGCACHE_BUSY && !made_room) break;
+  }
+  return status_of(status);
+}
+
+enum store_status store_cas(struct store_client *client, struct word key, struct store_value value, uint32_t version,
+                            uint32_t now) {
+  uint32_t status = SEGCACHE_BUSY;
+  renew(client, now);
+  for (int tries = 0; once_more(&tries);) {
+    status = segcache_cas(&client->client, key.at, key.length, value.at, value.length, version, now);
+    bool made_room = status == SEGCACHE_NO_ROOM && segcache_make_room(&client->client, now) == SEGCACHE_OK;
+    if (status != SEGCACHE_BUSY && !made_room) break;
+  }
+  return status_of(status);
+}
+
+enum store_status store_delete(struct store_client *client, struct word key, uint32_t now) {
+  uint32_t status = SEGCACHE_BUSY;
+  for (int tries = 0; status == SEGCACHE_BUSY && once_more(&tries);)
+    status = segcache_delete(&client->client, key.at, key.length, now);
+  return status_of(status);
+}
+
+void store_count(struct store_client *client, struct store_counts *counts) {
+  segcache_stats_t calls = {0};
+  segcache_index_stats_t table = {0};
+  segcache_stats(&client->client, &calls);
+  segcache_index_stats(&client->client, &table);
+  *counts = (struct store_counts){
+      .evicted = calls.keys_evicted, .kept = calls.items_kept, .segments = calls.segments_refilled,
+      .busy = calls.busy, .full = calls.no_room + calls.bucket_full,
+      .items = table.named_rows, .rows = table.used_rows, .overflow = table.overflow_buckets};
+}

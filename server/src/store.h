@@ -1,0 +1,88 @@
+/* The cache library, as the server sees it. store.c is the only file that calls the library, but for the constants.
+ *
+ * A store has a client for each worker. Only one thread at a time may use a client. All moments are clock_now's. */
+#ifndef STORE_H
+#define STORE_H
+
+#include "segcache.h"
+#include "words.h"
+#include <stdbool.h>
+#include <stdint.h>
+
+enum {
+  STORE_MOST_KEY = SEGCACHE_MAX_KEY,     /* bytes */
+  STORE_MOST_VALUE = SEGCACHE_MAX_VALUE, /* bytes, with the server's header */
+  STORE_MOST_CLIENTS = SEGCACHE_MAX_THREADS,
+  STORE_MOST_KEYS = 425984, /* that the library makes room for */
+  STORE_BYTES_A_KEY = 192,  /* of memory, for each key that there is room for: measured, rounded up */
+};
+
+enum store_status {
+  STORE_OK,
+  STORE_ABSENT,  /* a read, cas or delete of a key that isn't there */
+  STORE_PRESENT, /* an add of a key that is there */
+  STORE_CHANGED, /* a cas: the key's bucket was written since its read */
+  STORE_BUSY,    /* others worked on the key's bucket all the while */
+  STORE_FULL,    /* no room could be made */
+};
+
+/* How a store is opened. */
+struct store_plan {
+  uint32_t keys;         /* that there is to be room for */
+  uint32_t clients;      /* 1 to STORE_MOST_CLIENTS */
+  uint32_t time_to_live; /* the most seconds that a value lives; 0: until it is evicted */
+  uint32_t keep_from;    /* keeps items of this frequency; STORE_BY_QUEUES: what was read, by queues */
+};
+#define STORE_BY_QUEUES UINT32_MAX
+
+struct store {
+  segcache cache;
+  struct store_plan plan;
+};
+
+struct store_client {
+  segcache_client client;
+  struct store_plan plan;
+  uint32_t renew_at; /* the moment when the next segment is to begin, if the plan has a time to live */
+};
+
+/* The bytes of a value, and for how long they may be wanted: 0 seconds is without end. */
+struct store_value {
+  const void *at;
+  size_t length;
+  uint32_t seconds;
+};
+
+/* A client's counts since it was opened. */
+struct store_counts {
+  uint64_t evicted, kept, segments, busy, full;
+  uint64_t items, rows, overflow; /* now: items in its segments, rows in use there, overflow buckets of the table */
+};
+
+/* Opens a store and its clients, `plan->clients` of them. NULL, or why it can't. */
+const char *store_open(struct store *store, const struct store_plan *plan, struct store_client *clients);
+
+/* Gives all memory back. False if the library says that it can't. */
+bool store_close(struct store *store, struct store_client *clients);
+
+/* Reads a value of STORE_MOST_VALUE bytes at most, and the version for store_cas. OK, ABSENT or BUSY. */
+enum store_status store_read(struct store_client *client, struct word key, uint32_t now, void *value, size_t *length,
+                             uint32_t *version);
+
+/* Stores a value. OK, BUSY or FULL. If it isn't OK, the key is absent or has its old value. */
+enum store_status store_put(struct store_client *client, struct word key, struct store_value value, uint32_t now);
+
+/* The same if the key is absent. Also PRESENT. */
+enum store_status store_add(struct store_client *client, struct word key, struct store_value value, uint32_t now);
+
+/* The same if no key of the bucket was written since the read that gave the version. Also CHANGED and ABSENT. */
+enum store_status store_cas(struct store_client *client, struct word key, struct store_value value, uint32_t version,
+                            uint32_t now);
+
+/* Takes a key out. OK, ABSENT or BUSY. */
+enum store_status store_delete(struct store_client *client, struct word key, uint32_t now);
+
+/* Looks at all rows of the client. */
+void store_count(struct store_client *client, struct store_counts *counts);
+
+#endif

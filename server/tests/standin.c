@@ -1,0 +1,230 @@
+/* A stand-in for the library: a map behind one lock, for tests of the server at sizes that the library's default build
+ * hasn't: keys of 250 bytes and values of 4,064. It isn't the library, and nothing of it is proved. Its statuses
+ * are the library's for the calls that the server makes; it has no other calls.
+ *
+ * It has few buckets, so that keys often share one: a cas then finds the bucket's version changed by others. It
+ * evicts the oldest item once there are as many as it was opened for. */
+#include "segcache.h"
+#include <pthread.h>
+#include <stdbool.h>
+#include <stdlib.h>
+#include <string.h>
+
+enum { BUCKETS = 4096 }; /* a power of two */
+
+struct entry {
+  struct entry *next_of_bucket, *older, *newer;
+  size_t bucket, key_len, value_len;
+  uint8_t bytes[]; /* the key's, and then the value's */
+};
+
+struct map {
+  pthread_mutex_t lock;
+  struct entry *buckets[BUCKETS], *oldest, *newest;
+  uint32_t versions[BUCKETS];
+  uint32_t count, most, clients;
+};
+
+struct client {
+  struct map *map;
+  bool first; /* all items count as its own */
+  segcache_stats_t counts;
+};
+
+static size_t bucket_of(const uint8_t *key, size_t length) {
+  uint64_t hash = 14695981039346656037u;
+  for (size_t i = 0; i < length; i++) hash = (hash ^ key[i]) * 1099511628211u;
+  return (size_t)(hash >> 32) & (BUCKETS - 1);
+}
+
+static struct entry **place_of(struct map *map, size_t bucket, const uint8_t *key, size_t length) {
+  struct entry **place = &map->buckets[bucket];
+  while (*place != NULL && ((*place)->key_len != length || memcmp((*place)->bytes, key, length) != 0))
+    place = &(*place)->next_of_bucket;
+  return place;
+}
+
+/* Takes an entry out of its bucket and out of the list by age. */
+static void drop(struct map *map, struct entry *entry) {
+  struct entry **place = &map->buckets[entry->bucket];
+  while (*place != entry) place = &(*place)->next_of_bucket;
+  *place = entry->next_of_bucket;
+  if (entry->older == NULL) map->oldest = entry->newer;
+  else entry->older->newer = entry->newer;
+  if (entry->newer == NULL) map->newest = entry->older;
+  else entry->newer->older = entry->older;
+  map->versions[entry->bucket]++;
+  map->count--;
+  free(entry);
+}
+
+uint32_t segcache_raw_open(uint32_t keys, uint32_t threads, segcache_handle *cache, segcache_handle *clients,
+                           size_t clients_len) {
+  struct map *map = calloc(1, sizeof *map);
+  if (map == NULL || threads == 0 || threads > clients_len) return free(map), (uint32_t)SEGCACHE_OUT_OF_MEMORY;
+  pthread_mutex_init(&map->lock, NULL);
+  map->most = keys > 0 ? keys : 1;
+  for (uint32_t i = 0; i < threads; i++) {
+    struct client *client = calloc(1, sizeof *client);
+    if (client == NULL) abort();
+    client->map = map;
+    client->first = i == 0;
+    clients[i] = (segcache_handle){client, 1};
+  }
+  map->clients = threads;
+  *cache = (segcache_handle){map, 1};
+  return SEGCACHE_OK;
+}
+
+uint32_t segcache_raw_gets(segcache_handle *handle, const uint8_t *key, size_t key_len, uint8_t *value, size_t room,
+                           size_t *value_len, uint32_t *version, uint32_t now) {
+  struct client *client = handle->at;
+  struct map *map = client->map;
+  uint32_t status = SEGCACHE_MISS;
+  (void)now;
+  if (key_len < 1 || key_len > SEGCACHE_MAX_KEY) return SEGCACHE_BAD_KEY;
+  pthread_mutex_lock(&map->lock);
+  size_t bucket = bucket_of(key, key_len);
+  const struct entry *entry = *place_of(map, bucket, key, key_len);
+  if (entry != NULL) {
+    *value_len = entry->value_len;
+    *version = map->versions[bucket];
+    status = entry->value_len > room ? SEGCACHE_SHORT_BUFFER : SEGCACHE_OK;
+    if (status == SEGCACHE_OK) memcpy(value, entry->bytes + key_len, entry->value_len);
+  }
+  if (status == SEGCACHE_MISS) client->counts.misses++;
+  else client->counts.hits++;
+  pthread_mutex_unlock(&map->lock);
+  return status;
+}
+
+/* Why an entry isn't to be stored, or OK. */
+typedef uint32_t condition(const struct map *map, const struct entry *old, size_t bucket, uint32_t version);
+
+static uint32_t always(const struct map *map, const struct entry *old, size_t bucket, uint32_t version) {
+  (void)map, (void)old, (void)bucket, (void)version;
+  return SEGCACHE_OK;
+}
+
+static uint32_t if_absent(const struct map *map, const struct entry *old, size_t bucket, uint32_t version) {
+  (void)map, (void)bucket, (void)version;
+  return old == NULL ? SEGCACHE_OK : SEGCACHE_NOT_STORED;
+}
+
+static uint32_t if_same(const struct map *map, const struct entry *old, size_t bucket, uint32_t version) {
+  if (old == NULL) return SEGCACHE_NOT_FOUND;
+  return map->versions[bucket] == version ? SEGCACHE_OK : SEGCACHE_EXISTS;
+}
+
+static uint32_t store_locked(struct client *client, const uint8_t *key, size_t key_len, const uint8_t *value,
+                             size_t value_len, uint32_t version, condition *may) {
+  struct map *map = client->map;
+  size_t bucket = bucket_of(key, key_len);
+  struct entry *old = *place_of(map, bucket, key, key_len);
+  uint32_t status = may(map, old, bucket, version);
+  if (status != SEGCACHE_OK) return status;
+  struct entry *entry = malloc(sizeof *entry + key_len + value_len);
+  if (entry == NULL) return SEGCACHE_NO_ROOM;
+  if (old != NULL) drop(map, old);
+  if (map->count == map->most) drop(map, map->oldest), client->counts.keys_evicted++;
+  *entry = (struct entry){map->buckets[bucket], map->newest, NULL, bucket, key_len, value_len};
+  memcpy(entry->bytes, key, key_len);
+  if (value_len > 0) memcpy(entry->bytes + key_len, value, value_len);
+  map->buckets[bucket] = entry;
+  if (map->newest != NULL) map->newest->newer = entry;
+  else map->oldest = entry;
+  map->newest = entry;
+  map->versions[bucket]++;
+  map->count++;
+  client->counts.stored++;
+  return SEGCACHE_OK;
+}
+
+static uint32_t store_if(segcache_handle *handle, const uint8_t *key, size_t key_len, const uint8_t *value,
+                         size_t value_len, uint32_t version, condition *may) {
+  struct client *client = handle->at;
+  if (key_len < 1 || key_len > SEGCACHE_MAX_KEY) return SEGCACHE_BAD_KEY;
+  if (value_len > SEGCACHE_MAX_VALUE) return SEGCACHE_BAD_VALUE;
+  pthread_mutex_lock(&client->map->lock);
+  uint32_t status = store_locked(client, key, key_len, value, value_len, version, may);
+  pthread_mutex_unlock(&client->map->lock);
+  return status;
+}
+
+uint32_t segcache_raw_put(segcache_handle *client, const uint8_t *key, size_t key_len, const uint8_t *value,
+                          size_t value_len, uint32_t now) {
+  (void)now;
+  return store_if(client, key, key_len, value, value_len, 0, always);
+}
+
+uint32_t segcache_raw_add(segcache_handle *client, const uint8_t *key, size_t key_len, const uint8_t *value,
+                          size_t value_len, uint32_t now) {
+  (void)now;
+  return store_if(client, key, key_len, value, value_len, 0, if_absent);
+}
+
+uint32_t segcache_raw_cas(segcache_handle *client, const uint8_t *key, size_t key_len, const uint8_t *value,
+                          size_t value_len, uint32_t version, uint32_t now) {
+  (void)now;
+  return store_if(client, key, key_len, value, value_len, version, if_same);
+}
+
+uint32_t segcache_raw_delete(segcache_handle *handle, const uint8_t *key, size_t key_len, uint32_t now) {
+  struct client *client = handle->at;
+  struct map *map = client->map;
+  (void)now;
+  if (key_len < 1 || key_len > SEGCACHE_MAX_KEY) return SEGCACHE_BAD_KEY;
+  pthread_mutex_lock(&map->lock);
+  struct entry *entry = *place_of(map, bucket_of(key, key_len), key, key_len);
+  if (entry != NULL) drop(map, entry);
+  pthread_mutex_unlock(&map->lock);
+  return entry == NULL ? SEGCACHE_NOT_FOUND : SEGCACHE_OK;
+}
+
+uint32_t segcache_raw_stats(segcache_handle *handle, segcache_stats_t *counts) {
+  struct client *client = handle->at;
+  pthread_mutex_lock(&client->map->lock);
+  *counts = client->counts;
+  pthread_mutex_unlock(&client->map->lock);
+  return SEGCACHE_OK;
+}
+
+uint32_t segcache_raw_index_stats(segcache_handle *handle, segcache_index_stats_t *counts) {
+  struct client *client = handle->at;
+  pthread_mutex_lock(&client->map->lock);
+  uint32_t items = client->first ? client->map->count : 0;
+  pthread_mutex_unlock(&client->map->lock);
+  *counts = (segcache_index_stats_t){.used_rows = items, .named_rows = items};
+  return SEGCACHE_OK;
+}
+
+uint32_t segcache_raw_set_time_to_live(segcache_handle *client, uint32_t seconds) {
+  (void)client, (void)seconds;
+  return SEGCACHE_OK;
+}
+
+uint32_t segcache_raw_keep_from(segcache_handle *client, uint32_t cutoff) {
+  (void)client, (void)cutoff;
+  return SEGCACHE_OK;
+}
+
+uint32_t segcache_raw_make_room(segcache_handle *client, uint32_t now) {
+  (void)client, (void)now;
+  return SEGCACHE_OK;
+}
+
+uint32_t segcache_raw_give_back(segcache_handle *cache, segcache_handle *client) {
+  (void)cache;
+  free(client->at);
+  *client = (segcache_handle){0};
+  return SEGCACHE_OK;
+}
+
+uint32_t segcache_raw_free(segcache_handle *cache) {
+  struct map *map = cache->at;
+  while (map->oldest != NULL) drop(map, map->oldest);
+  pthread_mutex_destroy(&map->lock);
+  free(map);
+  *cache = (segcache_handle){0};
+  return SEGCACHE_OK;
+}

@@ -1,0 +1,137 @@
+"""What the tests of the server share: a server at a free port, connections to it, and the count of faults."""
+
+import re
+import signal
+import socket
+import subprocess
+import time
+from contextlib import contextmanager
+
+faults = 0
+
+
+def check(right, what):
+    global faults
+    if not right:
+        faults += 1
+        print(f"not so: {what}")
+
+
+def free_port():
+    with socket.socket() as free:
+        free.bind(("127.0.0.1", 0))
+        return free.getsockname()[1]
+
+
+def wait_for(port):
+    for _ in range(400):
+        try:
+            return socket.create_connection(("127.0.0.1", port)).close()
+        except ConnectionRefusedError:
+            time.sleep(0.025)
+    raise SystemExit(f"nothing listens at port {port}")
+
+
+@contextmanager
+def running(command, *options, port=None):
+    """A server at a port of this machine, which ends well when it is told to."""
+    port = port or free_port()
+    with subprocess.Popen([*command, "-l", "127.0.0.1", "-p", str(port), *options]) as server:
+        try:
+            wait_for(port)
+            yield port
+        finally:
+            server.send_signal(signal.SIGTERM)
+            status = server.wait(timeout=60)
+            check(status == 0, f"{command[0]} ended with {status}")
+
+
+def connect(port):
+    connection = socket.create_connection(("127.0.0.1", port), timeout=30)
+    connection.setsockopt(socket.IPPROTO_TCP, socket.TCP_NODELAY, 1)
+    return connection
+
+
+def read(connection, length):
+    """So many bytes, or those that came before the connection ended or was silent for long."""
+    got = b""
+    try:
+        while len(got) < length and (more := connection.recv(65536)):
+            got += more
+    except TimeoutError:
+        pass
+    return got
+
+
+def read_to(connection, end):
+    got = b""
+    while not got.endswith(end) and (more := connection.recv(65536)):
+        got += more
+    return got
+
+
+LEFT = re.compile(rb"(?<= t)\d+")
+LATE = 5  # seconds that may pass between a command and the next one that asks how many are left
+
+
+def same(got, wanted):
+    """Whether a reply is the wanted one, but for times to live that are a little less, in as many digits."""
+    times = [(int(a), int(b)) for a, b in zip(LEFT.findall(got), LEFT.findall(wanted))]
+    return LEFT.sub(b"", got) == LEFT.sub(b"", wanted) and all(b - LATE <= a <= b for a, b in times)
+
+
+def say(connection, sent, wanted):
+    """Sends a line or more, and reads as much as is wanted."""
+    sent, wanted = sent.encode(), wanted.encode()
+    connection.sendall(sent)
+    got = read(connection, len(wanted))
+    check(same(got, wanted), f"{sent[:80]} is answered {wanted[:120]}, and not {got[:120]}")
+
+
+def converse(port, lines):
+    """A conversation, after which nothing more comes, and quit ends the connection."""
+    with connect(port) as connection:
+        for sent, wanted in lines:
+            say(connection, sent, wanted)
+        connection.sendall(b"quit\r\n")
+        rest = connection.recv(100)
+        check(rest == b"", f"nothing comes behind the last reply of {lines[-1][0][:40]!r}: {rest}")
+
+
+def stats_of(connection, part=""):
+    connection.sendall(f"stats {part}".strip().encode() + b"\r\n")
+    lines = read_to(connection, b"END\r\n").decode().split("\r\n")
+    return dict(line.split(" ", 2)[1:] for line in lines if line.startswith("STAT "))
+
+
+def alone(connection):
+    """The stats, once this connection is the only one: others end when their worker sees it."""
+    for _ in range(200):
+        counts = stats_of(connection)
+        if counts["curr_connections"] == "1":
+            return counts
+        time.sleep(0.05)
+    check(False, f"the others have ended: {counts}")
+    return counts
+
+
+def unique_of(connection, key):
+    """The unique version that gets gives."""
+    connection.sendall(f"gets {key}\r\n".encode())
+    return read_to(connection, b"END\r\n").split(b"\r\n")[0].split()[4].decode()
+
+
+def store_all(connection, count, value="x"):
+    """Stores so many keys, and says how many of them are there then."""
+    keys = [f"key{i}" for i in range(count)]
+    for key in keys:
+        connection.sendall(f"set {key} 0 0 {len(value)} noreply\r\n{value}\r\n".encode())
+    return count_there(connection, keys)
+
+
+def count_there(connection, keys):
+    there = 0
+    for at in range(0, len(keys), 5000):
+        connection.sendall(("get " + " ".join(keys[at:at + 5000]) + "\r\n").encode())
+        there += read_to(connection, b"END\r\n").count(b"VALUE ")
+    return there
