@@ -1,6 +1,7 @@
 #include "listen.h"
 #include <errno.h>
 #include <fcntl.h>
+#include <inttypes.h>
 #include <netdb.h>
 #include <netinet/in.h>
 #include <poll.h>
@@ -110,7 +111,9 @@ bool listen_tell_ports(const struct server *server) {
 
 /* Closes a connection that is one too many, with a line that says so. */
 static void turn_away(struct server *server, int socket) {
-  atomic_fetch_add(&server->rejected, 1);
+  uint64_t before = atomic_fetch_add(&server->rejected, 1);
+  if (server->verbosity > 0)
+    fprintf(stderr, "segcache-server: too many connections: %" PRIu64 " refused\n", before + 1);
   ssize_t ignored = send(socket, too_many, sizeof too_many - 1, MSG_NOSIGNAL | MSG_DONTWAIT);
   (void)ignored;
   close(socket);

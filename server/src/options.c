@@ -64,7 +64,7 @@ static const char help[] =
     "-F, --disable-flush-all       refuses flush_all\n"
     "-B, --protocol=auto|ascii     the text protocol, either way\n"
     "-U, --udp-port=0              there is no UDP\n"
-    "-v, --verbose                 tells of errors on standard error; twice: of commands too\n"
+    "-v, --verbose                 tells of refused connections on standard error; twice: of commands too\n"
     "-V, --version; -h, --help\n"
     "    --keys=NUMBER             room for so many keys, whatever -m says\n"
     "    --time-to-live=SECONDS    the most that any item lives\n"
