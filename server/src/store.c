@@ -2,13 +2,20 @@
 #include <time.h>
 
 enum {
-  TRIES = 64,       /* of a call that is Busy */
-  PAUSE_NS = 50000, /* before each but the first, so that a preempted thread goes on */
+  TRIES = 64,       /* of a call that is Busy, or for which room was made */
+  PAUSE_NS = 50000, /* after a Busy one, so that a preempted thread goes on */
 };
 
-static bool once_more(int *tries) {
-  if (*tries > 0) nanosleep(&(struct timespec){.tv_nsec = PAUSE_NS}, NULL);
-  return (*tries)++ < TRIES;
+/* Whether a call is to be made again, since it was Busy. */
+static bool was_busy(uint32_t status, int *tries) {
+  if (status != SEGCACHE_BUSY || ++*tries == TRIES) return false;
+  nanosleep(&(struct timespec){.tv_nsec = PAUSE_NS}, NULL);
+  return true;
+}
+
+/* The same, since there was no room for it, which is made now. */
+static bool made_room(struct store_client *client, uint32_t status, int *tries, uint32_t now) {
+  return status == SEGCACHE_NO_ROOM && ++*tries < TRIES && segcache_make_room(&client->client, now) == SEGCACHE_OK;
 }
 
 static enum store_status status_of(uint32_t status) {
@@ -44,9 +51,10 @@ bool store_close(struct store *store, struct store_client *clients) {
 
 enum store_status store_read(struct store_client *client, struct word key, uint32_t now, void *value, size_t *length,
                              uint32_t *version) {
-  uint32_t status = SEGCACHE_BUSY;
-  for (int tries = 0; status == SEGCACHE_BUSY && once_more(&tries);)
-    status = segcache_gets(&client->client, key.at, key.length, now, value, STORE_MOST_VALUE, length, version);
+  uint32_t status;
+  int tries = 0;
+  do status = segcache_gets(&client->client, key.at, key.length, now, value, STORE_MOST_VALUE, length, version);
+  while (was_busy(status, &tries));
   return status_of(status);
 }
 
@@ -59,41 +67,40 @@ static void renew(struct store_client *client, uint32_t now) {
   if (segcache_make_room(&client->client, now) == SEGCACHE_OK) client->renew_at = now - now % half + half;
 }
 
+/* This build of the library has no time to live of a put. One that has gets value.seconds here. */
 enum store_status store_put(struct store_client *client, struct word key, struct store_value value, uint32_t now) {
-  uint32_t status = SEGCACHE_BUSY;
+  uint32_t status;
+  int tries = 0;
   renew(client, now);
-  for (int tries = 0; status == SEGCACHE_BUSY && once_more(&tries);)
-    status = segcache_put(&client->client, key.at, key.length, value.at, value.length, now);
+  do status = segcache_put(&client->client, key.at, key.length, value.at, value.length, now);
+  while (was_busy(status, &tries));
   return status_of(status);
 }
 
 enum store_status store_add(struct store_client *client, struct word key, struct store_value value, uint32_t now) {
-  uint32_t status = SEGCACHE_BUSY;
+  uint32_t status;
+  int tries = 0;
   renew(client, now);
-  for (int tries = 0; once_more(&tries);) {
-    status = segcache_add(&client->client, key.at, key.length, value.at, value.length, now);
-    bool made_room = status == SEGCACHE_NO_ROOM && segcache_make_room(&client->client, now) == SEGCACHE_OK;
-    if (status != SEGCACHE_BUSY && !made_room) break;
-  }
+  do status = segcache_add(&client->client, key.at, key.length, value.at, value.length, now);
+  while (was_busy(status, &tries) || made_room(client, status, &tries, now));
   return status_of(status);
 }
 
 enum store_status store_cas(struct store_client *client, struct word key, struct store_value value, uint32_t version,
                             uint32_t now) {
-  uint32_t status = SEGCACHE_BUSY;
+  uint32_t status;
+  int tries = 0;
   renew(client, now);
-  for (int tries = 0; once_more(&tries);) {
-    status = segcache_cas(&client->client, key.at, key.length, value.at, value.length, version, now);
-    bool made_room = status == SEGCACHE_NO_ROOM && segcache_make_room(&client->client, now) == SEGCACHE_OK;
-    if (status != SEGCACHE_BUSY && !made_room) break;
-  }
+  do status = segcache_cas(&client->client, key.at, key.length, value.at, value.length, version, now);
+  while (was_busy(status, &tries) || made_room(client, status, &tries, now));
   return status_of(status);
 }
 
 enum store_status store_delete(struct store_client *client, struct word key, uint32_t now) {
-  uint32_t status = SEGCACHE_BUSY;
-  for (int tries = 0; status == SEGCACHE_BUSY && once_more(&tries);)
-    status = segcache_delete(&client->client, key.at, key.length, now);
+  uint32_t status;
+  int tries = 0;
+  do status = segcache_delete(&client->client, key.at, key.length, now);
+  while (was_busy(status, &tries));
   return status_of(status);
 }
 
