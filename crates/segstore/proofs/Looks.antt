@@ -3,7 +3,7 @@ use Rattle.std.proofs.Common.{◌≡◌, ℕ, zero, suc, ◌+◌, ◌<◌, List,
 use Rattle.std.proofs.lemmas.Grind.{same_number_lists}
 use Rattle.std.proofs.lemmas.List.{get_or-drop}
 use Rattle.std.specs.Prelude.{slice_index}
-use Rattle.segcore.specs.Words.{IsLawful, May, MayRead, NoneBy, Row, row_after, row_load}
+use Rattle.segcore.specs.Words.{IsLawful, May, MayRead, NoneBy, Row, row_after, row_load, Step, View}
 use Rattle.segword.specs.Words.{head_width, row_of, row_width, value_width}
 use Rattle.segword.proofs.RowLemmas.{length-row_of, length-words_from}
 use Rattle.segcore.proofs.Readable.{read_row, may_read}
@@ -11,9 +11,13 @@ use Rattle.segcore.proofs.Moments.{none_both}
 use Rattle.segbase.specs.declared.place.RowPlace.{RowPlace}
 use Rattle.segbase.specs.Words.{AddsAtOnce, Board, IsPassOf, number, Pass, Stepped, trace}
 use Rattle.segbase.proofs.Moves.{moved_then, stays}
+use Rattle.segstore.specs.Calls.{step_count}
 use Rattle.segstore.specs.Reading.{OnlyLooks, IsReadable, ReadsRow, words_at}
 
 -- ---- looks, one after another
+
+pub one_step : (b : Board) (p q : Pass) (step : Step) (found : ℕ) → Stepped b step found p q → step_count q ≡ step_count p + 1
+one_step b p q step found st = ap (λ (v : View). length v.looks) st.told.now ∙ (let e : suc (step_count p) ≡ step_count p + 1 = omega arith in e)
 
 pub did_then : (b : Board) (p q r : Pass) → AddsAtOnce b [] p q → AddsAtOnce b [] q r → AddsAtOnce b [] p r
 did_then b p q r d e =

@@ -1,9 +1,9 @@
 -- What calls do to the pass that makes them.
-use Rattle.std.specs.Prelude.{◌≡◌, ◌≢◌, ◌⊎◌, ℕ, ◌+◌, ◌<◌, ◌∷◌, Some}
+use Rattle.std.specs.Prelude.{◌≡◌, ◌≢◌, ◌⊎◌, ℕ, ◌+◌, ◌<◌, ◌≤◌, ◌∷◌, length, Some}
 use Rattle.segmodel.specs.Words.{Begins, Entry}
 use Rattle.segcore.specs.Words.{bounced, drew, entered, glanced, raised, taken}
-use Rattle.segbase.specs.Words.{Board, count, locked_of, marked, Memo, mine, number, Pass, seen}
-use Rattle.segbase.specs.Words.{sight, TakesSteps}
+use Rattle.segbase.specs.Words.{Board, count, locked_of, looks, marked, Memo, mine, number, Pass}
+use Rattle.segbase.specs.Words.{seen, sight, TakesSteps}
 use Rattle.segstore.specs.Quiet.{IsQuiet}
 
 -- the pass is the same one, quiet again, and what it has seen only grew, by its steps
@@ -13,6 +13,14 @@ pub record GoesOn (b : Board) (p q : Pass) : Type 0 where
   pub marked : Begins (marked p) (marked q)
   pub seen : Begins (seen p) (seen q)
   pub steps : TakesSteps p q
+
+-- how many steps the pass has taken
+abbrev pub step_count : Pass → ℕ
+step_count p = length (looks p)
+
+-- the pass took at most so many steps
+abbrev pub TakesAtMost : ℕ → Pass → Pass → Type 0
+TakesAtMost most p q = step_count q ≤ step_count p + most
 
 abbrev pub memo : Pass → Memo
 memo p = (sight p).memo

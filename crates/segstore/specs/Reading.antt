@@ -4,6 +4,7 @@ use Rattle.segcore.specs.Words.{IsSegment, MayRead, row_after}
 use Rattle.segcore.specs.declared.event.Event.TheVariants.{Entered, Left}
 use Rattle.segbase.specs.Words.{AddsAtOnce, AddsEvents, Board, number, Pass, Reads, ReadsIn, sight}
 use Rattle.segbase.specs.Words.{trace}
+use Rattle.segstore.specs.Calls.{TakesAtMost}
 
 -- the pass only looked: it added nothing to what others did, and what it keeps is as it was
 pub record OnlyLooks (b : Board) (p q : Pass) : Type 0 where
@@ -43,14 +44,16 @@ pub record IsReaderIn (b : Board) (p q : Pass) (segment : ℕ) : Type 0 where
   pub plain : q.plain ≡ p.plain
   pub memo : (sight q).memo ≡ (sight p).memo
 
--- the pass came into a segment, and did nothing else
+-- by one step the pass came into a segment, and did nothing else
 pub record Enters (b : Board) (p q : Pass) (segment : ℕ) : Type 0 where
   pub did : AddsAtOnce b (Entered (number p) segment ∷ []) p q
   pub plain : q.plain ≡ p.plain
   pub memo : (sight q).memo ≡ (sight p).memo
+  pub steps : TakesAtMost 1 p q
 
--- the pass left a segment, and did nothing else
+-- by one step the pass left a segment, and did nothing else
 pub record LeavesSegment (b : Board) (p q : Pass) (segment : ℕ) : Type 0 where
   pub moved : AddsEvents b (Left (number p) segment ∷ []) p q
   pub plain : q.plain ≡ p.plain
   pub memo : (sight q).memo ≡ (sight p).memo
+  pub steps : TakesAtMost 1 p q

@@ -3,6 +3,7 @@ ghost use Rattle.std.specs.Prelude.{◌<◌, IfOk, IfErr};
 ghost use Rattle.segword.specs.Words.{IsSameItem};
 ghost use Rattle.segcore.specs.Words.{inside};
 ghost use Rattle.segbase.specs.Words.{IsPassOf, number, trace};
+ghost use Rattle.segstore.specs.Calls.{TakesAtMost};
 ghost use Rattle.segstore.specs.Reading.{OnlyLooks};
 ghost use Rattle.segstore.specs.Linked.{segment_part, IsChained, SawWord, SeesAgain, IsLinked};
 ghost use Rattle.segstore.specs.Linked.{IsKeyed};
@@ -58,6 +59,7 @@ pub fn read_keyed(board: &Board, pass: &mut Pass, place: Place, word: u64, key: 
     requires place { IsChained board.now.shape (trace pass.old) place }
     requires inside { 0 < inside (trace pass.old) (number pass.old) (segment_part word) }
     ensures looked { OnlyLooks board.now pass.old pass.new }
+    ensures steps { TakesAtMost 5 pass.old pass.new }
     ensures keyed { IsKeyed board.now.shape place word key.now result
         (trace pass.old) (trace pass.new) }
 {
@@ -77,6 +79,7 @@ fn look_again(board: &Board, pass: &mut Pass, place: Place, word: u64) -> Result
     requires place { IsChained board.now.shape (trace pass.old) place }
     requires inside { 0 < inside (trace pass.old) (number pass.old) (segment_part word) }
     ensures looked { OnlyLooks board.now pass.old pass.new }
+    ensures steps { TakesAtMost 1 pass.old pass.new }
     ensures same { IfOk result (λ item. SeesAgain board.now place word item pass.new) }
     ensures other { IfErr result (λ now.
         SawWord board.now.shape place now (trace pass.old) (trace pass.new)

@@ -4,6 +4,7 @@ ghost use Rattle.segword.specs.Words.{IsKey, IsValue};
 ghost use Rattle.segcore.specs.Words.{Holds, row_after};
 ghost use Rattle.segbase.specs.Words.{IsPassOf, trace};
 ghost use Rattle.segstore.specs.Reading.{IsReadable, ReadsRow, words_at};
+ghost use Rattle.segstore.specs.Calls.{TakesAtMost};
 
 use segbase::{Board, Pass};
 use segword::{HEAD_WORDS, Key, KeyWords, ROW_WORDS, Value, read_key, read_row, read_value};
@@ -31,6 +32,7 @@ pub(crate) fn load_words<const N: usize>(
     requires readable { IsReadable board.now pass.old segment row }
     requires fits { from + N ≤ ROW_WORDS }
     ensures reads { ReadsRow board.now pass.old pass.new segment row }
+    ensures steps { TakesAtMost N pass.old pass.new }
     ensures words { result ≡ words_at (row_after (trace pass.new) segment row).words from N }
 {
     let at = board.row_at(segment, row);
@@ -54,6 +56,7 @@ pub fn row_of_key(
     requires pass { IsPassOf board.now pass.old }
     requires readable { IsReadable board.now pass.old segment row }
     ensures reads { ReadsRow board.now pass.old pass.new segment row }
+    ensures steps { TakesAtMost 4 pass.old pass.new }
     ensures header { IfSome result (λ word.
         word ≡ (row_after (trace pass.new) segment row).words 0) }
     ensures key { (held value : List ℕ) → IsKey held → IsValue value
@@ -74,6 +77,7 @@ pub fn value_of_row(board: &Board, pass: &mut Pass, segment: u32, row: u32, head
     requires readable { IsReadable board.now pass.old segment row }
     requires header { header ≡ (row_after (trace pass.old) segment row).words 0 }
     ensures reads { ReadsRow board.now pass.old pass.new segment row }
+    ensures steps { TakesAtMost 4 pass.old pass.new }
     ensures value { (key value : List ℕ) → IsKey key → IsValue value
         → Holds (row_after (trace pass.new) segment row) key value → result ≡ value }
 {
