@@ -12,12 +12,13 @@ use Rattle.segbase.specs.declared.pass.PlainPart.{PlainPart}
 use Rattle.segbase.specs.Words.{AddsAtOnce, AddsEvents, Board, locked_of, number, Pass}
 use Rattle.segbase.specs.Words.{Place, seen, sight, trace}
 use Rattle.segbase.proofs.Moves.{moved_inside}
-use Rattle.segstore.specs.Words.{FoundItem, IsChained, IsQuiet, IsReader, RaisesNothing, TakesNoBit}
+use Rattle.segstore.specs.Words.{FoundItem, IsChained, IsQuiet, IsReader, RaisesNothing, TakesAtMost, TakesNoBit}
 use Rattle.segstore.proofs.Words.{chained_later}
 use Rattle.segstore.proofs.Readers.{looks}
 use Rattle.segstore.proofs.Draws.{reader_draws_none}
 use Rattle.segstore.proofs.TakenBits.{reader_takes_none}
-use Rattle.segread.specs.Costs.{CostsOfLooks}
+use Rattle.segread.specs.Costs.{CostsOfLooks, most_steps_of_get, most_steps_of_gets}
+use Rattle.segread.specs.Gets.{Strides}
 use Rattle.segread.specs.Reads.{ReadsBetween, IsGetAnswer, ReadsKey}
 use Rattle.segread.specs.Looking.{LooksFirst}
 use Rattle.segread.specs.Gets.{IsDisturbed, IsGetsAnswer, ReadsVersion}
@@ -79,6 +80,9 @@ module _ (b : Board) (key : List ℕ) (p m q : Pass) (l : LooksFirst b p m) (i :
   few_from : TriesFew m q → TriesFew p q
   few_from few = let same = (out b key p m l).0 in omega (arith, few, same)
 
+  pub strides_from : TriesFew m q → Strides 1 32 0 p q → TakesAtMost most_steps_of_gets p q
+  strides_from few strode = let same = (out b key p m l).0 in let most = strode.most in omega (arith, few, same, most)
+
   raises_from : (value : List ℕ) (draw : ℕ) → RaisesFrom b.shape key value draw (trace m) m q → RaisesOne b.shape key value draw p q
   raises_from value draw raised = since_look b p m q (λ start. RaisesFrom b.shape key value draw start p q) l i
       (raises_after b.shape key value draw (trace m) (trace m) p m q l.look.did.moved.same ([], refl) (raises_none p m (out b key p m l).1) raised)
@@ -115,22 +119,22 @@ module _ (b : Board) (key : List ℕ) (p m q : Pass) (l : LooksFirst b p m) (i :
   gets_answer now gets.Busy (inl x) = inl (disturbed_from now x)
   gets_answer now gets.Busy (inr x) = inr (ap (λ (y : PlainPart). y.locked) (sym l.look.plain) ∙ x.0, x.1)
 
-  pub reads_key : (draw now : ℕ) (told : GetAnswer) → IsQuiet b p → TriesFew m q → GlancesNothing m q → GetRaisesFrom b.shape key draw told m q → IsGetAnswer b.shape key now told (seen m) (seen q) → ReadsKey b key draw now told p q
-  reads_key draw now told quiet few unset raised answer = let on = read_on b p q quiet whole.reads whole.plain whole.memo in record {
+  pub reads_key : (draw now : ℕ) (told : GetAnswer) → IsQuiet b p → TakesAtMost most_steps_of_get p q → TriesFew m q → GlancesNothing m q → GetRaisesFrom b.shape key draw told m q → IsGetAnswer b.shape key now told (seen m) (seen q) → ReadsKey b key draw now told p q
+  reads_key draw now told quiet steps few unset raised answer = let on = read_on b p q quiet whole.reads whole.plain whole.memo in record {
     on = on.0;
     keeps = on.1;
     answer = since_look b p m q (λ start. IsGetAnswer b.shape key now told (event.seen start) (seen q)) l i answer;
-    costs = record { looks = costs_from few; glances_nothing = unset_from unset; raises = get_raises draw told raised };
+    costs = record { looks = costs_from few; steps = steps; glances_nothing = unset_from unset; raises = get_raises draw told raised };
   }
 
-  pub reads_version : (draw now : ℕ) (told : GetsAnswer) → IsQuiet b p → TriesFew m q → GlancesFew m q → GetsRaisesFrom b.shape key draw told m q → IsGetsAnswer b.shape key now told (seen m) m q
+  pub reads_version : (draw now : ℕ) (told : GetsAnswer) → IsQuiet b p → Strides 1 32 0 p q → TriesFew m q → GlancesFew m q → GetsRaisesFrom b.shape key draw told m q → IsGetsAnswer b.shape key now told (seen m) m q
       → ((value : List ℕ) (version : ℕ) → told ≡ gets.Found value version → locked_of p ≢ Some (bucket_of b.shape key)) → ReadsVersion b key draw now told p q
-  reads_version draw now told quiet few glances raised answer unlocked = let on = read_on b p q quiet whole.reads whole.plain whole.memo in record {
+  reads_version draw now told quiet strode few glances raised answer unlocked = let on = read_on b p q quiet whole.reads whole.plain whole.memo in record {
     on = on.0;
     keeps = on.1;
     answer = since_look b p m q (λ start. IsGetsAnswer b.shape key now told (event.seen start) p q) l i (gets_answer now told answer);
     unlocked = unlocked;
-    costs = record { looks = costs_from few; glances = glances_from glances; raises = gets_raises draw told raised };
+    costs = record { looks = costs_from few; steps = strides_from few strode; visits = strode.visits; glances = glances_from glances; raises = gets_raises draw told raised };
   }
 
 -- an answer that isn't a hit

@@ -23,7 +23,8 @@ use Rattle.segbase.proofs.Staying.{none_both}
 use Rattle.segbase.proofs.Moves.{moved_inside, moved_mine}
 use Rattle.segstore.specs.Words.{ChangesNothing, DrawsNothing, FoundItem, GoesOn, is_held_in}
 use Rattle.segstore.specs.Words.{IsHold, IsLock, IsQuiet, IsReadable, IsReader, IsReaderIn, memo}
-use Rattle.segstore.specs.Words.{row_part, segment_part, TakesNoBit}
+use Rattle.segstore.specs.Words.{row_part, segment_part, TakesAtMost, TakesNoBit}
+use Rattle.segread.specs.Costs.{most_steps_of_get}
 use Rattle.segstore.proofs.Keeping.{stored_in, keeps}
 use Rattle.segstore.proofs.Seconds.{segment_of_item, row_of_item}
 use Rattle.segread.specs.Words.{HeldRow, HoldAnswer}
@@ -214,12 +215,12 @@ module _ (b : Board) (p r q : Pass) (place : Place) (item : Item) (key value : L
   )
 
 -- no item was found; with m right after the first look
-pub holds_none : (b : Board) (key : List ℕ) (now : ℕ) (told : HoldAnswer) (p m q : Pass) → IsQuiet b p → LooksFirst b p m → IsReader b m q → TriesFew m q → OnlyScans m q → (ChangesNothing p q → IsHoldAnswer b.shape key now told p q) → ((told ≡ answer.AlreadyHolding) ↔ (is_holding_of p ≡ true)) → HoldsItem b key now told p q
-holds_none b key now told p m q quiet l i few only then already = let on = read_on b p q quiet (reads_from b key p m l q i).reads (reads_from b key p m l q i).plain (reads_from b key p m l q i).memo in record {
+pub holds_none : (b : Board) (key : List ℕ) (now : ℕ) (told : HoldAnswer) (p m q : Pass) → IsQuiet b p → LooksFirst b p m → IsReader b m q → TakesAtMost most_steps_of_get p q → TriesFew m q → OnlyScans m q → (ChangesNothing p q → IsHoldAnswer b.shape key now told p q) → ((told ≡ answer.AlreadyHolding) ↔ (is_holding_of p ≡ true)) → HoldsItem b key now told p q
+holds_none b key now told p m q quiet l i steps few only then already = let on = read_on b p q quiet (reads_from b key p m l q i).reads (reads_from b key p m l q i).plain (reads_from b key p m l q i).memo in record {
   on = on.0;
   answer = then on.1;
   already = already;
-  costs = record { looks = costs_from b key p m q l i few; glances_nothing = unset_from b key p m q l i (glances_none m q only); raises_nothing = raises_none p q (only ∙ (out b key p m l).1) };
+  costs = record { looks = costs_from b key p m q l i few; steps = steps; glances_nothing = unset_from b key p m q l i (glances_none m q only); raises_nothing = raises_none p q (only ∙ (out b key p m l).1) };
 }
 
 -- what the pass may keep in mind of what it found

@@ -1,5 +1,7 @@
 pub mod Reading
 pub mod ComingIn
+pub mod Pacing
+pub mod Striding
 pub mod Tries
 pub mod Raising
 pub mod Scans

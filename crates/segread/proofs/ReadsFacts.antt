@@ -1,11 +1,15 @@
--- Worked examples: what a get and a gets may answer between two moments, and what they may not.
+-- Worked examples: what a get and a gets may answer between two moments, and what they may not;
+-- and how many steps they may take.
 use Rattle.std.proofs.Common.{◌≡◌, ◌⊎◌, ℕ, ◌+◌, ◌-◌, ◌≤◌, List, [], ◌∷◌, ◌++◌, Option, Some, None, length, refl, sym, ap, ◌∙◌, subst, inl, inr, ⊎_elim, arith}
 use Rattle.std.proofs.lemmas.List.{length-append}
 use Rattle.segmodel.specs.declared.answer.GetAnswer.TheVariants as get
 use Rattle.segmodel.specs.Example.{shape, a, e, one, two, added, refused}
 use Rattle.segmodel.specs.Words.{after, Begins, Entry, IsBetween, reads, stirred}
-use Rattle.segcore.specs.Words.{glanced}
+use Rattle.segcore.specs.Words.{entered, glanced}
 use Rattle.segbase.specs.Words.{count, Pass, seen}
+use Rattle.segstore.specs.Words.{step_count, TakesAtMost}
+use Rattle.segread.specs.Costs.{most_steps_of_get, most_steps_of_gets}
+use Rattle.segread.specs.Hits.{PaysForGlances}
 use Rattle.segread.specs.Reads.{ReadsBetween, IsGetAnswer}
 use Rattle.segread.specs.Gets.{ReadsVersionBetween, PresentBetween, IsDisturbed}
 
@@ -122,3 +126,26 @@ absent_key_is_not_disturbed p q s before after d = by (subst (λ h. (64 ≤ stir
     by : (64 ≤ 2) ⊎ ((64 ≤ 2 + (count (glanced 0) q - count (glanced 0) p)) × PresentBetween shape absent 0 added refused) → ⊥
     by (inl many) = absurd (omega (arith, many))
     by (inr (many, (value, r))) = some_first value (always absent 0 _ _ added (Some value) refl refl r)
+
+-- ---- steps
+
+-- a get takes 670 at most, and no more
+get_in_steps : (p q : Pass) → step_count p ≡ 5 → step_count q ≡ 675 → TakesAtMost most_steps_of_get p q
+get_in_steps p q before after = omega (arith, before, after)
+
+get_in_no_more : (p q : Pass) → step_count p ≡ 5 → step_count q ≡ 676 → ¬ (TakesAtMost most_steps_of_get p q)
+get_in_no_more p q before after took = absurd (omega (arith, before, after, took))
+
+-- a gets takes 1302 at most, and no more
+gets_in_steps : (p q : Pass) → step_count p ≡ 5 → step_count q ≡ 1307 → TakesAtMost most_steps_of_gets p q
+gets_in_steps p q before after = omega (arith, before, after)
+
+gets_in_no_more : (p q : Pass) → step_count p ≡ 5 → step_count q ≡ 1308 → ¬ (TakesAtMost most_steps_of_gets p q)
+gets_in_no_more p q before after took = absurd (omega (arith, before, after, took))
+
+-- two comings into segments pay for two looks that found a bucket's bit set, and not for three
+two_are_paid : (p q : Pass) → ((bucket : ℕ) → count (glanced bucket) q ≤ count (glanced bucket) p + 2) → count entered p ≡ 7 → count entered q ≡ 9 → PaysForGlances p q
+two_are_paid p q two before after bucket = let few = two bucket in omega (arith, few, before, after)
+
+three_are_not_paid : (p q : Pass) → count (glanced 0) p ≡ 4 → count (glanced 0) q ≡ 7 → count entered p ≡ 7 → count entered q ≡ 9 → ¬ (PaysForGlances p q)
+three_are_not_paid p q none three before after pays = let paid = pays 0 in absurd (omega (arith, paid, none, three, before, after))

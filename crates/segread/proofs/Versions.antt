@@ -219,6 +219,12 @@ module _ (b : Board) (key : List ℕ) (now from tries : ℕ) (hit : Hit) (value 
           onward = let on = s.onward in omega (arith, on, words);
         }
 
+    pub past_words : (next : Place) → IsNext b.shape hit.place third (Some next) → words_below (position b.shape (trace r) hit.place) ≤ words_below (position b.shape (trace r) next)
+    past_words next after =
+        let n = next_of b.shape key hit.place at third (trace l) (trace r) valid lawful_r s.place passed next after in
+        let words : words_below (position b.shape (trace r) next) ≡ words_below at + 1 = sym n.words ∙ word_more at in'.0 in
+        subst (λ k. words_below k ≤ words_below (position b.shape (trace r) next)) same_r (omega (arith, words))
+
     pub ends_past : IsNext b.shape hit.place third None → IsMissed b.shape key now from tries p r
     ends_past after = record {
       missed = λ start here ahead. gone_reads b.shape key now start (trace r)

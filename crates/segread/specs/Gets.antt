@@ -1,16 +1,16 @@
 -- What a gets answers: a value and a version of one moment. What each of its scans finds:
 -- if a scan was disturbed, the next one goes on where that one stopped.
-use Rattle.std.specs.Prelude.{◌≡◌, ◌≢◌, ◌⊎◌, true, false, ℕ, ◌+◌, ◌-◌, ◌<◌, ◌≤◌, List, Option, Some, None}
+use Rattle.std.specs.Prelude.{◌≡◌, ◌≢◌, ◌⊎◌, true, false, ℕ, ◌+◌, ◌*◌, ◌-◌, ◌<◌, ◌≤◌, List, Option, Some, None}
 use Rattle.segword.specs.Words.{Info, IsSameItem, item_word, Shape, tag_part}
 use Rattle.segmodel.specs.declared.answer.GetsAnswer.TheVariants as gets
 use Rattle.segmodel.specs.Words.{after, Begins, bucket_of, entries_of, Entry, GetsAnswer, IsBetween}
 use Rattle.segmodel.specs.Words.{reads_version, stirred}
 use Rattle.segcore.specs.Event as event
-use Rattle.segcore.specs.Words.{Event, glanced, HasBit, IsSegment, KeyAhead}
+use Rattle.segcore.specs.Words.{entered, Event, glanced, HasBit, IsSegment, KeyAhead}
 use Rattle.segbase.specs.Words.{Board, count, locked_of, number, Pass, Place, position, seen}
 use Rattle.segbase.specs.Words.{SinceFirst, trace}
 use Rattle.segstore.specs.Words.{ChangesNothing, FoundItem, GoesOn, IsReader, IsReaderIn}
-use Rattle.segstore.specs.Words.{RaisesNothing, word_of_place}
+use Rattle.segstore.specs.Words.{RaisesNothing, step_count, word_of_place}
 use Rattle.segread.specs.declared.scan.Hit.{Hit}
 use Rattle.segread.specs.declared.version.VersionLook.{VersionLook}
 use Rattle.segread.specs.declared.version.VersionLook.TheVariants as look
@@ -19,7 +19,7 @@ use Rattle.segread.specs.declared.version.Attempt.TheVariants as attempt
 use Rattle.segread.specs.Costs.{CostsOfGets}
 use Rattle.segread.specs.Reads.{ReadsBetween}
 use Rattle.segread.specs.Hits.{GetsRaisesFrom, GlancesFew, GlancesNothing, GlancesOnce, OnlyScans}
-use Rattle.segread.specs.Hits.{RaisesFrom, TriesFew}
+use Rattle.segread.specs.Hits.{PaysForGlances, RaisesFrom, TriesFew}
 use Rattle.segread.specs.Scanning.{IsPlaceOf, words_below, ComesIn, CountsTries, AdvancesSearch, GivesUp}
 
 -- ---- the answer
@@ -112,6 +112,38 @@ pub record IsMissed (shape : Shape) (key : List ℕ) (now from tries : ℕ) (p q
       → ReadsBetween shape key now (event.seen start) (seen q) None
   pub tried : Attempts from 32 tries 63 p q
   pub glances : GlancesOnce p q
+
+-- ---- steps
+
+-- From one position to another the pass took at most a step for each word,
+-- and fourteen for each time that it came into a segment. So many of them are left to take.
+pub record Strides (from to left : ℕ) (p q : Pass) : Type 0 where
+  pub most : step_count q + left + words_below from + 14 * count entered p
+      ≤ step_count p + words_below to + 14 * count entered q
+  pub visits : PaysForGlances p q
+
+-- where one scan stopped, and the step that is left: to leave the segment of what was found
+abbrev pub end_of_sight : Shape → VersionLook → Pass → ℕ
+end_of_sight shape (look.Found hit value info word) q = position shape (trace q) hit.place
+end_of_sight shape look.Absent q = 32
+end_of_sight shape look.Busy q = 32
+
+abbrev pub left_of_sight : VersionLook → ℕ
+left_of_sight (look.Found hit value info word) = 1
+left_of_sight look.Absent = 0
+left_of_sight look.Busy = 0
+
+abbrev pub StridesToSight : Board → Place → VersionLook → Pass → Pass → Type 0
+StridesToSight b from told p q =
+    Strides (position b.shape (trace p) from) (end_of_sight b.shape told q) (left_of_sight told) p q
+
+abbrev pub end_of_attempt : Shape → Attempt → Pass → ℕ
+end_of_attempt shape (attempt.Answered told) q = 32
+end_of_attempt shape (attempt.GoesOn place tries) q = position shape (trace q) place
+
+abbrev pub StridesTo : Board → Place → Attempt → Pass → Pass → Type 0
+StridesTo b from told p q =
+    Strides (position b.shape (trace p) from) (end_of_attempt b.shape told q) 0 p q
 
 -- ---- one scan for the key and its version, from a position on, after some tries were counted
 

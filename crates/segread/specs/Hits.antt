@@ -29,6 +29,11 @@ GlancesOnce p q = (bucket : ℕ) → count (glanced bucket) q ≤ count (glanced
 abbrev pub GlancesFew : Pass → Pass → Type 0
 GlancesFew p q = (bucket : ℕ) → count (glanced bucket) q ≤ count (glanced bucket) p + 64
 
+-- for each look that found a bucket's bit set, the pass came into a segment
+abbrev pub PaysForGlances : Pass → Pass → Type 0
+PaysForGlances p q = (bucket : ℕ)
+    → count (glanced bucket) q + count entered p ≤ count (glanced bucket) p + count entered q
+
 -- how often the pass raised a frequency, and found a bucket's bit set by a look without it
 abbrev pub beside_scans : Pass → ℕ × (ℕ → ℕ)
 beside_scans p = (count raised p, λ bucket. count (glanced bucket) p)

@@ -11,7 +11,7 @@ use Rattle.segread.specs.declared.held.HeldRow.{HeldRow}
 use Rattle.segread.specs.declared.held.Hold.{Hold}
 use Rattle.segread.specs.declared.held.HoldAnswer.{HoldAnswer}
 use Rattle.segread.specs.declared.held.HoldAnswer.TheVariants as hold_answer
-use Rattle.segstore.specs.Words.{ChangesNothing, CostsNothing, GoesOn, memo}
+use Rattle.segstore.specs.Words.{ChangesNothing, CostsNothing, GoesOn, memo, TakesAtMost}
 use Rattle.segread.specs.Costs.{CostsOfHold}
 use Rattle.segread.specs.Reads.{ReadsBetween}
 
@@ -73,11 +73,12 @@ pub record HoldsItem (b : Board) (key : List ℕ) (now : ℕ) (told : HoldAnswer
   pub costs : CostsOfHold p q
 
 -- The value that is read is the one that the pass holds.
--- Reading it changes nothing and costs nothing, and the hold stays.
+-- Reading it changes nothing and costs nothing but five loads, and the hold stays.
 pub record ReadsRow (b : Board) (row : HeldRow) (told : List ℕ) (p q : Pass) : Type 0 where
   pub on : GoesOn b p q
   pub keeps : ChangesNothing p q
   pub costs_nothing : CostsNothing p q
+  pub steps : TakesAtMost 5 p q
   pub hold : IsHeldRow b.shape row q
   pub value : IfSome (holding p) (λ held. told ≡ held.value)
 
@@ -101,8 +102,9 @@ pub record Releases (p q : Pass) : Type 0 where
   pub sets : SetsHold None p q
   pub unfilled : (held : Held) → holding p ≡ Some held → IsUnfilled held (seen q)
 
--- a release ends the hold of the pass, and costs nothing
+-- a release ends the hold of the pass, and costs nothing but one step
 pub record ReleasesHold (b : Board) (p q : Pass) : Type 0 where
   pub on : GoesOn b p q
   pub costs_nothing : CostsNothing p q
+  pub steps : TakesAtMost 1 p q
   pub releases : Releases p q

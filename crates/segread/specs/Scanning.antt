@@ -1,11 +1,12 @@
 -- A reader's way along the chain of a key, without the bucket's bit: what its looks found,
 -- how many tries it counted, and how often it came into segments.
-use Rattle.std.specs.Prelude.{◌≡◌, ℕ, ◌+◌, ◌-◌, ◌/◌, ◌<◌, ◌≤◌, List}
+use Rattle.std.specs.Prelude.{◌≡◌, ℕ, ◌+◌, ◌*◌, ◌-◌, ◌/◌, ◌<◌, ◌≤◌, List}
 use Rattle.segword.specs.Words.{Item, item_word, Shape}
 use Rattle.segmodel.specs.Words.{after, Begins, bucket_of, entries_of}
 use Rattle.segcore.specs.Words.{entered, Event, KeyAhead, KeyGone, seen, WasGone}
 use Rattle.segbase.specs.Words.{Board, count, home_bucket, Pass, Place, position, trace}
 use Rattle.segstore.specs.Words.{FoundKey, IsChained, IsKeyed, IsReader, IsReaderIn, SawWord}
+use Rattle.segstore.specs.Words.{step_count}
 use Rattle.segstore.specs.declared.read.Keyed.{Keyed}
 use Rattle.segstore.specs.declared.read.Keyed.TheVariants as keyed
 use Rattle.segread.specs.declared.scan.Hit.{Hit}
@@ -80,6 +81,42 @@ pub record Tries (from to some more : ℕ) (p q : Pass) : Type 0 where
   pub comes_in : ComesIn from to some more p q
   pub onward : words_below from + some ≤ words_below to + more
   pub only_scans : OnlyScans p q
+
+-- ---- steps
+
+-- The step that is left after a try and after a scan:
+-- a pass that found the key's item still has to leave its segment.
+abbrev pub left_of_try : Keyed → ℕ
+left_of_try (keyed.Same item header) = 1
+left_of_try (keyed.Other item) = 0
+left_of_try (keyed.Changed word) = 0
+
+abbrev pub left_of_scan : Scan → ℕ
+left_of_scan (scan.Found hit) = 1
+left_of_scan (scan.Passed word tries) = 0
+left_of_scan scan.Busy = 0
+
+-- a try takes seven steps, of which the last may be left
+abbrev pub TriesInSeven : Keyed → Pass → Pass → Type 0
+TriesInSeven told p q = step_count q + left_of_try told ≤ step_count p + 7
+
+-- where a scan ended: behind the item that it found, or else at a position
+abbrev pub end_of_scan : Shape → ℕ → Scan → Pass → ℕ
+end_of_scan shape to (scan.Found hit) q = position shape (trace q) hit.place + 1
+end_of_scan shape to (scan.Passed word tries) q = to
+end_of_scan shape to scan.Busy q = 32
+
+-- From one position to another the pass took at most a step for each word,
+-- and seven for each time that it came into a segment. It came in, if a step is left.
+pub record Paces (from to left : ℕ) (p q : Pass) : Type 0 where
+  pub most : step_count q + left + words_below from + 7 * count entered p
+      ≤ step_count p + words_below to + 7 * count entered q
+  pub came_in : count entered p + left ≤ count entered q
+
+-- the same from a place to where a scan ended
+abbrev pub PacesTo : Board → Place → ℕ → Scan → Pass → Pass → Type 0
+PacesTo b from to told p q =
+    Paces (position b.shape (trace p) from) (end_of_scan b.shape to told q) (left_of_scan told) p q
 
 -- ---- what was found
 

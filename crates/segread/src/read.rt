@@ -2,7 +2,7 @@
 ghost use Rattle.std.specs.Prelude.{◌≡◌};
 ghost use Rattle.segcore.specs.Words.{entered};
 ghost use Rattle.segbase.specs.Words.{count, IsPassOf, trace};
-ghost use Rattle.segstore.specs.Words.{IsChained, IsQuiet, IsReader};
+ghost use Rattle.segstore.specs.Words.{IsChained, IsQuiet, IsReader, TakesAtMost};
 ghost use Rattle.segread.specs.Reads.{ReadsKey};
 ghost use Rattle.segread.specs.Hits.{GlancesNothing, RaisesFound};
 
@@ -42,6 +42,7 @@ pub(crate) fn count_hit(board: &Board, pass: &mut Pass, place: Place, item: Item
     requires pass { IsPassOf board.now pass.old }
     requires place { IsChained board.now.shape (trace pass.old) place }
     ensures reads { IsReader board.now pass.old pass.new }
+    ensures steps { TakesAtMost 1 pass.old pass.new }
     ensures stays_out { count entered pass.new ≡ count entered pass.old }
     ensures glances { GlancesNothing pass.old pass.new }
     ensures raises { RaisesFound board.now place item draw pass.old pass.new }

@@ -1,14 +1,15 @@
 //! A reader's way along the chain of a key, without the bucket's bit. It looks at each word, and at
 //! a word with the key's tag it looks a second time, from within the item's segment.
 //! A scan can begin at any place of the chain.
-ghost use Rattle.std.specs.Prelude.{◌≡◌, ◌≢◌, ◌<◌, ◌≤◌, IfSome, IsNone};
+ghost use Rattle.std.specs.Prelude.{◌≡◌, ◌≢◌, ◌+◌, ◌<◌, ◌≤◌, IfSome, IsNone};
 ghost use Rattle.segword.specs.Words.{item_word, tag_part};
 ghost use Rattle.segcore.specs.Words.{enter, May};
-ghost use Rattle.segbase.specs.Words.{IsPassOf, number, trace};
+ghost use Rattle.segbase.specs.Words.{IsPassOf, number, position, trace};
 ghost use Rattle.segstore.specs.Words.{IsChained, IsQuiet, IsSought, MayEnterAny};
 ghost use Rattle.segread.specs.Looking.{AfterLook};
 ghost use Rattle.segread.specs.Scanning.{place_of, GoesAlong, IsPlaceOf, IsScanner, ScansChain};
-ghost use Rattle.segread.specs.Scanning.{ScansOn, TriesItem};
+ghost use Rattle.segread.specs.Scanning.{left_of_scan, Paces, PacesTo, ScansOn, TriesInSeven};
+ghost use Rattle.segread.specs.Scanning.{TriesItem};
 
 use segbase::{Board, Pass, Place};
 use segstore::{Keyed, Sought, TRIES, enter_segment, leave_segment, next_place, read_keyed};
@@ -58,6 +59,7 @@ pub(crate) fn try_item(
     requires place { IsChained board.now.shape (trace pass.old) place }
     requires may { May board.now.shape (trace pass.old) (number pass.old) (enter item.seg) }
     ensures tries { TriesItem board.now place item key.now result.0 result.1 pass.old pass.new }
+    ensures steps { TriesInSeven result.0 pass.old pass.new }
 {
     let deadline = enter_segment(board, pass, item.seg);
     let keyed = read_keyed(board, pass, place, item.pack(), key);
@@ -77,6 +79,8 @@ fn visit_word(board: &Board, pass: &mut Pass, place: Place, sought: &Sought, tri
     requires sought { IsSought board.now.shape sought.now }
     requires tries { tries < TRIES }
     ensures reads { IsScanner board.now result pass.old pass.new }
+    ensures steps { PacesTo board.now place
+        (position board.now.shape (trace pass.old) place + 1) result pass.old pass.new }
     ensures way { AfterLook board.now pass.old
         (λ first. GoesAlong board.now sought.now.key place place tries result first pass.new) }
 {
@@ -126,6 +130,9 @@ fn visit_bucket(
     requires sought { IsSought board.now.shape sought.now }
     requires tries { tries < TRIES }
     ensures reads { IsScanner board.now result pass.old pass.new }
+    ensures steps { PacesTo board.now start
+        (position board.now.shape (trace pass.old) (place_of start.bucket LAST_WORD) + 1) result
+        pass.old pass.new }
     ensures way { AfterLook board.now pass.old
         (λ first. GoesAlong board.now sought.now.key start (place_of start.bucket LAST_WORD) tries result
         first pass.new) }
@@ -158,6 +165,7 @@ pub(crate) fn scan_from(
     requires sought { IsSought board.now.shape sought.now }
     requires tries { tries < TRIES }
     ensures reads { IsScanner board.now result pass.old pass.new }
+    ensures steps { PacesTo board.now place 32 result pass.old pass.new }
     ensures scan { AfterLook board.now pass.old
         (λ first. ScansOn board.now sought.now.key place tries result first pass.new) }
 {
@@ -190,6 +198,7 @@ pub(crate) fn scan_from(
 pub(crate) fn scan_for(board: &Board, pass: &mut Pass, key: &Key) -> Scan
     requires pass { IsQuiet board.now pass.old }
     ensures reads { IsScanner board.now result pass.old pass.new }
+    ensures steps { Paces 1 32 (left_of_scan result) pass.old pass.new }
     ensures scan { AfterLook board.now pass.old
         (λ first. ScansChain board.now key.now result first pass.new) }
 {

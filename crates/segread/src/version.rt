@@ -7,7 +7,7 @@ ghost use Rattle.segstore.specs.Words.{IsQuiet, IsReader, IsSought, MayEnterAny}
 ghost use Rattle.segread.specs.Scanning.{IsPlaceOf};
 ghost use Rattle.segread.specs.Looking.{AfterLook};
 ghost use Rattle.segread.specs.Gets.{ReadsVersion, HasNoBit, Attempted, FindsLocked, FindsVersion};
-ghost use Rattle.segread.specs.Gets.{Sees};
+ghost use Rattle.segread.specs.Gets.{Sees, Strides, StridesTo, StridesToSight};
 
 use crate::read::count_hit;
 use crate::scan::{Hit, Scan, item_of_tag, scan_for, scan_from};
@@ -80,6 +80,7 @@ fn find_locked(board: &Board, pass: &mut Pass, key: &Key, now: u32) -> GetsAnswe
     requires locked { locked_of pass.old ≡ Some (bucket_of board.now.shape key.now) }
     ensures answer { AfterLook board.now pass.old
         (λ first. FindsLocked board.now key.now now result first pass.new) }
+    ensures steps { Strides 1 32 0 pass.old pass.new }
     ensures none { (value : List ℕ) (version : ℕ) → result ≢ gets.Found value version }
 {
     match scan_for(board, pass, key) {
@@ -104,6 +105,7 @@ fn find_version(board: &Board, pass: &mut Pass, call: &GetsCall) -> GetsAnswer
     requires sought { IsSought board.now.shape call.now.sought }
     requires free { HasNoBit board.now.shape call.now.sought.key pass.old }
     requires versions { board.now.shape.first_version < 2 ^ 32 }
+    ensures steps { Strides 1 32 0 pass.old pass.new }
     ensures answer { AfterLook board.now pass.old
         (λ first. FindsVersion board.now call.now.sought.key call.now.draw call.now.clock result
         first pass.new) }
@@ -139,6 +141,7 @@ fn try_version(board: &Board, pass: &mut Pass, call: &GetsCall, place: Place, tr
     requires versions { board.now.shape.first_version < 2 ^ 32 }
     requires tries { tries < TRIES }
     ensures reads { IsReader board.now pass.old pass.new }
+    ensures steps { StridesTo board.now place result pass.old pass.new }
     ensures attempt { AfterLook board.now pass.old
         (λ first. Attempted board.now call.now.sought.key call.now.clock call.now.draw place tries
         result first pass.new) }
@@ -199,6 +202,7 @@ fn see_version(
     requires free { HasNoBit board.now.shape call.now.sought.key pass.old }
     requires versions { board.now.shape.first_version < 2 ^ 32 }
     requires tries { tries < TRIES }
+    ensures steps { StridesToSight board.now place result pass.old pass.new }
     ensures sight { AfterLook board.now pass.old
         (λ first. Sees board.now call.now.sought.key call.now.clock place tries result
         first pass.new) }

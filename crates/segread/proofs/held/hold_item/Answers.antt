@@ -17,6 +17,7 @@ use Rattle.segread.proofs.Answered.{gone_reads}
 use Rattle.segread.proofs.ComingIn.{glances_none, leaves, looked, raises_none, same_view, out_then, few_out}
 use Rattle.segread.proofs.Hits.{hit_readable, read_in, read_value}
 use Rattle.segread.proofs.HoldCalls.{has_found, takes_hold, holds_none, takes_no_bit, draws_nothing}
+use Rattle.segread.proofs.Pacing.{paced_from, same_steps}
 use Rattle.segread.proofs.Holding.{held_at}
 use Rattle.segread.proofs.held.hold_item.Goals as goal
 
@@ -41,6 +42,7 @@ returns-then-is_holding c = record {
     already = search rules;
     costs = record {
       looks = record { takes_no_bit = record { taken = refl; bounced = λ bucket. refl }; draws_nothing = λ bucket. refl; tries = omega arith };
+      steps = omega arith;
       glances_nothing = λ bucket. refl;
       raises_nothing = refl;
     };
@@ -50,7 +52,8 @@ returns-then-is_holding c = record {
 pub returns-then-hit-now : goal.returns-then-hit-now
 returns-then-hit-now c = let b = c.args.board.now in let p = c.args.pass.now in let q = c.scan_for.new.pass in let r = c.leave_segment.new.pass in let f = c.in-Found in let hit = f.hit in let s = f.ensures.scan in let m = s.0 in let x = s.2 in
     let left = leaves b hit.item.seg q r c.leave_segment.ensures.moved in let reads = leave_then b m q r hit.item.seg x.reads c.leave_segment.ensures in record {
-      holds = holds_none b c.args.key.now c.args.now Miss p m r c.requires.pass s.1 reads (few_out m q r x.tries left) (left.1 ∙ x.only_scans)
+      holds = holds_none b c.args.key.now c.args.now Miss p m r c.requires.pass s.1 reads
+          (let most = paced_from b c.args.key.now p m q 1 s.1 x.tries f.ensures.steps in let away = c.leave_segment.ensures.steps in omega (arith, most, away)) (few_out m q r x.tries left) (left.1 ∙ x.only_scans)
           (λ keeps. (keeps, since_look b p m r (λ start. ReadsBetween b.shape c.args.key.now c.args.now (event.seen start) (seen r) None) s.1 reads (expired_reads b c.args.key.now hit m q r c.args.now x.answer c.leave_segment.ensures (let past = c.if-hit-now.true in omega arith)))) (search rules);
     }
 
@@ -78,6 +81,7 @@ returns-else-hit-now c =
             draws_nothing = draws_nothing b read.reads.own held p t r c.requires.pass read.reads.moved read.reads.only read.plain read.memo set.pass set.view set.sets;
             tries = let few = few_out m q r x.tries still in let same = first.0 in omega (arith, few, same);
           };
+          steps = (let most = paced_from b key p m q 1 s.1 x.tries f.ensures.steps in let read = v.ensures.steps in let same = same_steps t r set.view in omega (arith, most, read, same));
           glances_nothing = glances_none p r (still.1 ∙ (x.only_scans ∙ first.1));
           raises_nothing = raises_none p r (still.1 ∙ (x.only_scans ∙ first.1));
         };
@@ -86,12 +90,12 @@ returns-else-hit-now c =
 
 pub returns-in-Passed : goal.returns-in-Passed
 returns-in-Passed c = let b = c.args.board.now in let p = c.args.pass.now in let q = c.scan_for.new.pass in let s = c.in-Passed.ensures.scan in let m = s.0 in let x = s.2 in record {
-  holds = holds_none b c.args.key.now c.args.now Miss p m q c.requires.pass s.1 x.reads x.tries x.only_scans
+  holds = holds_none b c.args.key.now c.args.now Miss p m q c.requires.pass s.1 x.reads (let most = paced_from b c.args.key.now p m q 0 s.1 x.tries c.in-Passed.ensures.steps in omega (arith, most)) x.tries x.only_scans
       (λ keeps. (keeps, since_look b p m q (λ start. ReadsBetween b.shape c.args.key.now c.args.now (event.seen start) (seen q) None) s.1 x.reads (gone_reads b.shape c.args.key.now c.args.now (trace m) (trace q) x.answer))) (search rules);
 }
 
 pub returns-in-Busy : goal.returns-in-Busy
 returns-in-Busy c = let b = c.args.board.now in let p = c.args.pass.now in let q = c.scan_for.new.pass in let s = c.in-Busy.ensures.scan in let m = s.0 in let x = s.2 in record {
-  holds = holds_none b c.args.key.now c.args.now Busy p m q c.requires.pass s.1 x.reads x.tries x.only_scans
+  holds = holds_none b c.args.key.now c.args.now Busy p m q c.requires.pass s.1 x.reads (let most = paced_from b c.args.key.now p m q 0 s.1 x.tries c.in-Busy.ensures.steps in omega (arith, most)) x.tries x.only_scans
       (λ keeps. (keeps, since_look b p m q (λ start. 64 ≤ stirred b.shape c.args.key.now (event.seen start) (seen q)) s.1 x.reads (let more = x.answer in omega (arith, more)))) (search rules);
 }

@@ -1,9 +1,11 @@
-use Rattle.std.proofs.Common.{None, [], ◌∷◌}
+use Rattle.std.proofs.Common.{None, [], ◌∷◌, arith}
 use Rattle.segcore.specs.Words.{entered, glanced, raised}
 use Rattle.segcore.specs.declared.event.Event.TheVariants.{Left}
 use Rattle.segbase.specs.Words.{number}
 use Rattle.segbase.proofs.Moves.{moved_count}
 use Rattle.segstore.proofs.Costs.{costs_nothing}
+use Rattle.segstore.proofs.Looks.{one_step}
+use Rattle.segread.proofs.Pacing.{same_steps}
 use Rattle.segread.proofs.HoldCalls.{moved_to, releases, takes_no_bit, draws_nothing}
 use Rattle.segread.proofs.held.release_row.Goals as goal
 
@@ -19,6 +21,7 @@ returns c =
             (takes_no_bit b own None p r q c.requires.pass left.did.moved (tt, tt) st.plain st.memo set.pass set.view set.sets)
             (draws_nothing b own None p r q c.requires.pass left.did.moved (tt, tt) st.plain st.memo set.pass set.view set.sets)
             (λ i. (moved_count b own p q raised m i, moved_count b own p q entered m i, λ bucket. moved_count b own p q (glanced bucket) m i));
+        steps = (let one = one_step b p r _ _ st in let same = same_steps r q set.view in omega (arith, one, same));
         releases = ends.1;
       };
     }

@@ -1,7 +1,7 @@
 use Rattle.std.proofs.Common.{◌≡◌, [], IfSome, sym, ap, subst, ◌∙◌, arith}
 use Rattle.segcore.specs.Words.{Row}
 use Rattle.segbase.specs.Words.{Memo}
-use Rattle.segstore.proofs.Looks.{loaded, may_load, reads_then}
+use Rattle.segstore.proofs.Looks.{loaded, may_load, one_step, reads_then}
 use Rattle.segstore.proofs.Readers.{looks}
 use Rattle.segstore.proofs.Costs.{costs_nothing}
 use Rattle.segstore.proofs.Draws.{reader_draws_none}
@@ -30,6 +30,7 @@ returns c =
         on = on.0;
         keeps = on.1;
         costs_nothing = costs_nothing p q (reads_no_bit b p q i) (reader_draws_none b p q i.reads) (no_reader b [] p q reads.looked.did.moved tt);
+        steps = (let one = one_step b p l.new.pass _ _ l.ensures.step in let four = v.ensures.steps in omega (arith, one, four));
         hold = stays b.shape hold p q is (ap (λ (m : Memo). m.holding) on.1.memo);
         value = subst (λ o. IfSome o (λ held. v.result ≡ held.value)) (sym is.holds) is_value;
       };

@@ -8,6 +8,7 @@ use Rattle.segstore.proofs.Readers.{leave_then, then_reader}
 use Rattle.segread.proofs.ComingIn.{few_out, glances_none, looked, leaves, raises_none}
 use Rattle.segread.proofs.Hits.{hit_readable, read_in, read_and_left, read_value, hit_raises}
 use Rattle.segread.proofs.Answered.{gone_reads, found_place, reads_key}
+use Rattle.segread.proofs.Pacing.{paced_from}
 use Rattle.segcore.proofs.Moments.{begins_on}
 use Rattle.segread.proofs.read.get.Goals as goal
 
@@ -34,6 +35,7 @@ returns-then-hit-now c =
     let m = f.ensures.scan.0 in let x = f.ensures.scan.2 in
     let left = leaves b hit.item.seg q r c.leave_segment.ensures.moved in record {
       reads = reads_key b key p m r f.ensures.scan.1 (leave_then b m q r hit.item.seg x.reads c.leave_segment.ensures) c.args.draw c.args.now get.Miss c.requires.pass
+          (let most = paced_from b key p m q 1 f.ensures.scan.1 x.tries f.ensures.steps in let away = c.leave_segment.ensures.steps in omega (arith, most, away))
           (few_out m q r x.tries left) (glances_none m r (left.1 ∙ x.only_scans)) (raises_none m r (left.1 ∙ x.only_scans))
           (expired_reads b key hit m q r c.args.now x.answer c.leave_segment.ensures (let past = c.if-hit-now.true in omega arith));
     }
@@ -49,6 +51,7 @@ returns-else-hit-now c =
     let gone = leaves b hit.item.seg t r l.ensures.moved in record {
       reads = reads_key b key p m r f.ensures.scan.1 (read_and_left b m q v.new.pass t r hit.item.seg hit.item.row x.reads v.ensures.reads c.count_hit.ensures.reads l.ensures)
           c.args.draw c.args.now (get.Found v.result) c.requires.pass
+          (let most = paced_from b key p m q 1 f.ensures.scan.1 x.tries f.ensures.steps in let read = v.ensures.steps in let one = c.count_hit.ensures.steps in let away = l.ensures.steps in omega (arith, most, read, one, away))
           (let few = x.tries in let before = still.0 in let same = c.count_hit.ensures.stays_out in let away = gone.0 in omega (arith, few, before, same, away))
           (λ bucket. glances_none t r gone.1 bucket ∙ (c.count_hit.ensures.glances bucket ∙ glances_none m v.new.pass (still.1 ∙ x.only_scans) bucket))
           (hit_raises b key v.result c.args.draw m v.new.pass t r read.reads.moved.same (moved_on b _ m v.new.pass read.reads.moved) left (raises_none m v.new.pass (still.1 ∙ x.only_scans))
@@ -59,10 +62,10 @@ returns-else-hit-now c =
 
 pub returns-in-Passed : goal.returns-in-Passed
 returns-in-Passed c = let b = c.args.board.now in let q = c.scan_for.new.pass in let s = c.in-Passed.ensures.scan in let m = s.0 in let x = s.2 in record {
-  reads = reads_key b c.args.key.now c.args.pass.now m q s.1 x.reads c.args.draw c.args.now get.Miss c.requires.pass x.tries (glances_none m q x.only_scans) (raises_none m q x.only_scans) (gone_reads b.shape c.args.key.now c.args.now (trace m) (trace q) x.answer);
+  reads = reads_key b c.args.key.now c.args.pass.now m q s.1 x.reads c.args.draw c.args.now get.Miss c.requires.pass (let most = paced_from b c.args.key.now c.args.pass.now m q 0 s.1 x.tries c.in-Passed.ensures.steps in omega (arith, most)) x.tries (glances_none m q x.only_scans) (raises_none m q x.only_scans) (gone_reads b.shape c.args.key.now c.args.now (trace m) (trace q) x.answer);
 }
 
 pub returns-in-Busy : goal.returns-in-Busy
 returns-in-Busy c = let b = c.args.board.now in let q = c.scan_for.new.pass in let s = c.in-Busy.ensures.scan in let m = s.0 in let x = s.2 in record {
-  reads = reads_key b c.args.key.now c.args.pass.now m q s.1 x.reads c.args.draw c.args.now get.Busy c.requires.pass x.tries (glances_none m q x.only_scans) (raises_none m q x.only_scans) (let more = x.answer in omega (arith, more));
+  reads = reads_key b c.args.key.now c.args.pass.now m q s.1 x.reads c.args.draw c.args.now get.Busy c.requires.pass (let most = paced_from b c.args.key.now c.args.pass.now m q 0 s.1 x.tries c.in-Busy.ensures.steps in omega (arith, most)) x.tries (glances_none m q x.only_scans) (raises_none m q x.only_scans) (let more = x.answer in omega (arith, more));
 }

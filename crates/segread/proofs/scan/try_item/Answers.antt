@@ -1,4 +1,4 @@
-use Rattle.std.proofs.Common.{◌<◌, sym, ap, subst, ◌∙◌}
+use Rattle.std.proofs.Common.{◌<◌, sym, ap, subst, ◌∙◌, arith}
 use Rattle.segword.specs.Words.{IsSameItem, item_word}
 use Rattle.segstore.specs.Words.{IsKeyed, IsReaderIn, segment_part}
 use Rattle.segcore.specs.Words.{inside}
@@ -8,8 +8,9 @@ use Rattle.segstore.proofs.Words.{chained_later, same_segment}
 use Rattle.segstore.proofs.Seconds.{segment_of_item}
 use Rattle.segstore.proofs.Readers.{looks, enters, then_reader}
 use Rattle.segread.proofs.ComingIn.{looked, came_in, try_out}
-use Rattle.segread.specs.Scanning.{HasDeadline, IsTrial, ReturnsDeadline}
+use Rattle.segread.specs.Scanning.{HasDeadline, IsTrial, ReturnsDeadline, TriesInSeven}
 use Rattle.segread.proofs.Deadlines.{deadline_lasts}
+use Rattle.segread.proofs.Pacing.{tried_and_left}
 use Rattle.segread.proofs.Tries.{keyed_from, no_deadline, trial_gone, trial_out}
 use Rattle.segread.proofs.scan.try_item.Goals as goal
 
@@ -42,10 +43,14 @@ returns-in-Same c = let b = c.args.board.now in let p = c.args.pass.now in let e
             (subst (λ s. HasDeadline b.shape s e.result (trace r.new.pass)) same
             (deadline_lasts b e.new.pass r.new.pass item.seg e.result r.ensures.looked.did.moved (is_inside b p e.new.pass item.seg comes.reads) (sym e.ensures.deadline)));
       };
+      steps = subst (λ k. TriesInSeven k p r.new.pass) (sym x.is) (let into = e.ensures.enters.steps in let read = r.ensures.steps in omega (arith, into, read));
     }
 
 pub returns : goal.returns
 returns c = let b = c.args.board.now in let p = c.args.pass.now in let e = c.enter_segment-deadline in let r = c.read_keyed-keyed in let l = c.leave_segment in let other = c.in_default.not-Same in
     let left = trial_gone b c.args.place c.args.item c.args.key.now r.result p e.new.pass r.new.pass l.new.pass e.ensures.enters r.ensures.looked
     (subst (λ w. IsKeyed b.shape c.args.place w c.args.key.now r.result (trace e.new.pass) (trace r.new.pass)) c.pack.ensures r.ensures.keyed) other l.ensures in
-    record { tries = record { once = left.0; reads = trial_out b r.result p l.new.pass other left.1; keyed = left.2; deadline = no_deadline b.shape r.result e.result (trace l.new.pass) other } }
+    record {
+      tries = record { once = left.0; reads = trial_out b r.result p l.new.pass other left.1; keyed = left.2; deadline = no_deadline b.shape r.result e.result (trace l.new.pass) other };
+      steps = tried_and_left r.result p l.new.pass other (let into = e.ensures.enters.steps in let read = r.ensures.steps in let out = l.ensures.steps in omega (arith, into, read, out));
+    }

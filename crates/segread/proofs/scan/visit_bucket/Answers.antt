@@ -2,8 +2,9 @@ use Rattle.std.proofs.Common.{◌≡◌, ◌+◌, subst, arith}
 use Rattle.segbase.specs.Words.{position, trace}
 use Rattle.segstore.proofs.Readers.{stays}
 use Rattle.segread.specs.declared.scan.Scan.TheVariants.{Passed}
-use Rattle.segread.specs.Scanning.{place_of, IsPlaceOf}
+use Rattle.segread.specs.Scanning.{end_of_scan, left_of_scan, place_of, IsPlaceOf, Paces}
 use Rattle.segread.proofs.Looking.{HasBegun, along_from, along_to, begun_none, begun_by, last_there, went}
+use Rattle.segread.proofs.Pacing.{last_paced, next_paced, paces_else, paces_none, paces_then}
 use Rattle.segread.proofs.Scans.{inner_next, scan_later, scanned_next, way_then, way_else, next_of}
 use Rattle.segread.proofs.scan.visit_bucket.Goals as goal
 
@@ -11,6 +12,7 @@ pub loop-word-init : goal.loop-word-init
 loop-word-init c = let b = c.args.board.now in let p = c.args.pass.now in record {
   begun = begun_none b c.args.sought.now.key (position b.shape (trace p) c.args.start) c.args.tries p (stays b p c.requires.pass) c.requires.tries;
   place = c.requires.start;
+  paced = paces_none (position b.shape (trace p) c.args.start) p;
 }
 
 pub returns-in_default-clause-reads : goal.returns-in_default-clause-reads
@@ -36,6 +38,7 @@ loop-word-preserved c =
     let n = next_of z key here mid x.word (trace w.middle) (trace r) c.requires.pass.valid x.ensures.reads.reads.moved.pass.lawful w.place w.is.1.passed next (inner_next z here x.word c.loop-word-test.true) in record {
       begun = begun_by b key from (position z (trace r) next) c.args.tries x.counted p w.first r w.look (scanned_next b key from mid c.args.tries c.loop-word.tries w.first w.middle r w.scanned (mid + 1) x.counted here next x.word w.is.0 w.is.1 n);
       place = n.place;
+      paced = next_paced b key from c.args.start.bucket c.loop-word.word p q r i.paced x.ensures.reads i.place x.ensures.steps;
     }
 
 pub returns-clause-reads : goal.returns-clause-reads
@@ -58,3 +61,15 @@ returns-clause-way c =
     (scan_later b v.result w.first w.middle v.new.pass w.scanned.reads w.is.0)
     (last_there b key c.args.start p w.first w.middle from c.args.tries v.result v.new.pass w.look w.scanned.reads c.requires.start
     (way_then b key from mid c.args.tries c.loop-word.tries w.first w.middle v.new.pass w.scanned (mid + 1) last v.result w.is.1))
+
+pub returns-in_default-clause-steps : goal.returns-in_default-clause-steps
+returns-in_default-clause-steps c = let z = c.args.board.now.shape in let p = c.args.pass.now in let q = c.loop-word.pass in let v = c.visit_word in let r = v.new.pass in
+    let from = position z (trace p) c.args.start in let mid = position z (trace q) (place_of c.args.start.bucket c.loop-word.word) in
+    paces_else z from (mid + 1) (position z (trace p) (place_of c.args.start.bucket 7) + 1) v.result p r c.in_default.not-Passed
+    (paces_then from mid (end_of_scan z (mid + 1) v.result r) (left_of_scan v.result) p q r c.loop-word.invariant.paced v.ensures.steps)
+
+pub returns-clause-steps : goal.returns-clause-steps
+returns-clause-steps c = let b = c.args.board.now in let z = b.shape in let p = c.args.pass.now in let q = c.loop-word.pass in let v = c.visit_word-2 in let i = c.loop-word.invariant in
+    let seven : c.loop-word.word ≡ 7 = let most = i.place.0.in_table.2 in let over = c.loop-word-test.false in omega arith in
+    let paced = subst (λ w. Paces (position z (trace p) c.args.start) (position z (trace q) (place_of c.args.start.bucket w)) 0 p q) seven i.paced in
+    last_paced b c.args.sought.now.key (position z (trace p) c.args.start) c.args.start v.result p q v.new.pass i.begun.reads c.requires.start paced v.ensures.steps

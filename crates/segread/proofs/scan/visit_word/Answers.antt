@@ -1,11 +1,14 @@
-use Rattle.std.proofs.Common.{◌∙◌, [], refl, arith, sym, subst}
+use Rattle.std.proofs.Common.{◌∙◌, ◌+◌, ◌≤◌, [], refl, arith, sym, subst}
 use Rattle.segbase.specs.Words.{position, trace}
 use Rattle.segbase.proofs.Moves.{moved_on}
 use Rattle.segstore.specs.Words.{SawItem}
-use Rattle.segstore.proofs.Words.{chained_later}
+use Rattle.segstore.proofs.Words.{chained_later, same_place}
 use Rattle.segstore.proofs.Seconds.{looked_at}
 use Rattle.segstore.proofs.Readers.{looks, stays, reader_then, enter_then}
-use Rattle.segread.proofs.ComingIn.{tries_none, tries_once}
+use Rattle.segstore.proofs.Looks.{one_step}
+use Rattle.segread.specs.Scanning.{TriesInSeven, words_below}
+use Rattle.segread.proofs.ComingIn.{looked, tries_none, tries_once, word_more, words_few}
+use Rattle.segread.proofs.Pacing.{at_word, one_try, word_found, word_paced}
 use Rattle.segread.proofs.Tries.{counts_none, trying_first, trying_on, tried, saw_here, passed_word, passed_other, may_enter, tried_as}
 use Rattle.segread.proofs.Looking.{looks_first, still_of}
 use Rattle.segread.proofs.Scans.{in_chain, hit_here, word_passed, word_tried, word_given_up}
@@ -35,6 +38,7 @@ pub loop-count-init : goal.loop-count-init
 loop-count-init c = let b = c.args.board.now in let p = c.args.pass.now in let m = c.look-word.new.pass in let l = c.look-word.ensures in let x = c.in-Some.ensures.some in let at = position b.shape (trace m) c.args.place in
     let first = looks_first b p m c.args.place c.look-word.result l.step in record {
       whole = looks b p m first.look;
+      paced = at_word p m (one_step b p m _ _ l.step) (looked b p m l.did.moved).0;
       first = m;
       look = first;
       place = still_of b c.args.sought.now.key p m first c.args.place c.requires.place;
@@ -47,6 +51,7 @@ pub loop-count-preserved : goal.loop-count-preserved
 loop-count-preserved c = let b = c.args.board.now in let i = c.loop-count.invariant in let k = tried_as c.args.board.now c.args.place c.loop-count.item c.args.sought.now.key c.loop-count.pass c.try_item-keyed.new.pass c.try_item-keyed.result.0 c.try_item-keyed.result.1 c.try_item-keyed.ensures.tries _ c.in-Changed.is in let x = c.in-Some-item_of_tag.ensures.some in
     let p = i.first in let q = c.loop-count.pass in let r = c.try_item-keyed.new.pass in let at = position b.shape (trace p) c.args.place in record {
       whole = reader_then b c.args.pass.now q r i.whole k.reads;
+      paced = one_try _ c.args.pass.now q r i.paced k.once.0 c.try_item-keyed.ensures.steps;
       first = p;
       look = i.look;
       place = i.place;
@@ -132,3 +137,34 @@ returns-clause-way c = let b = c.args.board.now in let i = c.loop-count.invarian
         },
       ),
     )
+
+pub returns-in_default-clause-steps : goal.returns-in_default-clause-steps
+returns-in_default-clause-steps c = let b = c.args.board.now in let p = c.args.pass.now in let m = c.look-word.new.pass in let l = c.look-word.ensures in let at = position b.shape (trace p) c.args.place in
+    let more = word_more at (in_chain b.shape (trace p) c.args.place c.requires.pass.lawful c.requires.place.0).0 in
+    word_paced at (at + 1) p m (omega (arith, more)) (at_word p m (one_step b p m _ _ l.step) (looked b p m l.did.moved).0)
+
+pub returns-in-Same-clause-steps : goal.returns-in-Same-clause-steps
+returns-in-Same-clause-steps c = let b = c.args.board.now in let z = b.shape in let i = c.loop-count.invariant in let p = c.args.pass.now in let q = c.loop-count.pass in let r = c.try_item-keyed.new.pass in let at = position z (trace p) c.args.place in
+    let k = tried_as c.args.board.now c.args.place c.loop-count.item c.args.sought.now.key c.loop-count.pass c.try_item-keyed.new.pass c.try_item-keyed.result.0 c.try_item-keyed.result.1 c.try_item-keyed.ensures.tries _ c.in-Same.is in
+    let reads = (enter_then b p q r c.in-Same.item.seg i.whole k.reads).reads in
+    let same = (same_place z (trace p) (trace r) c.args.place reads.moved.pass.lawful (moved_on b reads.own p r reads.moved) c.requires.place.0).1 in
+    let more = word_more at (in_chain z (trace p) c.args.place c.requires.pass.lawful c.requires.place.0).0 in
+    word_found at (position z (trace r) c.args.place + 1) p q r (subst (λ n. words_below at + 1 ≤ words_below (n + 1)) (sym same) (omega (arith, more))) i.paced k.once.0
+    (subst (λ t. TriesInSeven t q r) c.in-Same.is c.try_item-keyed.ensures.steps)
+
+pub returns-in-Other-clause-steps : goal.returns-in-Other-clause-steps
+returns-in-Other-clause-steps c = let z = c.args.board.now.shape in let i = c.loop-count.invariant in let p = c.args.pass.now in let q = c.loop-count.pass in let r = c.try_item-keyed.new.pass in let at = position z (trace p) c.args.place in
+    let k = tried_as c.args.board.now c.args.place c.loop-count.item c.args.sought.now.key c.loop-count.pass c.try_item-keyed.new.pass c.try_item-keyed.result.0 c.try_item-keyed.result.1 c.try_item-keyed.ensures.tries _ c.in-Other.is in
+    let more = word_more at (in_chain z (trace p) c.args.place c.requires.pass.lawful c.requires.place.0).0 in
+    word_paced at (at + 1) p r (omega (arith, more)) (one_try _ p q r i.paced k.once.0 c.try_item-keyed.ensures.steps)
+
+pub returns-in-None-clause-steps : goal.returns-in-None-clause-steps
+returns-in-None-clause-steps c = let z = c.args.board.now.shape in let i = c.loop-count.invariant in let p = c.args.pass.now in let q = c.loop-count.pass in let r = c.try_item-keyed.new.pass in let at = position z (trace p) c.args.place in
+    let k = tried_as c.args.board.now c.args.place c.loop-count.item c.args.sought.now.key c.loop-count.pass c.try_item-keyed.new.pass c.try_item-keyed.result.0 c.try_item-keyed.result.1 c.try_item-keyed.ensures.tries _ c.in-Changed.is in
+    let more = word_more at (in_chain z (trace p) c.args.place c.requires.pass.lawful c.requires.place.0).0 in
+    word_paced at (at + 1) p r (omega (arith, more)) (one_try _ p q r i.paced k.once.0 c.try_item-keyed.ensures.steps)
+
+pub returns-clause-steps : goal.returns-clause-steps
+returns-clause-steps c = let z = c.args.board.now.shape in let p = c.args.pass.now in let at = position z (trace p) c.args.place in
+    let few = words_few at (in_chain z (trace p) c.args.place c.requires.pass.lawful c.requires.place.0).1 in
+    word_paced at 32 p c.loop-count.pass (omega (arith, few)) c.loop-count.invariant.paced

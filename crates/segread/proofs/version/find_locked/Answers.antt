@@ -7,6 +7,7 @@ use Rattle.segbase.proofs.Moves.{moved_on}
 use Rattle.segstore.proofs.Readers.{leave_then}
 use Rattle.segread.proofs.ComingIn.{leaves, few_out}
 use Rattle.segread.proofs.Answered.{gone_reads}
+use Rattle.segread.proofs.Striding.{scan_unset, strides, strides_left}
 use Rattle.segread.proofs.version.find_locked.Goals as goal
 
 pub returns-then-hit-now-clause-answer : goal.returns-then-hit-now-clause-answer
@@ -53,3 +54,19 @@ returns-in-Busy-clause-answer c = let s = c.in-Busy.ensures.scan in let m = s.0 
   s.1,
   record { reads = x.reads; tries = x.tries; only_scans = x.only_scans; answer = inl (inl (let many = x.answer in omega (arith, many))) },
 )
+
+pub returns-then-hit-now-clause-steps : goal.returns-then-hit-now-clause-steps
+returns-then-hit-now-clause-steps c = let b = c.args.board.now in let f = c.in-Found in let s = f.ensures.scan in let p = c.args.pass.now in let q = c.scan_for.new.pass in
+    strides_left b 1 32 f.hit.item.seg p q c.leave_segment.new.pass f.ensures.steps (omega arith) (scan_unset b c.args.key.now p s.0 q s.1 s.2.only_scans) c.leave_segment.ensures
+
+pub returns-else-hit-now-clause-steps : goal.returns-else-hit-now-clause-steps
+returns-else-hit-now-clause-steps c = let b = c.args.board.now in let f = c.in-Found in let s = f.ensures.scan in let p = c.args.pass.now in let q = c.scan_for.new.pass in
+    strides_left b 1 32 f.hit.item.seg p q c.leave_segment.new.pass f.ensures.steps (omega arith) (scan_unset b c.args.key.now p s.0 q s.1 s.2.only_scans) c.leave_segment.ensures
+
+pub returns-in-Passed-clause-steps : goal.returns-in-Passed-clause-steps
+returns-in-Passed-clause-steps c = let s = c.in-Passed.ensures.scan in let p = c.args.pass.now in let q = c.scan_for.new.pass in
+    strides 1 32 p q c.in-Passed.ensures.steps (omega arith) (scan_unset c.args.board.now c.args.key.now p s.0 q s.1 s.2.only_scans)
+
+pub returns-in-Busy-clause-steps : goal.returns-in-Busy-clause-steps
+returns-in-Busy-clause-steps c = let s = c.in-Busy.ensures.scan in let p = c.args.pass.now in let q = c.scan_for.new.pass in
+    strides 1 32 p q c.in-Busy.ensures.steps (omega arith) (scan_unset c.args.board.now c.args.key.now p s.0 q s.1 s.2.only_scans)
