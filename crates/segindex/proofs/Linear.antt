@@ -1,5 +1,5 @@
 -- Calls are linearizable: each has a point in its time, and by their points they are in order.
-use Rattle.std.proofs.Common.{◌≡◌, ℕ, suc, ◌*◌, ◌<◌, ◌≤◌, All, IsPermutation, List, [], ◌∷◌, map, sym, refl, ap, ◌∙◌, subst, inl, inr, arith}
+use Rattle.std.proofs.Common.{◌≡◌, ℕ, suc, ◌+◌, ◌*◌, ◌<◌, ◌≤◌, All, IsPermutation, List, [], ◌∷◌, map, sym, refl, ap, ◌∙◌, subst, inl, inr, arith}
 use Rattle.std.proofs.lemmas.List.Elements.{All-cons, All-head, All-nil, All-tail, All-weaker}
 use Rattle.std.proofs.lemmas.List.Sorted.{All-permutation, IsPermutation-map}
 use Rattle.segword.specs.Words.{Shape}
@@ -12,6 +12,11 @@ use Rattle.segindex.specs.Linearizable.{Call, CallsAreLinearizable, Effect, gets
 use Rattle.segindex.specs.Linearizable as linear
 use Rattle.segindex.proofs.Moments.{came, entered, history_at, takes}
 use Rattle.segindex.proofs.Ordering.{call_of, Comes, in_order, Sorted}
+
+-- whose entry a history ends with, if that is a write's
+abbrev writer : List Entry → ℕ
+writer (Wrote pass request said segment ∷ history) = pass
+writer history = 0
 
 module _ (z : Shape) (world : ℕ → World) (n : ℕ) (run : IsRun z world n) where
   -- the point of an effect, from the first step of its call on
@@ -62,10 +67,24 @@ module _ (z : Shape) (world : ℕ → World) (n : ℕ) (run : IsRun z world n) w
       let first = placed call (All-head (IsCallOf z world n) call calls all) in let rest = all_placed calls (All-tail (IsCallOf z world n) call calls all) in
       record { placed = first.0 ∷ rest.placed; same = (λ j. first.1 j ∷ rest.same j); sound = All-cons IsSound first.0 rest.placed first.2 rest.sound }
 
+  -- at one point two writes add one entry, so they are of one pass
+  one_writer : (pass other : ℕ) (effect effect' : Effect) (at at' point : ℕ) → linear.place effect at ≡ 2 * point + 1 → linear.place effect' at' ≡ 2 * point + 1 → IsRightAt z pass effect (history_at world at) (history_at world (suc at)) → IsRightAt z other effect' (history_at world at') (history_at world (suc at')) → pass ≡ other
+  one_writer pass other (writes request said) (writes request' said') at at' point here here' right right' =
+      let same : at ≡ at' = omega (arith, here, here') in
+      ap writer (sym right.1.1 ∙ (ap (λ t. history_at world (suc t)) same ∙ right'.1.1))
+  one_writer pass other (writes request said) (gets_value key now read) at at' point here here' right right' = absurd (omega (arith, here'))
+  one_writer pass other (writes request said) (gets_version key now read) at at' point here here' right right' = absurd (omega (arith, here'))
+  one_writer pass other (gets_value key now read) effect' at at' point here here' right right' = absurd (omega (arith, here))
+  one_writer pass other (gets_version key now read) effect' at at' point here here' right right' = absurd (omega (arith, here))
+
+  own_points : (a b : Placed) → IsSound a → IsSound b → (point : ℕ) → linear.place a.call.effect a.point ≡ 2 * point + 1 → linear.place b.call.effect b.point ≡ 2 * point + 1 → (a.call.pass ≡ b.call.pass) × (b.call.began < a.call.returned)
+  own_points a b s t point here here' = let high = s.0.until in let low = t.0.since in
+      (one_writer a.call.pass b.call.pass a.call.effect b.call.effect a.point b.point point here here' s.0.right t.0.right, omega (arith, here, here', high, low))
+
   -- of two calls in order the second hadn't returned when the first began
   precedes : (a b : Placed) → IsSound a → IsSound b → Comes a b → MayPrecede a b
-  precedes a b s t (inl lt) = let low = s.0.since in let high = t.0.until in (omega (arith, lt), (λ back. omega (arith, lt, low, high, back)))
-  precedes a b s t (inr same) = let e = same.0 in let order = same.1 in let took = t.1 in let low = s.0.since in let high = t.0.until in (omega (arith, e), (λ back. omega (arith, order, took, back)))
+  precedes a b s t (inl lt) = let low = s.0.since in let high = t.0.until in (omega (arith, lt), (λ back. omega (arith, lt, low, high, back)), own_points a b s t)
+  precedes a b s t (inr same) = let e = same.0 in let order = same.1 in let took = t.1 in let low = s.0.since in let high = t.0.until in (omega (arith, e), (λ back. omega (arith, order, took, back)), own_points a b s t)
 
   all_precede : (a : Placed) (l : List Placed) → IsSound a → All IsSound l → All (Comes a) l → All (MayPrecede a) l
   all_precede a [] s t c = All-nil (MayPrecede a)

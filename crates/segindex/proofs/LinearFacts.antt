@@ -13,6 +13,13 @@ call_at effect point = record { call = record { pass = 0; began = 3; returned = 
 abbrev later_at : Effect → ℕ → Placed
 later_at effect point = record { call = record { pass = 1; began = 5; returned = 7; effect = effect }; point = point }
 
+-- a call of another pass beside the first one, and one of the same pass behind it
+abbrev pub beside_at : Effect → ℕ → Placed
+beside_at effect point = record { call = record { pass = 1; began = 3; returned = 5; effect = effect }; point = point }
+
+abbrev pub next_at : Effect → ℕ → Placed
+next_at effect point = record { call = record { pass = 0; began = 5; returned = 7; effect = effect }; point = point }
+
 module _ (shape : Shape) (world : ℕ → World) (key : List ℕ) (now : ℕ) (read : Option (List ℕ)) (request : Request) (said : Reply) where
   -- a get doesn't read what was so before it began, nor what came after it returned
   early : ¬ (IsPlaced shape world (call_at (gets_value key now read) 2))
@@ -32,3 +39,10 @@ module _ (shape : Shape) (world : ℕ → World) (key : List ℕ) (now : ℕ) (r
   -- at one point a write comes behind a get
   at_one_point : ¬ (MayPrecede (call_at (writes request said) 4) (call_at (gets_value key now read) 4))
   at_one_point m = let places = m.0 in omega (arith, places)
+
+  -- two passes don't write at one point, nor does one pass by two calls in turn
+  two_writers : ¬ (MayPrecede (call_at (writes request said) 4) (beside_at (writes request said) 4))
+  two_writers m = let same = (m.2 4 (omega arith) (omega arith)).0 in absurd (omega (arith, same))
+
+  in_turn : ¬ (MayPrecede (call_at (writes request said) 4) (next_at (writes request said) 4))
+  in_turn m = let before = (m.2 4 (omega arith) (omega arith)).1 in absurd (omega (arith, before))

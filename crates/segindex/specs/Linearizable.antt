@@ -1,6 +1,6 @@
 -- Linearizable, as Herlihy and Wing define it: calls that overlap in time, in one order of them all.
 -- The law is proved as the contract of a function in src/laws.rt.
-use Rattle.std.specs.Prelude.{◌≡◌, IfSome, ℕ, suc, ◌+◌, ◌*◌, ◌≤◌, All, IsPermutation, List, [], ◌∷◌, map, Option, option_map, Some, None}
+use Rattle.std.specs.Prelude.{◌≡◌, IfSome, ℕ, suc, ◌+◌, ◌*◌, ◌<◌, ◌≤◌, All, IsPermutation, List, [], ◌∷◌, map, Option, option_map, Some, None}
 use Rattle.segword.specs.Words.{Shape}
 use Rattle.segmodel.specs.declared.entry.Entry.TheVariants.{Wrote}
 use Rattle.segmodel.specs.declared.answer.GetAnswer.TheVariants as get
@@ -145,10 +145,16 @@ pub record IsPlaced (shape : Shape) (world : ℕ → World) (placed : Placed) : 
 
 -- The one may come before the other: its place isn't later,
 -- and the other hadn't returned when the one began.
+-- Two writes have points of their own, unless they are of one pass and overlap in time.
+-- So two writes of one pass, of which the one had returned when the other began, have.
 abbrev pub MayPrecede : Placed → Placed → Type 0
 MayPrecede one other =
     (place one.call.effect one.point ≤ place other.call.effect other.point)
     × ¬ (other.call.returned ≤ one.call.began)
+    × ((point : ℕ)
+    → place one.call.effect one.point ≡ 2 * point + 1
+    → place other.call.effect other.point ≡ 2 * point + 1
+    → (one.call.pass ≡ other.call.pass) × (other.call.began < one.call.returned))
 
 abbrev pub IsOrdered : List Placed → Type 0
 IsOrdered [] = Unit {0}
@@ -156,6 +162,7 @@ IsOrdered (placed ∷ later) = All (MayPrecede placed) later × IsOrdered later
 
 -- There is one order of all these calls. Each takes effect at a point of its own time,
 -- at which its answer is right, and none comes before one that had returned when it began.
+-- Writes whose calls don't overlap have points of their own.
 pub record Linearizable (shape : Shape) (world : ℕ → World) (calls : List Call) : Type 0 where
   pub order : List Placed
   pub all : IsPermutation calls (map (λ placed. placed.call) order)

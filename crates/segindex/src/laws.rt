@@ -85,6 +85,7 @@ pub fn calls_are_in_order()
 /// Any calls of any passes, in any run, are linearizable: there is one order of them all, in which
 /// each comes at a point between its first step and its return, each answer is there what a cache
 /// of one thread answers, and none comes before one that had returned when it began.
+/// Two writes have different points, but for two of one pass that overlap in time.
 pub fn calls_are_linearizable()
     ensures { CallsAreLinearizable }
 {}
