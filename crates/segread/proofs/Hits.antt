@@ -1,6 +1,6 @@
 -- The value of a hit, read from within its segment, and what the hit raises.
 use Rattle.std.proofs.Common.{◌≡◌, ℕ, ◌<◌, List, [], ◌++◌, sym, ap, ◌∙◌, subst, append_assoc, refl}
-use Rattle.segword.specs.Words.{IsKey, IsValue, Item, item_word}
+use Rattle.segword.specs.Words.{IsKey, IsValue, Item, item_word, Shape}
 use Rattle.segmodel.specs.Words.{Begins}
 use Rattle.segcore.specs.Words.{Event, Holds, inside, IsLawful, NoneRefills, Row, row_after}
 use Rattle.segcore.proofs.Moments.{begins_on}
@@ -9,10 +9,10 @@ use Rattle.segbase.specs.Words.{AddsEvents, Board, number, Pass, Place, trace}
 use Rattle.segbase.proofs.Alone.{moved_alone}
 use Rattle.segbase.proofs.Moves.{moved_on, is_inside}
 use Rattle.segbase.proofs.Staying.{none_both}
-use Rattle.segstore.specs.Words.{FoundItem, FoundKey, IsReadable, IsReader, IsReaderIn}
+use Rattle.segstore.specs.Words.{FoundItem, FoundKey, HoldsPair, IsReadable, IsReader, IsReaderIn}
 use Rattle.segstore.specs.Words.{LeavesSegment, RaisesNothing, ReadsRow, row_part, segment_part}
 use Rattle.segstore.proofs.Readers.{looks, then_reader, leave_then}
-use Rattle.segstore.proofs.Seconds.{segment_of_item, found_readable, found_value}
+use Rattle.segstore.proofs.Seconds.{segment_of_item, found_holds, found_readable, found_value}
 use Rattle.segread.specs.Hits.{RaisesFrom}
 use Rattle.segread.proofs.Raising.{raises_after, raises_sooner}
 
@@ -22,6 +22,16 @@ hit_readable b p q place item header key i f = found_readable b q place item hea
 
 pub read_in : (b : Board) (p q v : Pass) (s r : ℕ) → IsReaderIn b p q s → ReadsRow b q v s r → IsReaderIn b p v s
 read_in b p q v s r i reads = then_reader b p q v s i (looks b q v reads.looked)
+
+-- its row holds a pair
+pub holds_pair : (place : Place) (item : Item) (header : ℕ) (key : List ℕ) (z : Shape) (h g : List Event) → FoundKey z place item header key h g → HoldsPair (row_after g item.seg item.row)
+holds_pair place item header key z h g f = let was = f.found.saw.was in record {
+  key = key;
+  value = f.value;
+  is_key = was.valid.0;
+  is_value = was.valid.1;
+  holds = found_holds place item key f.value z h g f.found;
+}
 
 -- the whole way of a hit: its value is read, it is counted, and the segment left
 pub read_and_left : (b : Board) (p q v t r : Pass) (segment row : ℕ) → IsReaderIn b p q segment → ReadsRow b q v segment row → IsReader b v t → LeavesSegment b t r segment → IsReader b p r

@@ -14,7 +14,7 @@ ghost use Rattle.segread.specs.Rows.{HoldsRow, IsKept};
 
 use crate::scan::{Scan, scan_for};
 use segbase::{Board, Pass};
-use segstore::{leave_segment, value_of_row};
+use segstore::{leave_segment, value_of_pair};
 use segword::{Key, Value};
 
 /// The row of an item that a pass holds. It has to be released, with the pass that holds the item.
@@ -69,7 +69,7 @@ pub fn hold_item<'i>(board: &'i Board, pass: &mut Pass, key: &Key, now: u32) -> 
                 return HoldAnswer::Miss;
             }
             let item = hit.item;
-            let value = value_of_row(board, pass, item.seg, item.row, hit.header);
+            let value = value_of_pair(board, pass, item.seg, item.row, hit.header);
             set_hold(board, pass, Some((key, &value, item.seg)));
             let row = HeldRow {
                 segment: item.seg,
@@ -136,7 +136,7 @@ pub fn row_value(board: &Board, pass: &mut Pass, row: &HeldRow) -> Value
     ensures reads { ReadsRow board.now row.now result pass.old pass.new }
 {
     let header = board.row_load(pass, row.segment, row.row, 0);
-    value_of_row(board, pass, row.segment, row.row, header)
+    value_of_pair(board, pass, row.segment, row.row, header)
 }
 
 /// Ends the hold of a row. Until then the segment wasn't filled again.

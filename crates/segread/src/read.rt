@@ -10,7 +10,7 @@ use crate::scan::{Scan, scan_for};
 use segbase::{Board, Pass, Place};
 use segmodel::GetAnswer;
 use segpolicy::next_frequency;
-use segstore::{leave_segment, value_of_row};
+use segstore::{leave_segment, value_of_pair};
 use segword::{Item, Key};
 
 /// The value under a key at a moment. From the deadline of the key's segment on it is a Miss.
@@ -26,7 +26,7 @@ pub fn get(board: &Board, pass: &mut Pass, key: &Key, draw: u32, now: u32) -> Ge
                 leave_segment(board, pass, hit.item.seg);
                 return GetAnswer::Miss;
             }
-            let value = value_of_row(board, pass, hit.item.seg, hit.item.row, hit.header);
+            let value = value_of_pair(board, pass, hit.item.seg, hit.item.row, hit.header);
             count_hit(board, pass, hit.place, hit.item, draw);
             leave_segment(board, pass, hit.item.seg);
             GetAnswer::Found(value)

@@ -13,7 +13,7 @@ use crate::read::count_hit;
 use crate::scan::{Hit, Scan, item_of_tag, scan_for, scan_from};
 use segbase::{Board, Pass, Place};
 use segmodel::GetsAnswer;
-use segstore::{Sought, TRIES, leave_segment, next_place, value_of_row};
+use segstore::{Sought, TRIES, leave_segment, next_place, value_of_pair};
 use segword::{Info, Key, Value, same_item};
 
 // A gets: what it looks for, its draw and its clock.
@@ -213,7 +213,7 @@ fn see_version(
                 leave_segment(board, pass, hit.item.seg);
                 return VersionLook::Absent;
             }
-            let value = value_of_row(board, pass, hit.item.seg, hit.item.row, hit.header);
+            let value = value_of_pair(board, pass, hit.item.seg, hit.item.row, hit.header);
             let info = board.glance(pass, call.sought.bucket);
             let word = board.look(pass, hit.place);
             VersionLook::Found {

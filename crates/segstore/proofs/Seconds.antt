@@ -85,7 +85,11 @@ found_readable b p place item header key h there f =
       inr (inl (there, (key, ap (λ (x : Row). x.linked) (same_names item (trace p) ∙ f.found.still) ∙ was.linked))),
     )
 
--- the row of an item that was found holds the pair still
+-- the row of an item that was found holds the pair
+pub found_holds : (place : Place) (item : Item) (key value : List ℕ) (z : Shape) (h g : List Event) → FoundItem z place (item_word item) key value h g → Holds (row_after g item.seg item.row) key value
+found_holds place item key value z h g f j lt = ap (λ (x : Row). x.words j) (same_names item g ∙ f.still) ∙ f.saw.was.holds j lt
+
+-- and holds it still
 holds_still : (b : Board) (p q : Pass) (place : Place) (item : Item) (key value : List ℕ) (h : List Event) → FoundItem b.shape place (item_word item) key value h (trace p) → ReadsRow b p q item.seg item.row → Holds (row_after (trace q) item.seg item.row) key value
 holds_still b p q place item key value h f reads j lt =
     ap (λ (x : Row). x.words j) (reads.same ∙ (same_names item (trace p) ∙ f.still)) ∙ f.saw.was.holds j lt

@@ -1,6 +1,7 @@
 -- What a pass reads of a row, and what the pass does by that.
 use Rattle.std.specs.Prelude.{◌≡◌, ℕ, zero, suc, ◌+◌, ◌<◌, List, [], ◌∷◌}
-use Rattle.segcore.specs.Words.{IsSegment, MayRead, row_after}
+use Rattle.segword.specs.Words.{IsKey, IsValue}
+use Rattle.segcore.specs.Words.{Holds, IsSegment, MayRead, Row, row_after}
 use Rattle.segcore.specs.declared.event.Event.TheVariants.{Entered, Left}
 use Rattle.segbase.specs.Words.{AddsAtOnce, AddsEvents, Board, number, Pass, Reads, ReadsIn, sight}
 use Rattle.segbase.specs.Words.{trace}
@@ -24,6 +25,14 @@ pub record ReadsRow (b : Board) (p q : Pass) (segment row : ℕ) : Type 0 where
   pub looked : OnlyLooks b p q
   pub readable : IsReadable b q segment row
   pub same : row_after (trace q) segment row ≡ row_after (trace p) segment row
+
+-- the row holds a key and a value
+pub record HoldsPair (row : Row) : Type 0 where
+  pub key : List ℕ
+  pub value : List ℕ
+  pub is_key : IsKey key
+  pub is_value : IsValue value
+  pub holds : Holds row key value
 
 -- so many words of a row, from a place on
 abbrev pub words_at : (ℕ → ℕ) → ℕ → ℕ → List ℕ

@@ -3,11 +3,11 @@ ghost use Rattle.std.specs.Prelude.{◌≡◌, ℕ, ◌+◌, ◌≤◌, ◌↔�
 ghost use Rattle.segword.specs.Words.{IsKey, IsValue};
 ghost use Rattle.segcore.specs.Words.{Holds, row_after};
 ghost use Rattle.segbase.specs.Words.{IsPassOf, trace};
-ghost use Rattle.segstore.specs.Reading.{IsReadable, ReadsRow, words_at};
 ghost use Rattle.segstore.specs.Calls.{TakesAtMost};
+ghost use Rattle.segstore.specs.Reading.{HoldsPair, IsReadable, ReadsRow, words_at};
 
 use segbase::{Board, Pass};
-use segword::{HEAD_WORDS, Key, KeyWords, ROW_WORDS, Value, read_key, read_row, read_value};
+use segword::{HEAD_WORDS, Key, KeyWords, ROW_WORDS, Value, read_key, read_row, read_value, value_in_row};
 
 /// A row of a segment.
 #[derive(Clone, Copy, Debug, PartialEq, Eq)]
@@ -83,6 +83,22 @@ pub fn value_of_row(board: &Board, pass: &mut Pass, segment: u32, row: u32, head
 {
     let words = load_words(board, pass, segment, row, VALUE_WORD);
     read_value(header, &words)
+}
+
+/// The value of a row with this word 0, as `value_of_row`, where the row holds a pair:
+/// the words are 0 behind the value, so that no byte is cut off.
+#[inline(always)]
+pub fn value_of_pair(board: &Board, pass: &mut Pass, segment: u32, row: u32, header: u64) -> Value
+    requires pass { IsPassOf board.now pass.old }
+    requires readable { IsReadable board.now pass.old segment row }
+    requires header { header ≡ (row_after (trace pass.old) segment row).words 0 }
+    requires pair { HoldsPair (row_after (trace pass.old) segment row) }
+    ensures reads { ReadsRow board.now pass.old pass.new segment row }
+    ensures value { (key value : List ℕ) → IsKey key → IsValue value
+        → Holds (row_after (trace pass.new) segment row) key value → result ≡ value }
+{
+    let words = load_words(board, pass, segment, row, VALUE_WORD);
+    value_in_row(header, &words)
 }
 
 /// The key of a row.

@@ -1,10 +1,18 @@
--- What a key keeps beside its bytes.
-use Rattle.std.specs.Prelude.{◌≡◌, ℕ, List}
-use Rattle.segword.specs.declared.key.TheConstants.{KEY_WORDS}
-use Rattle.segword.specs.Bytes.{IsKey}
-use Rattle.segword.specs.Row.{words_from}
+-- How keys and values are kept: their bytes with zeros behind, and a length.
+use Rattle.std.specs.Prelude.{◌≡◌, ℕ, List, length, take}
+use Rattle.segword.specs.declared.key.TheConstants.{KEY_ROOM, KEY_WORDS}
+use Rattle.segword.specs.declared.value.TheConstants.{VALUE_BYTES, VALUE_WORDS}
+use Rattle.segword.specs.Bytes.{IsKey, IsValue}
+use Rattle.segword.specs.Row.{bytes_of, words_from}
 
--- the bytes are a key, and the words are theirs
-pub record AreKeyParts (bytes words : List ℕ) : Type 0 where
-  pub is_key : IsKey bytes
-  pub same_words : words_from KEY_WORDS bytes 0 ≡ words
+-- so many of the bytes are a key, and the rest are 0
+pub record AreKeyParts (bytes : List ℕ) (len : ℕ) : Type 0 where
+  pub is_key : IsKey (take len bytes)
+  pub same_len : length (take len bytes) ≡ len
+  pub same_bytes : bytes_of (words_from KEY_WORDS (take len bytes) 0) KEY_ROOM ≡ bytes
+
+-- so many of the bytes are a value, and the rest are 0
+pub record AreValueParts (bytes : List ℕ) (len : ℕ) : Type 0 where
+  pub is_value : IsValue (take len bytes)
+  pub same_len : length (take len bytes) ≡ len
+  pub same_bytes : bytes_of (words_from VALUE_WORDS (take len bytes) 0) VALUE_BYTES ≡ bytes

@@ -5,8 +5,6 @@ ghost use Rattle.segword.specs.Row.{row_of};
 ghost use Rattle.segword.specs.KeyWords.{key_words, key_part};
 
 use crate::row::{HEAD_WORDS, ROW_WORDS};
-use crate::value::VALUE_WORDS;
-use crate::words::words_of;
 use crate::{Key, Value};
 use std::marker::Model;
 
@@ -62,11 +60,10 @@ impl KeyWords {
         ensures row { result ≡ row_of self.now value.now }
         ensures valid { IsValue value.now }
     {
-        let bytes = value.as_bytes();
         let mut row = [0; ROW_WORDS];
         row[..HEAD_WORDS].copy_from_slice(&self.words);
-        row[0] |= (bytes.len() as u64) << 8;
-        row[HEAD_WORDS..].copy_from_slice(&words_of::<VALUE_WORDS>(bytes));
+        row[0] |= (value.len() as u64) << 8;
+        row[HEAD_WORDS..].copy_from_slice(&value.words());
         row
     }
 }

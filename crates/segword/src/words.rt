@@ -1,5 +1,5 @@
 //! Bytes as words and back, eight bytes to a word, the first the lowest.
-ghost use Rattle.std.specs.Prelude.{◌≡◌, ◌*◌, ◌-◌, ◌<◌, ◌≤◌, ◌↔◌, IsTrue, length, take, drop};
+ghost use Rattle.std.specs.Prelude.{◌≡◌, ◌+◌, ◌*◌, ◌-◌, ◌<◌, ◌≤◌, ◌↔◌, IsTrue, length, take, drop};
 ghost use Rattle.segword.specs.Row.{word_of, word_at, words_from, bytes_of};
 ghost use Rattle.segword.specs.RowLayout.{IsZeroFrom};
 
@@ -29,6 +29,29 @@ fn word_at(bytes: &[u8], from: usize) -> u64
         Some(chunk) => u64::from_le_bytes(*chunk),
         None => short_word(rest),
     }
+}
+
+// The first `N` words of these bytes, none of which is missing.
+#[inline(always)]
+pub(crate) fn full_words<const N: usize>(bytes: &[u8]) -> [u64; N]
+    requires { length bytes.now ≡ 8 * N }
+    ensures { result ≡ words_from N bytes.now 0 }
+{
+    let mut words = [0; N];
+    for (i, word) in words.iter_mut().enumerate() {
+        *word = full_word_at(bytes, 8 * i);
+    }
+    words
+}
+
+// The word of the eight bytes from `from` on.
+#[inline(always)]
+fn full_word_at(bytes: &[u8], from: usize) -> u64
+    requires { from + 8 ≤ length bytes.now }
+    ensures { result ≡ word_at bytes.now from }
+{
+    let rest = &bytes[from..];
+    u64::from_le_bytes(*rest.first_chunk().unwrap())
 }
 
 // The word of fewer than eight bytes.

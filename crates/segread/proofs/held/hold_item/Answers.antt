@@ -15,21 +15,25 @@ use Rattle.segbase.specs.Words.{seen, trace}
 use Rattle.segstore.proofs.Idling.{goes_same}
 use Rattle.segread.proofs.Answered.{gone_reads}
 use Rattle.segread.proofs.ComingIn.{glances_none, leaves, looked, raises_none, same_view, out_then, few_out}
-use Rattle.segread.proofs.Hits.{hit_readable, read_in, read_value}
+use Rattle.segread.proofs.Hits.{hit_readable, holds_pair, read_in, read_value}
 use Rattle.segread.proofs.HoldCalls.{has_found, takes_hold, holds_none, takes_no_bit, draws_nothing}
 use Rattle.segread.proofs.Pacing.{paced_from, same_steps}
 use Rattle.segread.proofs.Holding.{held_at}
 use Rattle.segread.proofs.held.hold_item.Goals as goal
 
-pub value_of_row-value-requires-clause-readable : goal.value_of_row-value-requires-clause-readable
-value_of_row-value-requires-clause-readable c = let f = c.in-Found in let hit = f.hit in let m = f.ensures.scan.0 in let x = f.ensures.scan.2 in
+pub value_of_pair-value-requires-clause-readable : goal.value_of_pair-value-requires-clause-readable
+value_of_pair-value-requires-clause-readable c = let f = c.in-Found in let hit = f.hit in let m = f.ensures.scan.0 in let x = f.ensures.scan.2 in
     hit_readable c.args.board.now m c.scan_for.new.pass hit.place hit.item hit.header c.args.key.now x.reads x.answer.0
 
-pub value_of_row-value-requires-clause-header : goal.value_of_row-value-requires-clause-header
-value_of_row-value-requires-clause-header c = c.in-Found.ensures.scan.2.answer.0.begins
+pub value_of_pair-value-requires-clause-pair : goal.value_of_pair-value-requires-clause-pair
+value_of_pair-value-requires-clause-pair c = let hit = c.in-Found.hit in let x = c.in-Found.ensures.scan.2 in
+    holds_pair hit.place hit.item hit.header c.args.key.now c.args.board.now.shape _ _ x.answer.0
+
+pub value_of_pair-value-requires-clause-header : goal.value_of_pair-value-requires-clause-header
+value_of_pair-value-requires-clause-header c = c.in-Found.ensures.scan.2.answer.0.begins
 
 pub set_hold-requires : goal.set_hold-requires
-set_hold-requires c = let b = c.args.board.now in let f = c.in-Found in let hit = f.hit in let m = f.ensures.scan.0 in let x = f.ensures.scan.2 in let v = c.value_of_row-value in
+set_hold-requires c = let b = c.args.board.now in let f = c.in-Found in let hit = f.hit in let m = f.ensures.scan.0 in let x = f.ensures.scan.2 in let v = c.value_of_pair-value in
     let read = read_in b m c.scan_for.new.pass v.new.pass hit.item.seg hit.item.row x.reads v.ensures.reads in
     let found = read_value b m c.scan_for.new.pass v.new.pass hit.place hit.item hit.header c.args.key.now v.result x.reads x.answer.0 v.ensures.reads v.ensures.value in
     (read.reads.moved.pass, (has_found b m v.new.pass hit.place hit.item c.args.key.now v.result read found, refl))
@@ -59,7 +63,7 @@ returns-then-hit-now c = let b = c.args.board.now in let p = c.args.pass.now in 
 
 pub returns-else-hit-now : goal.returns-else-hit-now
 returns-else-hit-now c =
-    let b = c.args.board.now in let p = c.args.pass.now in let q = c.scan_for.new.pass in let v = c.value_of_row-value in let t = v.new.pass in let r = c.set_hold.new.pass in
+    let b = c.args.board.now in let p = c.args.pass.now in let q = c.scan_for.new.pass in let v = c.value_of_pair-value in let t = v.new.pass in let r = c.set_hold.new.pass in
     let f = c.in-Found in let hit = f.hit in let key = c.args.key.now in let set = c.set_hold.ensures in let s = f.ensures.scan in let m = s.0 in let x = s.2 in
     let late = read_in b m q t hit.item.seg hit.item.row x.reads v.ensures.reads in
     let later = read_value b m q t hit.place hit.item hit.header key v.result x.reads x.answer.0 v.ensures.reads v.ensures.value in

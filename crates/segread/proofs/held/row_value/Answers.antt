@@ -15,13 +15,23 @@ pub row_load-header-requires-clause-may : goal.row_load-header-requires-clause-m
 row_load-header-requires-clause-may c = let b = c.args.board.now in let p = c.args.pass.now in let hold = c.args.row.now in
     may_load b p hold.segment hold.row 0 (may_read b p hold c.requires.pass c.requires.row) (omega arith)
 
-pub value_of_row-requires-clause-readable : goal.value_of_row-requires-clause-readable
-value_of_row-requires-clause-readable c = let b = c.args.board.now in let p = c.args.pass.now in let hold = c.args.row.now in let l = c.row_load-header in
+pub value_of_pair-requires-clause-readable : goal.value_of_pair-requires-clause-readable
+value_of_pair-requires-clause-readable c = let b = c.args.board.now in let p = c.args.pass.now in let hold = c.args.row.now in let l = c.row_load-header in
     (loaded b p l.new.pass hold.segment hold.row 0 l.result (may_read b p hold c.requires.pass c.requires.row) l.ensures.step).readable
+
+pub value_of_pair-requires-clause-pair : goal.value_of_pair-requires-clause-pair
+value_of_pair-requires-clause-pair c = let b = c.args.board.now in let p = c.args.pass.now in let hold = c.args.row.now in let l = c.row_load-header in let is = c.requires.row in
+    let same = (loaded b p l.new.pass hold.segment hold.row 0 l.result (may_read b p hold c.requires.pass is) l.ensures.step).same in record {
+      key = is.held.key;
+      value = is.held.value;
+      is_key = is.valid.0;
+      is_value = is.valid.1;
+      holds = λ j lt. ap (λ (u : Row). u.words j) same ∙ (has_row b p hold c.requires.pass is).pair j lt;
+    }
 
 pub returns : goal.returns
 returns c =
-    let b = c.args.board.now in let p = c.args.pass.now in let hold = c.args.row.now in let l = c.row_load-header in let v = c.value_of_row in let q = v.new.pass in let is = c.requires.row in
+    let b = c.args.board.now in let p = c.args.pass.now in let hold = c.args.row.now in let l = c.row_load-header in let v = c.value_of_pair in let q = v.new.pass in let is = c.requires.row in
     let reads = reads_then b p l.new.pass q hold.segment hold.row (loaded b p l.new.pass hold.segment hold.row 0 l.result (may_read b p hold c.requires.pass is) l.ensures.step) v.ensures.reads in
     let i = looks b p q reads.looked in
     let on = read_on b p q c.requires.pass i.reads i.plain i.memo in

@@ -6,26 +6,30 @@ use Rattle.segbase.specs.Words.{trace}
 use Rattle.segbase.proofs.Moves.{moved_on, is_inside}
 use Rattle.segstore.proofs.Readers.{leave_then, then_reader}
 use Rattle.segread.proofs.ComingIn.{few_out, glances_none, looked, leaves, raises_none}
-use Rattle.segread.proofs.Hits.{hit_readable, read_in, read_and_left, read_value, hit_raises}
+use Rattle.segread.proofs.Hits.{hit_readable, holds_pair, read_in, read_and_left, read_value, hit_raises}
 use Rattle.segread.proofs.Answered.{gone_reads, found_place, reads_key}
 use Rattle.segread.proofs.Pacing.{paced_from}
 use Rattle.segcore.proofs.Moments.{begins_on}
 use Rattle.segread.proofs.read.get.Goals as goal
 
-pub value_of_row-value-requires-clause-readable : goal.value_of_row-value-requires-clause-readable
-value_of_row-value-requires-clause-readable c = let f = c.in-Found in let hit = f.hit in let m = f.ensures.scan.0 in let x = f.ensures.scan.2 in
+pub value_of_pair-value-requires-clause-readable : goal.value_of_pair-value-requires-clause-readable
+value_of_pair-value-requires-clause-readable c = let f = c.in-Found in let hit = f.hit in let m = f.ensures.scan.0 in let x = f.ensures.scan.2 in
     hit_readable c.args.board.now m c.scan_for.new.pass hit.place hit.item hit.header c.args.key.now x.reads x.answer.0
 
-pub value_of_row-value-requires-clause-header : goal.value_of_row-value-requires-clause-header
-value_of_row-value-requires-clause-header c = c.in-Found.ensures.scan.2.answer.0.begins
+pub value_of_pair-value-requires-clause-pair : goal.value_of_pair-value-requires-clause-pair
+value_of_pair-value-requires-clause-pair c = let hit = c.in-Found.hit in let x = c.in-Found.ensures.scan.2 in
+    holds_pair hit.place hit.item hit.header c.args.key.now c.args.board.now.shape _ _ x.answer.0
+
+pub value_of_pair-value-requires-clause-header : goal.value_of_pair-value-requires-clause-header
+value_of_pair-value-requires-clause-header c = c.in-Found.ensures.scan.2.answer.0.begins
 
 pub count_hit-requires-clause-place : goal.count_hit-requires-clause-place
-count_hit-requires-clause-place c = let b = c.args.board.now in let f = c.in-Found in let hit = f.hit in let v = c.value_of_row-value in let m = f.ensures.scan.0 in let x = f.ensures.scan.2 in
+count_hit-requires-clause-place c = let b = c.args.board.now in let f = c.in-Found in let hit = f.hit in let v = c.value_of_pair-value in let m = f.ensures.scan.0 in let x = f.ensures.scan.2 in
     found_place b.shape hit.place (item_word hit.item) c.args.key.now v.result (trace m) (trace v.new.pass) v.ensures.reads.looked.did.moved.pass.lawful
     (read_value b m c.scan_for.new.pass v.new.pass hit.place hit.item hit.header c.args.key.now v.result x.reads x.answer.0 v.ensures.reads v.ensures.value)
 
 pub leave_segment-requires-in-Found-clause-inside : goal.leave_segment-requires-in-Found-clause-inside
-leave_segment-requires-in-Found-clause-inside c = let b = c.args.board.now in let p = c.args.pass.now in let f = c.in-Found in let hit = f.hit in let v = c.value_of_row-value in
+leave_segment-requires-in-Found-clause-inside c = let b = c.args.board.now in let p = c.args.pass.now in let f = c.in-Found in let hit = f.hit in let v = c.value_of_pair-value in
     let read = read_in b p c.scan_for.new.pass v.new.pass hit.item.seg hit.item.row f.ensures.reads v.ensures.reads in
     is_inside b p c.count_hit.new.pass hit.item.seg (then_reader b p v.new.pass c.count_hit.new.pass hit.item.seg read c.count_hit.ensures.reads).reads
 
@@ -42,7 +46,7 @@ returns-then-hit-now c =
 
 pub returns-else-hit-now : goal.returns-else-hit-now
 returns-else-hit-now c =
-    let b = c.args.board.now in let p = c.args.pass.now in let q = c.scan_for.new.pass in let v = c.value_of_row-value in let t = c.count_hit.new.pass in let l = c.leave_segment-in-Found in let r = l.new.pass in
+    let b = c.args.board.now in let p = c.args.pass.now in let q = c.scan_for.new.pass in let v = c.value_of_pair-value in let t = c.count_hit.new.pass in let l = c.leave_segment-in-Found in let r = l.new.pass in
     let f = c.in-Found in let hit = f.hit in let key = c.args.key.now in let m = f.ensures.scan.0 in let x = f.ensures.scan.2 in
     let read = read_in b m q v.new.pass hit.item.seg hit.item.row x.reads v.ensures.reads in
     let found = read_value b m q v.new.pass hit.place hit.item hit.header key v.result x.reads x.answer.0 v.ensures.reads v.ensures.value in

@@ -8,17 +8,21 @@ use Rattle.segread.proofs.ComingIn.{glance_once, looked, once_between}
 use Rattle.segread.proofs.Striding.{hit_end, scan_unset, strides, strides_left, strides_seen}
 use Rattle.segstore.proofs.Seconds.{looked_at}
 use Rattle.segread.proofs.Disturbing.{still_no_bit}
-use Rattle.segread.proofs.Hits.{hit_readable}
+use Rattle.segread.proofs.Hits.{hit_readable, holds_pair}
 use Rattle.segread.proofs.Versions.{is_seen, ends_missed, expires_missed}
 use Rattle.segread.proofs.version.see_version.Goals as goal
 
-pub value_of_row-value-requires-clause-readable : goal.value_of_row-value-requires-clause-readable
-value_of_row-value-requires-clause-readable c = let f = c.in-Found in let hit = f.hit in let s = f.ensures.scan in
+pub value_of_pair-value-requires-clause-readable : goal.value_of_pair-value-requires-clause-readable
+value_of_pair-value-requires-clause-readable c = let f = c.in-Found in let hit = f.hit in let s = f.ensures.scan in
     hit_readable c.args.board.now s.0 c.scan_from.new.pass hit.place hit.item hit.header c.args.call.now.sought.key s.2.0 s.2.1.found
+
+pub value_of_pair-value-requires-clause-pair : goal.value_of_pair-value-requires-clause-pair
+value_of_pair-value-requires-clause-pair c = let hit = c.in-Found.hit in let s = c.in-Found.ensures.scan in
+    holds_pair hit.place hit.item hit.header c.args.call.now.sought.key c.args.board.now.shape _ _ s.2.1.found
 
 pub returns-else-hit-call : goal.returns-else-hit-call
 returns-else-hit-call c =
-    let b = c.args.board.now in let z = b.shape in let p = c.args.pass.now in let key = c.args.call.now.sought.key in let f = c.in-Found in let s = f.ensures.scan in let m = s.0 in let v = c.value_of_row-value in let g = c.glance-info in let l = c.look-word in let step = g.ensures.step in record {
+    let b = c.args.board.now in let z = b.shape in let p = c.args.pass.now in let key = c.args.call.now.sought.key in let f = c.in-Found in let s = f.ensures.scan in let m = s.0 in let v = c.value_of_pair-value in let g = c.glance-info in let l = c.look-word in let step = g.ensures.step in record {
       sight = (
         m,
         s.1,

@@ -1,0 +1,26 @@
+use Rattle.std.proofs.Common.{◌≡◌, ℕ, List, drop, length, refl, slice_index, sym, ap, ◌∙◌, arith}
+use Rattle.segword.specs.Words.{row_of}
+use Rattle.segcore.specs.Words.{Row}
+use Rattle.segword.proofs.RowLemmas.{value_of_row, value_row_fits, value_row_zero}
+use Rattle.segstore.proofs.Looks.{value_words}
+use Rattle.segstore.proofs.row.value_of_pair.Goals as goal
+
+pub value_in_row-requires-clause-fits : goal.value_in_row-requires-clause-fits
+value_in_row-requires-clause-fits c =
+    let pair = c.requires.pair in
+    value_row_fits pair.key pair.value c.args.header pair.is_key pair.is_value (sym (c.requires.header ∙ pair.holds 0 (omega arith)))
+
+pub value_in_row-requires-clause-zero : goal.value_in_row-requires-clause-zero
+value_in_row-requires-clause-zero c =
+    let pair = c.requires.pair in
+    let read = c.load_words-words.ensures in
+    let holds = λ place lt. ap (λ (x : Row). x.words place) read.reads.same ∙ pair.holds place lt in
+    value_row_zero pair.key pair.value c.load_words-words.result c.args.header pair.is_key pair.is_value
+    (sym (c.requires.header ∙ pair.holds 0 (omega arith))) (value_words _ pair.key pair.value holds ∙ sym read.words)
+
+pub returns-clause-value : goal.returns-clause-value
+returns-clause-value c = λ key value is_key is_value holds.
+    let read = c.load_words-words.ensures in
+    let header = sym (holds 0 (omega arith)) ∙ (ap (λ (x : Row). x.words 0) read.reads.same ∙ sym c.requires.header) in
+    c.value_in_row.ensures.value
+    ∙ value_of_row key value c.load_words-words.result c.args.header is_key is_value header (value_words _ key value holds ∙ sym read.words)
