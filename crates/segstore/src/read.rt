@@ -73,7 +73,8 @@ pub fn read_keyed(board: &Board, pass: &mut Pass, place: Place, word: u64, key: 
 }
 
 // The second look: the item as it stands now, if that is the same but for its frequency,
-// or else the word that stands there.
+// or else the word that stands there. The item's segment and row are those of the word that was
+// given, so that its row is found without a wait for the look.
 fn look_again(board: &Board, pass: &mut Pass, place: Place, word: u64) -> Result<Item, u64>
     requires pass { IsPassOf board.now pass.old }
     requires place { IsChained board.now.shape (trace pass.old) place }
@@ -89,5 +90,6 @@ fn look_again(board: &Board, pass: &mut Pass, place: Place, word: u64) -> Result
     if !same_item(word, now) {
         return Err(now);
     }
-    Ok(Item::unpack(now).unwrap())
+    let item = Item::unpack(word).unwrap();
+    Ok(item.with_frequency_of(now))
 }
