@@ -42,7 +42,10 @@ pub(crate) fn item_of_tag(word: u64, tag: u16) -> Option<Item>
     ensures some { IfSome result (λ item. (item_word item ≡ word) × (item.tag ≡ tag)) }
     ensures none { IsNone result → tag_part word ≢ tag }
 {
-    Item::unpack(word).filter(|item| item.tag == tag)
+    if !Item::has_tag(word, tag) {
+        return None;
+    }
+    Item::unpack(word)
 }
 
 // Comes into the segment of an item that was seen, and looks a second time.
