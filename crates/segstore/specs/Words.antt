@@ -9,7 +9,8 @@ pub use Rattle.segstore.specs.Locks.{IsLockAnswer, IsUnlockAnswer, LocksBucket, 
 pub use Rattle.segstore.specs.Locks.{SetsLock, UnlocksBucket}
 pub use Rattle.segstore.specs.Props.{IsQuiet-prop, KeepsSegments-prop}
 pub use Rattle.segstore.specs.Quiet.{is_held_in, IsHold, IsLock, IsQuiet, MayEnterAny}
-pub use Rattle.segstore.specs.Reading.{HoldsPair, IsReadable, IsReader, IsReaderIn, LeavesSegment, OnlyLooks}
+pub use Rattle.segstore.specs.Reading.{HoldsPair, IsReadable, IsReader, IsReaderIn}
+pub use Rattle.segstore.specs.Reading.{LeavesSegment, OnlyLooks}
 pub use Rattle.segstore.specs.Reading.{ReadsRow}
 pub use Rattle.segstore.specs.Refilling.{FillsWith, Idles, IsOutcome, IsOutcomeWith, refilled}
 pub use Rattle.segstore.specs.Refilling.{refilled_aside, TakesOneStep}

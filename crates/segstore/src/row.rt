@@ -7,7 +7,9 @@ ghost use Rattle.segstore.specs.Calls.{TakesAtMost};
 ghost use Rattle.segstore.specs.Reading.{HoldsPair, IsReadable, ReadsRow, words_at};
 
 use segbase::{Board, Pass};
-use segword::{HEAD_WORDS, Key, KeyWords, ROW_WORDS, Value, read_key, read_row, read_value, value_in_row};
+use segword::{
+    HEAD_WORDS, Key, KeyWords, ROW_WORDS, Value, read_key, read_row, read_value, value_in_row,
+};
 
 /// A row of a segment.
 #[derive(Clone, Copy, Debug, PartialEq, Eq)]
@@ -94,6 +96,7 @@ pub fn value_of_pair(board: &Board, pass: &mut Pass, segment: u32, row: u32, hea
     requires header { header ≡ (row_after (trace pass.old) segment row).words 0 }
     requires pair { HoldsPair (row_after (trace pass.old) segment row) }
     ensures reads { ReadsRow board.now pass.old pass.new segment row }
+    ensures steps { TakesAtMost 4 pass.old pass.new }
     ensures value { (key value : List ℕ) → IsKey key → IsValue value
         → Holds (row_after (trace pass.new) segment row) key value → result ≡ value }
 {

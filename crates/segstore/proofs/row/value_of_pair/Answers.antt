@@ -1,6 +1,6 @@
-use Rattle.std.proofs.Common.{◌≡◌, ℕ, List, drop, length, refl, slice_index, sym, ap, ◌∙◌, arith}
-use Rattle.segword.specs.Words.{row_of}
-use Rattle.segcore.specs.Words.{Row}
+use Rattle.std.proofs.Common.{sym, ap, ◌∙◌, arith}
+use Rattle.segcore.specs.Words.{Holds, Row, row_after}
+use Rattle.segbase.specs.Words.{trace}
 use Rattle.segword.proofs.RowLemmas.{value_of_row, value_row_fits, value_row_zero}
 use Rattle.segstore.proofs.Looks.{value_words}
 use Rattle.segstore.proofs.row.value_of_pair.Goals as goal
@@ -14,7 +14,7 @@ pub value_in_row-requires-clause-zero : goal.value_in_row-requires-clause-zero
 value_in_row-requires-clause-zero c =
     let pair = c.requires.pair in
     let read = c.load_words-words.ensures in
-    let holds = λ place lt. ap (λ (x : Row). x.words place) read.reads.same ∙ pair.holds place lt in
+    let holds : Holds (row_after (trace c.load_words-words.new.pass) c.args.segment c.args.row) pair.key pair.value = λ place lt. ap (λ (x : Row). x.words place) read.reads.same ∙ pair.holds place lt in
     value_row_zero pair.key pair.value c.load_words-words.result c.args.header pair.is_key pair.is_value
     (sym (c.requires.header ∙ pair.holds 0 (omega arith))) (value_words _ pair.key pair.value holds ∙ sym read.words)
 
