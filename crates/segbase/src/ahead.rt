@@ -1,7 +1,7 @@
 //! A look ahead: words that commands on some keys are about to read are loaded together,
 //! so that the waits for memory overlap. No pass takes these loads: nothing follows from what
 //! they find, and they change nothing.
-ghost use Rattle.std.specs.Prelude.{◌<◌, ◌≤◌, ◌+◌, ◌↔◌, All, IsTrue};
+ghost use Rattle.std.specs.Prelude.{◌<◌, ◌≤◌, ◌+◌, ◌↔◌, IsTrue};
 ghost use Rattle.segcore.specs.declared.cell.Cell.TheVariants.{OfRow};
 ghost use Rattle.segcore.specs.Words.{IsCell};
 
@@ -13,20 +13,24 @@ use segword::{BUCKET_WORDS, Chain, Item, Key, LAST_WORD, ROW_WORDS, bucket_of, h
 // So many keys are looked ahead for at a time.
 const PIECE: usize = 16;
 
-// What comes next for a key that is looked for. Its eight words lie in two cache lines at most,
-// that of the first word and that of the last.
-#[derive(Clone, Copy, Drop)]
-enum Next {
-    // A bucket of the key's chain.
-    Bucket(u32),
-    Row { segment: u32, row: u32 },
-    Nothing,
+// Keys that are looked for: of each the tag, and the next bucket of its chain.
+#[derive(Drop)]
+struct Seekers {
+    tags: [u16; PIECE],
+    buckets: [u32; PIECE],
+    count: usize,
 }
 
-#[derive(Clone, Copy, Drop)]
-struct Seeker {
-    tag: u16,
-    next: Next,
+impl Seekers {
+    // One more, if there is room.
+    #[inline(always)]
+    fn push(&mut self, tag: u16, bucket: u32) {
+        if self.count < PIECE {
+            self.tags[self.count] = tag;
+            self.buckets[self.count] = bucket;
+            self.count += 1;
+        }
+    }
 }
 
 impl Board {
@@ -38,119 +42,126 @@ impl Board {
         }
     }
 
-    // In each round all places are known before the first load begins.
+    // In each round all places are known before the first load begins. A round after the first
+    // is of the keys whose chains go on.
     fn look_ahead_piece(&self, keys: &[Key]) {
-        let mut seekers = [Seeker {
-            tag: 0,
-            next: Next::Nothing,
-        }; PIECE];
-        for (seeker, key) in seekers.iter_mut().zip(keys) {
-            *seeker = self.seeker(hash(key));
+        let mut seekers = Seekers {
+            tags: [0; PIECE],
+            buckets: [0; PIECE],
+            count: 0,
+        };
+        for key in keys {
+            let hash = hash(key);
+            seekers.push(tag_of(hash), self.bucket_at(hash));
         }
-        for _ in 0..=CHAIN_BUCKETS {
-            self.load_all(&self.places(&seekers));
-            let mut is_over = true;
-            for seeker in seekers.iter_mut() {
-                seeker.next = self.next_of(seeker);
-                is_over = is_over && matches!(seeker.next, Next::Nothing);
+        for _ in 0..CHAIN_BUCKETS {
+            for number in 0..seekers.count.min(PIECE) {
+                self.load_bucket(seekers.buckets[number]);
             }
-            if is_over {
+            self.follow(&mut seekers);
+            if seekers.count == 0 {
                 return;
             }
+        }
+    }
+
+    // Loads the rows that words of these buckets name.
+    // Of the keys only those are left whose chains go on.
+    #[inline(always)]
+    fn follow(&self, seekers: &mut Seekers) {
+        let mut words = [0; PIECE];
+        let mut rows = 0;
+        let count = seekers.count.min(PIECE);
+        seekers.count = 0;
+        for number in 0..count {
+            let tag = seekers.tags[number];
+            let (found, last) = self.words_of(seekers.buckets[number], tag);
+            if found != 0 {
+                if rows < PIECE {
+                    words[rows] = found;
+                    rows += 1;
+                }
+            } else if let Some(next) = self.chained_to(last) {
+                seekers.push(tag, next);
+            }
+        }
+        for number in 0..rows.min(PIECE) {
+            self.load_row(words[number]);
         }
     }
 
     /// Whether the chain of a hash's bucket has a word with the hash's tag. As of a look ahead,
     /// nothing follows from it.
     pub fn may_have(&self, hash: u64) -> bool {
-        let mut seeker = self.seeker(hash);
+        let tag = tag_of(hash);
+        let mut bucket = self.bucket_at(hash);
         for _ in 0..CHAIN_BUCKETS {
-            seeker.next = self.next_of(&seeker);
-            match seeker.next {
-                Next::Bucket(_) => {}
-                Next::Row { .. } => return true,
-                Next::Nothing => return false,
+            let (found, last) = self.words_of(bucket, tag);
+            if found != 0 {
+                return true;
+            }
+            match self.chained_to(last) {
+                Some(next) => bucket = next,
+                None => return false,
             }
         }
         false
     }
 
-    fn seeker(&self, hash: u64) -> Seeker {
-        Seeker {
-            tag: tag_of(hash),
-            // No board lacks buckets, but nothing here needs that.
-            next: Next::Bucket(bucket_of(hash, self.shape.buckets.max(1))),
+    // No board lacks buckets, but nothing here needs that.
+    #[inline(always)]
+    fn bucket_at(&self, hash: u64) -> u32 {
+        bucket_of(hash, self.shape.buckets.max(1))
+    }
+
+    // The words of a bucket lie in two cache lines at most: that of the first, and that of the last.
+    #[inline(always)]
+    fn load_bucket(&self, bucket: u32) {
+        if self.has_bucket(bucket) {
+            self.table.shared.peek(self.item_index(bucket, 1));
+            self.table.shared.peek(self.item_index(bucket, LAST_WORD));
         }
     }
 
-    // What the seekers look at next: the first and the last word of each bucket and row.
-    fn places(&self, seekers: &[Seeker; PIECE]) -> [usize; 2 * PIECE]
-        ensures { All (λ place. place < self.now.table.shared.table_id.words) result }
-    {
-        let mut places = [0; 2 * PIECE];
-        for number in 0..PIECE {
-            let (first, last) = self.ends_of(seekers[number].next);
-            places[2 * number] = first;
-            places[2 * number + 1] = last;
-        }
-        places
-    }
-
-    // Loads alone, so that none waits for another.
-    fn load_all(&self, places: &[usize])
-        requires { All (λ place. place < self.now.table.shared.table_id.words) places.now }
-    {
-        for place in places {
-            self.table.shared.peek(*place);
-        }
-    }
-
-    // Where the first and the last word lie. It is word 0 of the table, twice, for what the table
-    // doesn't have.
-    fn ends_of(&self, next: Next) -> (usize, usize)
-        ensures first { result.0 < self.now.table.shared.table_id.words }
-        ensures last { result.1 < self.now.table.shared.table_id.words }
-    {
-        match next {
-            Next::Bucket(bucket) if self.has_bucket(bucket) => {
-                (
-                    self.item_index(bucket, 1),
-                    self.item_index(bucket, LAST_WORD),
-                )
-            }
-            Next::Row { segment, row } if self.has_row(segment, row) => (
-                self.row_index(segment, row, 0),
-                self.row_index(segment, row, ROW_WORDS as u8 - 1),
-            ),
-            _ => (0, 0),
-        }
-    }
-
-    // What follows a bucket: the row of an item with the key's tag, or the chain's next bucket.
-    fn next_of(&self, seeker: &Seeker) -> Next {
-        let Next::Bucket(bucket) = seeker.next else {
-            return Next::Nothing;
+    // So do those of a row, which this word names.
+    #[inline(always)]
+    fn load_row(&self, word: u64) {
+        let Some(item) = Item::unpack(word) else {
+            return;
         };
-        if !self.has_bucket(bucket) {
-            return Next::Nothing;
+        if self.has_row(item.seg, item.row) {
+            self.table
+                .shared
+                .peek(self.row_index(item.seg, item.row, 0));
+            self.table
+                .shared
+                .peek(self.row_index(item.seg, item.row, ROW_WORDS as u8 - 1));
         }
+    }
+
+    // Of a bucket's words one with this tag, or 0, and the last.
+    #[inline(always)]
+    fn words_of(&self, bucket: u32, tag: u16) -> (u64, u64) {
         let mut found = 0;
         let mut word = 0;
+        if !self.has_bucket(bucket) {
+            return (found, word);
+        }
         for number in 1..BUCKET_WORDS as u8 {
             word = self.table.shared.peek(self.item_index(bucket, number));
-            if Item::has_tag(word, seeker.tag) {
+            if Item::has_tag(word, tag) {
                 found = word;
             }
         }
-        if let Some(item) = Item::unpack(found) {
-            return Next::Row {
-                segment: item.seg,
-                row: item.row,
-            };
-        }
+        (found, word)
+    }
+
+    // The bucket by which a chain with this last word goes on.
+    #[inline(always)]
+    fn chained_to(&self, word: u64) -> Option<u32> {
         match Chain::unpack(word) {
-            Some(number) => Next::Bucket(self.shape.buckets + number),
-            None => Next::Nothing,
+            Some(number) => Some(self.shape.buckets + number),
+            None => None,
         }
     }
 

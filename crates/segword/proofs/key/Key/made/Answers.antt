@@ -9,8 +9,8 @@ use Rattle.segword.proofs.key.Key.made.Goals as goal
 pub invariant_of-result : goal.invariant_of-result
 invariant_of-result c =
     let made : c.from.result.items ≡ bytes_of c.args.words.now KEY_ROOM = c.from.ensures.0 ∙ c.bytes_of.ensures in
-    subst (λ (bytes : List ℕ). AreKeyParts bytes c.args.len) (sym made)
-    (AreKeyParts-made c.args.words.now c.args.len c.told-words c.fits-words c.requires.not_empty c.requires.fits c.requires.zero)
+    subst (λ (bytes : List ℕ). AreKeyParts bytes c.args.len c.args.hash) (sym made)
+    (AreKeyParts-made c.args.words.now c.args.len c.args.hash c.told-words c.fits-words c.requires.not_empty c.requires.fits c.requires.zero c.requires.hash)
 
 pub returns-clause-valid : goal.returns-clause-valid
 returns-clause-valid c =

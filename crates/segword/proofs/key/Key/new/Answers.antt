@@ -1,5 +1,6 @@
-use Rattle.std.proofs.Common.{length, refl, rules, ◌∙◌, arith}
+use Rattle.std.proofs.Common.{ap, length, refl, rules, sym, ◌∙◌, arith}
 use Rattle.segword.specs.declared.key.TheConstants.{KEY_ROOM, KEY_WORDS}
+use Rattle.segword.specs.Fnv.{hash_of}
 use Rattle.segword.proofs.WordLemmas.{AreBytes}
 use Rattle.segword.proofs.RowLemmas.{bytes_of_words, zero_past_words}
 use Rattle.segword.proofs.key.Key.new.Goals as goal
@@ -16,3 +17,10 @@ returns-clause-some c =
     let are_bytes : AreBytes bytes = record { at = λ i. search (rules, c.type_inv.bytes i) } in
     c.made.ensures.value
     ∙ bytes_of_words KEY_WORDS KEY_ROOM bytes c.words_of-words.result (length bytes) are_bytes refl (omega (arith, c.if-bytes-gt-KEY_BYTES.false)) c.words_of-words.ensures refl
+
+pub made-requires-clause-hash : goal.made-requires-clause-hash
+made-requires-clause-hash c =
+    let bytes = c.args.bytes.now in
+    let are_bytes : AreBytes bytes = record { at = λ i. search (rules, c.type_inv.bytes i) } in
+    c.hash_of-hash.ensures
+    ∙ ap hash_of (sym (bytes_of_words KEY_WORDS KEY_ROOM bytes c.words_of-words.result (length bytes) are_bytes refl (omega (arith, c.if-bytes-gt-KEY_BYTES.false)) c.words_of-words.ensures refl))
