@@ -21,6 +21,24 @@ impl Index {
         segwrite::set(&self.board, pass, key, value, now)
     }
 
+    /// Stores the value under the key, and tells whether the key stood before.
+    /// No contract says what the second part is.
+    #[inline(always)]
+    pub fn set_and_tell(
+        &self,
+        pass: &mut Pass,
+        key: &Key,
+        value: &Value,
+        now: u32,
+    ) -> (WriteAnswer, bool)
+        requires quiet { IsQuiet (board_of self.now) pass.old }
+        ensures writes { Writes (board_of self.now) (Set key.now value.now now) result.0
+            pass.old pass.new }
+        ensures set { IsSetAnswer result.0 }
+    {
+        segwrite::set_and_tell(&self.board, pass, key, value, now)
+    }
+
     /// Stores the value if the key is absent. Otherwise it returns NotStored.
     pub fn add(&self, pass: &mut Pass, key: &Key, value: &Value, now: u32) -> WriteAnswer
         requires quiet { IsQuiet (board_of self.now) pass.old }

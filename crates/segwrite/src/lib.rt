@@ -8,4 +8,4 @@ mod write;
 
 pub use find::Target;
 pub use removal::{clear, delete};
-pub use write::{add, cas, replace, set};
+pub use write::{add, cas, replace, set, set_and_tell};

@@ -56,6 +56,29 @@ pub fn set(board: &Board, pass: &mut Pass, key: &Key, value: &Value, now: u32) -
         when: When::Always,
         clock: now,
     };
+    write(board, pass, &set).0
+}
+
+/// Stores the value under the key as `set` does, and tells whether the key stood before.
+/// No contract says what the second part is.
+#[inline(always)]
+pub fn set_and_tell(
+    board: &Board,
+    pass: &mut Pass,
+    key: &Key,
+    value: &Value,
+    now: u32,
+) -> (WriteAnswer, bool)
+    requires quiet { IsQuiet board.now pass.old }
+    ensures writes { Writes board.now (Set key.now value.now now) result.0 pass.old pass.new }
+    ensures set { IsSetAnswer result.0 }
+{
+    let set = WriteCall {
+        sought: Sought::of(key, board),
+        value,
+        when: When::Always,
+        clock: now,
+    };
     write(board, pass, &set)
 }
 
@@ -70,7 +93,7 @@ pub fn add(board: &Board, pass: &mut Pass, key: &Key, value: &Value, now: u32) -
         when: When::Absent,
         clock: now,
     };
-    write(board, pass, &add)
+    write(board, pass, &add).0
 }
 
 /// Stores the value under the key if the key is present. Else it returns NotStored.
@@ -84,7 +107,7 @@ pub fn replace(board: &Board, pass: &mut Pass, key: &Key, value: &Value, now: u3
         when: When::Present,
         clock: now,
     };
-    write(board, pass, &replace)
+    write(board, pass, &replace).0
 }
 
 /// Stores the value under the key if the key's bucket has the expected version. Else it returns
@@ -107,12 +130,13 @@ pub fn cas(
         when: When::Unchanged(expected),
         clock: now,
     };
-    write(board, pass, &cas)
+    write(board, pass, &cas).0
 }
 
-// Stores the value under the key if the cache doesn't refuse it.
+// Stores the value under the key if the cache doesn't refuse it,
+// and tells whether it was stored over a word of the key.
 #[inline(always)]
-fn write(board: &Board, pass: &mut Pass, write: &WriteCall<'_>) -> WriteAnswer
+fn write(board: &Board, pass: &mut Pass, write: &WriteCall<'_>) -> (WriteAnswer, bool)
     ghost request: { Request }
     requires quiet { IsQuiet board.now pass.old }
     requires sought { IsSought board.now.shape write.now.sought }
@@ -120,27 +144,27 @@ fn write(board: &Board, pass: &mut Pass, write: &WriteCall<'_>) -> WriteAnswer
     requires versions { board.now.shape.first_version < 2 ^ 32 }
     requires request { request
         ≡ request_of write.now.when write.now.sought.key write.now.value.now write.now.clock }
-    ensures writes { Writes board.now request result pass.old pass.new }
+    ensures writes { Writes board.now request result.0 pass.old pass.new }
 {
     let Ok(row) = next_row(board, pass) else {
-        return WriteAnswer::NoRoom;
+        return (WriteAnswer::NoRoom, false);
     };
     let bucket = write.sought.bucket;
     if !take_to_write(board, pass, bucket) {
-        return WriteAnswer::Busy;
+        return (WriteAnswer::Busy, false);
     }
     let found = search(board, pass, &write.sought);
     if let Some(refusal) = refusal(board, pass, found.target(), write) {
         refuse(board, pass, bucket);
-        return refusal;
+        return (refusal, false);
     }
     let Some(target) = make_room(board, pass, bucket, found) else {
         board.release(pass, bucket, false);
-        return WriteAnswer::BucketFull;
+        return (WriteAnswer::BucketFull, false);
     };
     store(board, pass, target, row, write);
     board.release(pass, bucket, true);
-    WriteAnswer::Stored
+    (WriteAnswer::Stored, target.word != 0)
 }
 
 // What the cache answers in place of storing.
