@@ -1,12 +1,12 @@
 -- A shape that is made for so many keys is valid, and has room for them.
-use Rattle.std.proofs.Common.{◌≡◌, ℕ, ◌+◌, ◌*◌, ◌<◌, ◌≤◌, ◌⊎◌, min, max, arith, refl, inl, inr}
+use Rattle.std.proofs.Common.{◌≡◌, ℕ, ◌+◌, ◌*◌, ◌/◌, ◌<◌, ◌≤◌, ◌⊎◌, min, max, arith, refl, inl, inr}
 use Rattle.std.specs.Int.{IsInRange, IsPowerOfTwo, div_ceil}
 use Rattle.std.proofs.lemmas.Bool.{cases_lt}
 use Rattle.std.proofs.lemmas.Grind.{div_ceil_times}
 use Rattle.std.proofs.Math.Nat.{mul-le-mul_left, mul-le-mul_right}
 use Rattle.std.proofs.lemmas.Nat.{mul-le}
 use Rattle.segword.specs.declared.row.TheConstants.{ROW_WORDS}
-use Rattle.segword.specs.Shape.{HasRoomFor, IsValid}
+use Rattle.segword.specs.Shape.{HasRoomFor, IsValid, word_count}
 use Rattle.segword.specs.declared.shape.Shape.{Shape}
 
 -- the lower one of a power of two and 65,536
@@ -17,7 +17,7 @@ power_min n power = elim (cases_lt n 65536) [
 ]
 
 module _ (keys passes near each segments rows : ℕ) (few : keys ≤ 425984) (fit : ROW_WORDS * (2 * keys + 13440) ≤ 64000000) (in_range : IsInRange 1 64 passes)
-    (power : IsPowerOfTwo near) (over : div_ceil keys 4 ≤ near)
+    (power : IsPowerOfTwo near) (over : div_ceil keys 4 ≤ near) (under : near / 2 < max 1 (div_ceil keys 4))
     (is_each : each ≡ max (div_ceil (2 * keys) passes) 1) (is_segments : segments ≡ max (div_ceil each 4096) 64) (is_rows : rows ≡ div_ceil each segments) where
   abbrev pub made : Shape
   made = record { buckets = min near 65536; overflow = min near 65536; passes = passes; segments_each = segments; rows = rows; first_version = 0 }
@@ -29,21 +29,21 @@ module _ (keys passes near each segments rows : ℕ) (few : keys ≤ 425984) (fi
   share_times = div_ceil_times (2 * keys) passes (omega (arith, in_range.0))
 
   -- the rows of a pass are its share, rounded up, or one
-  each_fits : (2 * keys ≤ each * passes) × (each * passes ≤ 2 * keys + 64) × (1 ≤ each) × (each ≤ 852096)
+  each_fits : (2 * keys ≤ each * passes) × (each * passes ≤ 2 * keys + passes) × (1 ≤ each) × (each ≤ 852096)
   each_fits = by (cases_lt share 1)
     where
-      by : (share < 1) ⊎ (1 ≤ share) → (2 * keys ≤ each * passes) × (each * passes ≤ 2 * keys + 64) × (1 ≤ each) × (each ≤ 852096)
+      by : (share < 1) ⊎ (1 ≤ share) → (2 * keys ≤ each * passes) × (each * passes ≤ 2 * keys + passes) × (1 ≤ each) × (each ≤ 852096)
       by (inl none) =
           let one : each ≡ 1 = omega (arith, is_each) in
           let zero : share ≡ 0 = omega arith in
           let nothing : 2 * keys ≤ 0 * passes = rw zero at share_times.0 in
           let times : each * passes ≡ passes = rw one (omega arith) in
-          (omega (arith, in_range.0), omega (arith, in_range.1), omega arith, omega arith)
+          (omega (arith, in_range.0), omega arith, omega arith, omega arith)
       by (inr some) =
           let same : each ≡ share = omega (arith, is_each) in
           let times : each * passes ≡ share * passes = rw same refl in
           let more : each * 1 ≤ each * passes = mul-le-mul_left each in_range.0 in
-          (omega (arith, share_times.0), omega (arith, share_times.1, in_range.1), omega arith, omega (arith, share_times.1, in_range.1))
+          (omega (arith, share_times.0), omega (arith, share_times.1), omega arith, omega (arith, share_times.1, in_range.1))
 
   segments_fit : (64 ≤ segments) × (segments ≤ 209) × (each ≤ segments * 4096)
   segments_fit =
@@ -78,8 +78,23 @@ module _ (keys passes near each segments rows : ℕ) (few : keys ≤ 425984) (fi
       let table : passes * (rows * segments) ≤ passes * (each + segments) = mul-le-mul_left passes (omega (arith, rows_fit.1)) in
       let spread : passes * segments * (1 + ROW_WORDS * rows) ≡ passes * segments + ROW_WORDS * (passes * (rows * segments)) = omega arith in
       let apart : passes * (each + segments) ≡ each * passes + passes * segments = omega arith in
-      let most : ROW_WORDS * (passes * (rows * segments)) ≤ ROW_WORDS * (2 * keys + 13440) = mul-le-mul_left ROW_WORDS (omega (arith, each_fits.1)) in
+      let most : ROW_WORDS * (passes * (rows * segments)) ≤ ROW_WORDS * (2 * keys + 13440) = mul-le-mul_left ROW_WORDS (omega (arith, each_fits.1, in_range.1)) in
       omega (arith, fit)
+
+  -- no more words than for twice the rows, and for the segments of each pass
+  few_words : word_count made ≤ (2 * ROW_WORDS + 9) * keys + 66 * (ROW_WORDS + 1) * passes + 20
+  few_words =
+      let quarter = div_ceil_times keys 4 (omega arith) in
+      let chains : 16 * min near 65536 ≤ 8 * keys + 16 = omega (arith, under, quarter.1) in
+      let times = div_ceil_times each 4096 (omega arith) in
+      let thick : segments * 4096 ≤ each + 262144 = omega (arith, is_segments, times.1) in
+      let most : passes * (segments * 4096) ≤ passes * (each + 262144) = mul-le-mul_left passes thick in
+      let wide : passes * (segments * 4096) ≡ 4096 * (passes * segments) = omega arith in
+      let long : passes * (each + 262144) ≡ each * passes + 262144 * passes = omega arith in
+      let table : passes * (rows * segments) ≤ passes * (each + segments) = mul-le-mul_left passes (omega (arith, rows_fit.1)) in
+      let spread : passes * segments * (1 + ROW_WORDS * rows) ≡ passes * segments + ROW_WORDS * (passes * (rows * segments)) = omega arith in
+      let apart : passes * (each + segments) ≡ each * passes + passes * segments = omega arith in
+      omega (arith, chains, most, wide, long, table, spread, apart, each_fits.1)
 
   pub is_valid : IsValid made
   is_valid = (
@@ -96,6 +111,7 @@ module _ (keys passes near each segments rows : ℕ) (few : keys ≤ 425984) (fi
         let other : passes * each ≡ each * passes = omega arith in
         omega (arith, each_fits.0);
     segments = segments_fit.0;
+    few = few_words;
   }
     where
       words : (near < 65536) ⊎ (65536 ≤ near) → 2 * keys ≤ 7 * min near 65536 + 6 * min near 65536
