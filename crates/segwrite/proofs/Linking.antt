@@ -1,11 +1,11 @@
 -- The exchange of the key's word, for an item or for nothing: it comes about, at the first try or after its frequency rose.
 use Rattle.std.proofs.Common.{◌≡◌, ◌≢◌, ℕ, ◌≤◌, false, List, [], ◌∷◌, ◌++◌, refl, sym, ap, ◌∙◌, subst, ⊎_elim, append_assoc, append-nil, arith}
-use Rattle.segword.specs.Words.{IsSameItem, Item}
-use Rattle.segmodel.specs.Words.{bucket_of, key_of, Request}
+use Rattle.segword.specs.Words.{IsSameItem}
+use Rattle.segmodel.specs.Words.{bucket_of, Request}
 use Rattle.segcore.specs.declared.event.Event.TheVariants.{Linked, Unlinked}
 use Rattle.segcore.specs.Words.{by, Event, Fits, HasBit, is_of_now, IsLawful, Leaving, NoneBy}
 use Rattle.segcore.proofs.Quiet.{later}
-use Rattle.segbase.specs.Words.{AddsAtOnce, AddsEvents, Board, HasItemOf, IsFree, IsPassOf}
+use Rattle.segbase.specs.Words.{AddsAtOnce, AddsEvents, Board, HasItemOf, IsPassOf}
 use Rattle.segbase.specs.Words.{Missed, number, Pass, Place, position, trace}
 use Rattle.segbase.proofs.Moves.{stays, moved_then}
 use Rattle.segcore.proofs.Moments.{none_both}
@@ -87,14 +87,6 @@ linked_by b request segment row = event_at b (link_event request segment row)
 
 pub is_link : (request : Request) (segment row : ℕ) → IsExchange (link_event request segment row)
 is_link request segment row = record { by_pass = λ pass at. refl; settled = λ pass at. refl }
-
-module _ (b : Board) (request : Request) (item : Item) where
-  not_empty : (target : Target) (p : Pass) → IsEarlier b target.place target.word p → target.word ≢ 0
-  not_empty target p e none = let some = e.0.0 in absurd (omega (arith, some, none))
-
-  -- into an empty word
-  pub is_free : (target : Target) (p : Pass) → IsTarget b (key_of request) target p → target.word ≡ 0 → IsFree b (key_of request) target.place p
-  is_free target p is none = ⊎_elim (λ free. free.1) (λ has. absurd (not_empty target p has.1 none)) is.is
 
 -- ---- a clear
 
