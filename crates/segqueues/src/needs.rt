@@ -1,0 +1,80 @@
+//! What the item of each row needs to move on, and marks of keys that were put lately.
+use std::alloc::{AllocError, Global};
+
+// What an item needs, in halves of a frequency. Each move adds one,
+// so what was read long ago runs out.
+const NEED_OF_NEW: u8 = 5;
+
+// A key that was put lately was asked for again.
+const NEED_OF_RECENT: u8 = 3;
+
+// An update keeps its standing: it moves on four times before it has to be read.
+const NEED_OF_UPDATE: u8 = 0;
+
+// The needs of the rows of a pass's segments, and as many marks of keys.
+#[derive(Drop)]
+pub(crate) struct Needs {
+    rows: u32,
+    needs: Vec<u8>,
+    marks: Vec<u16>,
+}
+
+impl Needs {
+    pub(crate) fn new(alloc: Global, segments: u32, rows: u32) -> Result<Needs, AllocError> {
+        let all = segments.saturating_mul(rows) as usize;
+        Ok(Needs {
+            rows,
+            needs: vec![in alloc; NEED_OF_NEW; all]?,
+            marks: vec![in alloc; 0u16; all]?,
+        })
+    }
+
+    // The number of a row among all rows of the pass.
+    fn row_at(&self, segment: u32, row: u32) -> usize {
+        (segment as usize)
+            .saturating_mul(self.rows as usize)
+            .saturating_add(row as usize)
+    }
+
+    // What the item of the row needs.
+    pub(crate) fn of(&self, segment: u32, row: u32) -> u8 {
+        match self.needs.get(self.row_at(segment, row)) {
+            Some(need) => *need,
+            None => 0,
+        }
+    }
+
+    // From now on the item of the row needs so much.
+    pub(crate) fn set(&mut self, segment: u32, row: u32, need: u8) {
+        let at = self.row_at(segment, row);
+        if let Some(place) = self.needs.get_mut(at) {
+            *place = need;
+        }
+    }
+
+    // What an item needs whose key, of this hash, is put now. The key is marked.
+    pub(crate) fn of_put(&mut self, hash: u64, is_update: bool) -> u8 {
+        let was_marked = self.mark(hash);
+        if is_update {
+            NEED_OF_UPDATE
+        } else if was_marked {
+            NEED_OF_RECENT
+        } else {
+            NEED_OF_NEW
+        }
+    }
+
+    // Marks a key by its hash, and returns whether it was marked lately.
+    fn mark(&mut self, hash: u64) -> bool {
+        let mixed = hash.wrapping_mul(0x9e37_79b9_7f4a_7c15);
+        let mark = (mixed >> 48) as u16 | 1;
+        let share = mixed >> 16 & 0xffff_ffff;
+        let at = (share.wrapping_mul(self.marks.len() as u64) >> 32) as usize;
+        let Some(place) = self.marks.get_mut(at) else {
+            return false;
+        };
+        let was_marked = *place == mark;
+        *place = mark;
+        was_marked
+    }
+}
