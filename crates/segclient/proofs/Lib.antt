@@ -1,12 +1,15 @@
 pub mod Added
 pub mod Calls
+pub mod Cleared
 pub mod Few
 pub mod InTurn
+pub mod OneTurn
 pub mod Order
 pub mod Places
 pub mod Rooms
 pub mod Runs
 pub mod Setting
+pub mod Steps
 pub mod Together
 pub mod Told
 pub mod Trying

@@ -4,7 +4,7 @@ use Rattle.std.proofs.lemmas.Bool.{false≢true, cond-true, eq-eqb}
 use Rattle.segmodel.specs.declared.answer.EvictAnswer.TheVariants as evict
 use Rattle.segmodel.specs.declared.answer.RefillAnswer.TheVariants as refill
 use Rattle.segmodel.specs.declared.answer.SegState.TheVariants.{Evicted}
-use Rattle.segmodel.specs.Words.{but_for, EvictAnswer, owner}
+use Rattle.segmodel.specs.Words.{but_for, EvictAnswer, owner, RefillAnswer}
 use Rattle.segbase.specs.declared.pass.PlainPart.{PlainPart}
 use Rattle.segbase.specs.Words.{Board, current_of, deadline_in, deadline_of, number, own_segment, Pass, state_of, used_in, used_of}
 use Rattle.segbase.proofs.Known.{deadline_stated}
@@ -21,7 +21,8 @@ use Rattle.segindex.proofs.QuietPass.{owned}
 use Rattle.segclient.specs.PutCalls.{evicts, refills, IsRefused, StoresUntil}
 use Rattle.segclient.specs.declared.room.Effort.{Effort}
 use Rattle.segclient.specs.PutParts.{Arranges, effort_from, GivesUp, MakesRoom, room_plan, StoresAsBefore}
-use Rattle.segclient.proofs.Calls.{arranges_as, arranges_then, arranges_wider, both, effort_more, one_more, refused_then, same_effort}
+use Rattle.segclient.specs.Tallies.{refilled_by}
+use Rattle.segclient.proofs.Calls.{arranges_as, arranges_then, arranges_wider, both, effort_more, one_more, refill_arranges, refused_then, same_effort}
 
 -- a pass knows its own segments
 pub own_known : (b : Board) (p : Pass) (segment : ℕ) → IsQuiet b p → owner b.shape segment ≡ number p → state_of p segment ≢ None
@@ -215,13 +216,35 @@ module _ (b : Board) (cutoff : Option ℕ) (deadline : ℕ) where
     refused = λ none. absurd (false≢true (sym none));
   }
 
-  -- calls, and then room was made, or not
+  -- calls, and then room was made, or not, by the same policy
+  pub room_later : (most more total : ℕ) (made : Bool) (first effort all : Effort) (p q r : Pass) → most + more ≤ total → all ≡ both first effort → number q ≡ number p → Arranges b cutoff deadline most first p q → MakesRoom b cutoff deadline more made effort q r → MakesRoom b cutoff deadline total made all p r
+  room_later most more total made first effort all p q r enough sum same one last = record {
+    arranges = arranges_as b cutoff deadline (most + more) total (both first effort) all p r enough (ap (λ (e : Effort). e.refilled) sum) (ap (λ (e : Effort). e.kept) sum) (ap (λ (e : Effort). e.keys) sum) (arranges_then b cutoff deadline most more first effort p q r one last.arranges);
+    room = last.room;
+    until = last.until;
+    refused = λ none segment own. refused_then segment last.arranges.calls one.calls (last.refused none segment (own ∙ sym same));
+  }
+
+  -- or by one that keeps nothing
   pub room_again : (most more total : ℕ) (made : Bool) (first effort all : Effort) (p q r : Pass) → most + more ≤ total → all ≡ both first effort → number q ≡ number p → Arranges b cutoff deadline most first p q → MakesRoom b None deadline more made effort q r → MakesRoom b cutoff deadline total made all p r
   room_again most more total made first effort all p q r enough sum same one last =
-      let wide = arranges_wider b cutoff deadline more effort q r last.arranges in
-      record {
-        arranges = arranges_as b cutoff deadline (most + more) total (both first effort) all p r enough (ap (λ (e : Effort). e.refilled) sum) (ap (λ (e : Effort). e.kept) sum) (ap (λ (e : Effort). e.keys) sum) (arranges_then b cutoff deadline most more first effort p q r one wide.0);
-        room = last.room;
-        until = last.until;
-        refused = λ none segment own. refused_then segment last.arranges.calls one.calls (last.refused none segment (own ∙ sym same));
-      }
+      room_later most more total made first effort all p q r enough sum same one (room_wider more more made effort q r (omega arith) last)
+
+-- a free segment was refilled
+pub took_free : (b : Board) (deadline segment : ℕ) (p q : Pass) → owner b.shape segment ≡ number p → RefillsSegment b segment deadline refill.Refilled p q → MakesRoom b None deadline 1 true (effort_from 1 0 0) p q
+took_free b deadline segment p q own filled = record {
+  arranges = refill_arranges b None deadline segment refill.Refilled (effort_from 1 0 0) p q refl refl refl own filled;
+  room = refilled_room b segment deadline p q filled;
+  until = λ made. refilled_until b segment deadline p q filled;
+  refused = λ none. absurd (false≢true (sym none));
+}
+
+none_by : (told : RefillAnswer) → told ≢ refill.Refilled → refilled_by told ≡ 0
+none_by refill.Refilled other = absurd (other refl)
+none_by refill.NotYours other = refl
+none_by refill.NotEvicted other = refl
+none_by refill.Held other = refl
+
+-- or it wasn't
+pub left_free : (b : Board) (deadline segment : ℕ) (told : RefillAnswer) (p q : Pass) → told ≢ refill.Refilled → owner b.shape segment ≡ number p → RefillsSegment b segment deadline told p q → Arranges b None deadline 1 (effort_from 0 0 0) p q
+left_free b deadline segment told p q other own out = refill_arranges b None deadline segment told (effort_from 0 0 0) p q (sym (none_by told other)) refl refl own out

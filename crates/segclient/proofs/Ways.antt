@@ -19,10 +19,13 @@ use Rattle.segstore.proofs.Idling.{goes_same, unchanged}
 use Rattle.segwrite.specs.Words.{IsSetAnswer, Writes}
 use Rattle.segevict.specs.declared.retention.KeepRowAnswer.{KeepRowAnswer}
 use Rattle.segevict.specs.declared.retention.KeepRowAnswer.TheVariants as kept
-use Rattle.segevict.specs.Words.{AreEvictions, EvictsSegment, IsEvictAnswer, IsKeepRowAnswer, KeepsItem}
+use Rattle.segevict.specs.declared.eviction.EvictRowAnswer.{EvictRowAnswer}
+use Rattle.segevict.specs.declared.eviction.EvictRowAnswer.TheVariants as evict_row
+use Rattle.segevict.specs.Words.{AreEvictions, EvictsItem, EvictsRest, IsEvictAnswer, IsKeepRowAnswer, IsKeepRowIntoAnswer, KeepsItem, KeepsItemInto}
 use Rattle.segevict.proofs.RowsOut.{goes_then}
-use Rattle.segindex.specs.Refilling.{RefillsSegment}
+use Rattle.segindex.specs.Refilling.{RefillsSegmentWith}
 use Rattle.segindex.proofs.QuietPass.{owned}
+use Rattle.segclient.specs.Clearing.{came_to_step, evicts_row, keeps_into}
 use Rattle.segclient.specs.Entries.{IsOfRoom, is_eviction, is_move, is_refilling, AddsRoom}
 use Rattle.segclient.specs.PutCalls.{PutCall, sets, evicts, keeps, refills, Plan, came_to, refilled_segments, kept_items, evicted_keys, IsCall, Makes}
 use Rattle.segclient.specs.PutParts.{AreOpen}
@@ -106,7 +109,7 @@ module _ (b : Board) (cutoff : Option ℕ) (deadline : ℕ) where
   pub comes_none : (p : Pass) → IsQuiet b p → Comes 0 0 0 p p
   comes_none p quiet = record { on = goes_same b p quiet; memo = refl; adds = nothing_added b.shape (number p) cutoff deadline (mine p) }
 
-  same_none : (p q : Pass) → IsQuiet b p → q ≡ p → Comes 0 0 0 p q
+  pub same_none : (p q : Pass) → IsQuiet b p → q ≡ p → Comes 0 0 0 p q
   same_none p q quiet same = subst (Comes 0 0 0 p) (sym same) (comes_none p quiet)
 
   unchanged_none : (p q : Pass) → GoesOn b p q → ChangesNothing p q → Comes 0 0 0 p q
@@ -135,8 +138,8 @@ module _ (b : Board) (cutoff : Option ℕ) (deadline : ℕ) where
   in_use_own : (p : Pass) (segment : ℕ) → IsQuiet b p → state_of p segment ≡ Some InUse → owner b.shape segment ≡ number p
   in_use_own p segment quiet in_use = own p segment quiet (ap is_some in_use)
 
-  pub evicted : (segment keys : ℕ) (p q : Pass) → IsQuiet b p → EvictsSegment b segment (evict.Evicted keys) p q → Comes 0 0 keys p q
-  evicted segment keys p q quiet went = by went.answer
+  evicted : (segment from keys : ℕ) (p q : Pass) → IsQuiet b p → EvictsRest b segment from (evict.Evicted keys) p q → Comes 0 0 keys p q
+  evicted segment from keys p q quiet went = by went.answer
     where
       by : IsEvictAnswer b.shape segment (evict.Evicted keys) p q → Comes 0 0 keys p q
       by (inl out) = record {
@@ -146,8 +149,8 @@ module _ (b : Board) (cutoff : Option ℕ) (deadline : ℕ) where
       }
       by (inr none) = subst (λ k. Comes 0 0 k p q) (sym none.1) (same_none p q quiet none.2)
 
-  pub evict_busy : (segment keys : ℕ) (p q : Pass) → IsQuiet b p → EvictsSegment b segment (evict.Busy keys) p q → Comes 0 0 keys p q
-  evict_busy segment keys p q quiet went =
+  evict_busy : (segment from keys : ℕ) (p q : Pass) → IsQuiet b p → EvictsRest b segment from (evict.Busy keys) p q → Comes 0 0 keys p q
+  evict_busy segment from keys p q quiet went =
       let out = went.answer in
       record {
         on = went.on;
@@ -155,10 +158,23 @@ module _ (b : Board) (cutoff : Option ℕ) (deadline : ℕ) where
         adds = evictions_added b.shape (number p) cutoff deadline segment keys out.1.evictions (mine p) (mine q) (in_use_own p segment quiet out.0) out.1.all out.1.counted out.1.entries;
       }
 
-  evicted_some : (segment : ℕ) (told : EvictAnswer) (p q : Pass) → IsQuiet b p → EvictsSegment b segment told p q → Comes 0 0 (came_to evicted_keys (evicts segment told)) p q
-  evicted_some segment (evict.Evicted keys) p q quiet out = evicted segment keys p q quiet out
-  evicted_some segment (evict.Busy keys) p q quiet out = evict_busy segment keys p q quiet out
-  evicted_some segment evict.NotYours p q quiet out = same_none p q quiet out.answer
+  -- from this row on
+  pub evicted_some : (segment from : ℕ) (told : EvictAnswer) (p q : Pass) → IsQuiet b p → EvictsRest b segment from told p q → Comes 0 0 (came_to evicted_keys (evicts segment told)) p q
+  evicted_some segment from (evict.Evicted keys) p q quiet out = evicted segment from keys p q quiet out
+  evicted_some segment from (evict.Busy keys) p q quiet out = evict_busy segment from keys p q quiet out
+  evicted_some segment from evict.NotYours p q quiet out = same_none p q quiet out.answer
+
+  -- one row
+  pub row_evicted : (segment row : ℕ) (told : EvictRowAnswer) (p q : Pass) → owner b.shape segment ≡ number p → IsQuiet b p → EvictsItem b segment row told p q → Comes 0 0 (came_to_step evicted_keys (evicts_row segment row told)) p q
+  row_evicted segment row evict_row.Evicted p q from quiet out = let went = out.answer.0 in record {
+    on = out.on;
+    memo = went.memo;
+    adds = evictions_added b.shape (number p) cutoff deadline segment 1 (Evicted (number p) went.key segment ∷ []) (mine p) (mine q) from ((went.key, refl), tt) refl went.entry;
+  }
+  row_evicted segment row evict_row.Left p q from quiet out = unchanged_none p q out.on out.answer.0
+  row_evicted segment row evict_row.Busy p q from quiet out = unchanged_none p q out.on out.answer.0
+  row_evicted segment row evict_row.NotYours p q from quiet out = same_none p q quiet out.answer
+  row_evicted segment row evict_row.NotUsed p q from quiet out = same_none p q quiet out.answer
 
   row_kept : (segment row least : ℕ) (told : KeepRowAnswer) (p q : Pass) → owner b.shape segment ≡ number p → IsSome cutoff → IsQuiet b p → KeepsItem b segment row least told p q → Comes 0 (came_to kept_items (keeps segment row least told)) 0 p q
   row_kept segment row least kept.Moved p q from asked quiet stayed = let out = stayed.answer in record {
@@ -176,18 +192,36 @@ module _ (b : Board) (cutoff : Option ℕ) (deadline : ℕ) where
   row_kept segment row least kept.NotYours p q from asked quiet stayed = same_none p q quiet stayed.answer
   row_kept segment row least kept.NotUsed p q from asked quiet stayed = same_none p q quiet stayed.answer
 
-  pub refilled : (segment : ℕ) (p q : Pass) → IsQuiet b p → RefillsSegment b segment deadline refill.Refilled p q → Comes 1 0 0 p q
-  refilled segment p q quiet filled = record {
+  -- into a segment that is named
+  pub row_kept_into : (segment row least into : ℕ) (told : KeepRowAnswer) (p q : Pass) → owner b.shape segment ≡ number p → IsSome cutoff → IsQuiet b p → KeepsItemInto b segment row least into told p q → Comes 0 (came_to_step kept_items (keeps_into segment row least into told)) 0 p q
+  row_kept_into segment row least into kept.Moved p q from asked quiet stayed = let out = stayed.answer in record {
+    on = stayed.on;
+    memo = out.2.memo;
+    adds = move_added b.shape (number p) cutoff deadline out.3.0 segment out.0 (mine p) (mine q) asked from (in_use_own p out.0 quiet (subst (λ s. state_of p s ≡ Some InUse) (sym out.1.0) (out.1.1.in_use))) out.3.1.entries;
+  }
+  row_kept_into segment row least into kept.Left p q from asked quiet stayed = unchanged_none p q stayed.on stayed.answer.2
+  row_kept_into segment row least into kept.NoRoom p q from asked quiet stayed = by stayed.answer
+    where
+      by : IsKeepRowIntoAnswer b.shape segment row least into kept.NoRoom p q → Comes 0 0 0 p q
+      by (inl none) = same_none p q quiet none.1
+      by (inr out) = unchanged_none p q stayed.on out.2
+  row_kept_into segment row least into kept.Busy p q from asked quiet stayed = unchanged_none p q stayed.on stayed.answer.2
+  row_kept_into segment row least into kept.NotYours p q from asked quiet stayed = same_none p q quiet stayed.answer
+  row_kept_into segment row least into kept.NotUsed p q from asked quiet stayed = same_none p q quiet stayed.answer
+
+  refilled : (segment : ℕ) (current : Option ℕ) (p q : Pass) → IsQuiet b p → RefillsSegmentWith b segment deadline current refill.Refilled p q → Comes 1 0 0 p q
+  refilled segment current p q quiet filled = record {
     on = filled.on;
     memo = filled.answer.memo;
     adds = subst (AddsRoom b.shape (number p) cutoff deadline 1 0 0 (mine p)) (sym filled.answer.entry) (refilling_added b.shape (number p) cutoff deadline segment (mine p) (own p segment quiet filled.answer.own));
   }
 
-  some_refilled : (segment : ℕ) (told : RefillAnswer) (p q : Pass) → IsQuiet b p → RefillsSegment b segment deadline told p q → Comes (came_to refilled_segments (refills segment told)) 0 0 p q
-  some_refilled segment refill.Refilled p q quiet out = refilled segment p q quiet out
-  some_refilled segment refill.NotYours p q quiet out = same_none p q quiet out.answer
-  some_refilled segment refill.NotEvicted p q quiet out = same_none p q quiet out.answer
-  some_refilled segment refill.Held p q quiet out = unchanged_none p q out.on out.answer.0
+  -- whichever segment is current then
+  pub some_refilled : (segment : ℕ) (current : Option ℕ) (told : RefillAnswer) (p q : Pass) → IsQuiet b p → RefillsSegmentWith b segment deadline current told p q → Comes (came_to refilled_segments (refills segment told)) 0 0 p q
+  some_refilled segment current refill.Refilled p q quiet out = refilled segment current p q quiet out
+  some_refilled segment current refill.NotYours p q quiet out = same_none p q quiet out.answer
+  some_refilled segment current refill.NotEvicted p q quiet out = same_none p q quiet out.answer
+  some_refilled segment current refill.Held p q quiet out = unchanged_none p q out.on out.answer.0
 
   -- ---- sets
 
@@ -208,9 +242,9 @@ module _ (b : Board) (plan : Plan) where
 
   call_comes : (call : PutCall) (p q : Pass) → IsQuiet b p → call ≢ sets write.Stored → IsCall b plan call p q → Came (came_to refilled_segments call) (came_to kept_items call) (came_to evicted_keys call) p q
   call_comes (sets told) p q quiet other (key, value, now, is, fresh, set, writes) = set_lacks b plan.cutoff plan.deadline (Set key value now) told p q set other writes
-  call_comes (evicts segment told) p q quiet other is = evicted_some b plan.cutoff plan.deadline segment told p q quiet is.1
+  call_comes (evicts segment told) p q quiet other is = evicted_some b plan.cutoff plan.deadline segment 0 told p q quiet is.1
   call_comes (keeps segment row least told) p q quiet other is = row_kept b plan.cutoff plan.deadline segment row least told p q is.0 (ap is_some is.1.1) quiet is.2
-  call_comes (refills segment told) p q quiet other is = some_refilled b plan.cutoff plan.deadline segment told p q quiet is.1
+  call_comes (refills segment told) p q quiet other is = some_refilled b plan.cutoff plan.deadline segment (Some segment) told p q quiet is.1
 
   pub calls_come : (calls : List PutCall) (p q : Pass) → IsQuiet b p → AreOpen calls → Makes b plan calls p q → Came (sum_by (came_to refilled_segments) calls) (sum_by (came_to kept_items) calls) (sum_by (came_to evicted_keys) calls) p q
   unfolding Makes

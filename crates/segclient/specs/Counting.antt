@@ -3,6 +3,7 @@ use Rattle.std.specs.Prelude.{ℕ, ◌+◌, ◌-◌, ◌^◌, min, List, sum_by}
 use Rattle.segclient.specs.declared.stats.Stats.{Stats}
 use Rattle.segclient.specs.declared.tally.Tally.{Tally}
 use Rattle.segclient.specs.declared.tally.Tally.TheVariants as tally
+use Rattle.segclient.specs.Clearing.{came_to_step, Step}
 use Rattle.segclient.specs.PutCalls.{PutCall, came_to, evicted_keys, kept_items, refilled_segments}
 
 abbrev pub no_stats : Stats
@@ -45,4 +46,13 @@ given_up_too calls stats = record stats {
   segments_refilled = with_more stats.segments_refilled (sum_by (came_to refilled_segments) calls);
   items_kept = with_more stats.items_kept (sum_by (came_to kept_items) calls);
   keys_evicted = with_more stats.keys_evicted (sum_by (came_to evicted_keys) calls);
+}
+
+-- so is what steps came to that clear a segment
+abbrev pub cleared_too : List Step → Stats → Stats
+cleared_too steps stats = record stats {
+  segments_refilled = with_more stats.segments_refilled
+      (sum_by (came_to_step refilled_segments) steps);
+  items_kept = with_more stats.items_kept (sum_by (came_to_step kept_items) steps);
+  keys_evicted = with_more stats.keys_evicted (sum_by (came_to_step evicted_keys) steps);
 }

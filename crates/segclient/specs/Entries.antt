@@ -6,6 +6,7 @@ use Rattle.segmodel.specs.declared.request.Reply.TheVariants.{Stored}
 use Rattle.segmodel.specs.Words.{Entry, owner, Request}
 use Rattle.segclient.specs.declared.put.PutAnswer.{PutAnswer}
 use Rattle.segclient.specs.declared.put.PutAnswer.TheVariants as put
+use Rattle.segclient.specs.declared.room.Effort.{Effort}
 
 -- an eviction of a key from a segment of the pass's own,
 -- or a refilling of one up to this deadline; or, if there is a cutoff,
@@ -42,17 +43,19 @@ pub record AddsRoom (shape : Shape) (pass : ℕ) (cutoff : Option ℕ)
   pub evictions : count_by is_eviction more ≡ keys
   pub entries : new ≡ more ++ old
 
--- A put adds entries that make room, and, if it is Stored, at last the one of its request.
--- Any other put adds none of its request.
-abbrev pub AddsForPut : Shape → ℕ → Option ℕ → Request → ℕ → PutAnswer → ℕ → ℕ → ℕ → List Entry
-    → List Entry → Type 0
-AddsForPut shape pass cutoff request deadline put.Stored refilled kept keys old new =
-    (room : List Entry)
-    × AddsRoom shape pass cutoff deadline refilled kept keys old room
-    × ((segment : ℕ) × (new ≡ Wrote pass request Stored (Some segment) ∷ room))
-AddsForPut shape pass cutoff request deadline put.NoRoom refilled kept keys old new =
-    AddsRoom shape pass cutoff deadline refilled kept keys old new
-AddsForPut shape pass cutoff request deadline put.BucketFull refilled kept keys old new =
-    AddsRoom shape pass cutoff deadline refilled kept keys old new
-AddsForPut shape pass cutoff request deadline put.Busy refilled kept keys old new =
-    AddsRoom shape pass cutoff deadline refilled kept keys old new
+-- A put adds entries that make room. If it is Stored, then comes the one of its request,
+-- and at last those by which it clears a segment. Any other put adds none of its request.
+abbrev pub AddsForPut : Shape → ℕ → Option ℕ → Request → ℕ → PutAnswer → Effort → Effort
+    → List Entry → List Entry → Type 0
+AddsForPut shape pass cutoff request deadline put.Stored room cleared old new =
+    (before : List Entry)
+    × AddsRoom shape pass cutoff deadline room.refilled room.kept room.keys old before
+    × ((segment : ℕ)
+    × AddsRoom shape pass cutoff deadline cleared.refilled cleared.kept cleared.keys
+    (Wrote pass request Stored (Some segment) ∷ before) new)
+AddsForPut shape pass cutoff request deadline put.NoRoom room cleared old new =
+    AddsRoom shape pass cutoff deadline room.refilled room.kept room.keys old new
+AddsForPut shape pass cutoff request deadline put.BucketFull room cleared old new =
+    AddsRoom shape pass cutoff deadline room.refilled room.kept room.keys old new
+AddsForPut shape pass cutoff request deadline put.Busy room cleared old new =
+    AddsRoom shape pass cutoff deadline room.refilled room.kept room.keys old new

@@ -1,3 +1,4 @@
+pub mod Clearing
 pub mod Client
 pub mod Clients
 pub mod Counting

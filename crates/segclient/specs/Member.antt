@@ -5,19 +5,23 @@ use Rattle.segbase.specs.Words.{number, Pass}
 use Rattle.segindex.specs.Words.{board_of, Index, shape_of}
 use Rattle.segstore.specs.Words.{IsQuiet, IsQuiet-prop}
 use Rattle.segclient.specs.declared.member.Member.{Member}
+use Rattle.segclient.specs.Clearing.{IsCleared, IsCleared-prop}
 use Rattle.segclient.specs.Counting.{no_stats}
 use Rattle.segclient.specs.Rings.{first_ring, IsOwnRing, IsOwnRing-prop}
 
--- its pass is between two calls of this index, and its segments are the pass's own
+-- Its pass is between two calls of this index, and its segments are the pass's own.
+-- No item names a row of the one that it clears, up to where the clearing is.
 abbrev pub IsMember : Index → Member → Type 0
 IsMember i member =
     IsQuiet (board_of i) member.pass
     × IsOwnRing (shape_of i) (number member.pass) member.segments.ring
+    × IsCleared (shape_of i) member.segments.source member.pass
 
 pub IsMember-prop : (i : Index) (member : Member) → IsProp (IsMember i member)
 IsMember-prop i member = λ x y j. (
   IsQuiet-prop (board_of i) member.pass x.0 y.0 j,
   IsOwnRing-prop (shape_of i) (number member.pass) member.segments.ring x.1 y.1 j,
+  IsCleared-prop (shape_of i) member.segments.source member.pass x.2 y.2 j,
 )
 
 -- the numbers at random: the state after the next one, and the one that it gives
@@ -86,10 +90,11 @@ pub record SetsTimeToLive (time : ℕ) (old new : Member) : Type 0 where
   pub cutoff : new.cutoff ≡ old.cutoff
 
 -- its puts keep what has this frequency or a higher one, or nothing, and no more by queues,
--- and nothing else is changed
+-- it clears no segment, and nothing else is changed
 pub record SetsCutoff (least : Option ℕ) (old new : Member) : Type 0 where
   pub rest : KeepsRest old new
   pub clock : new.clock ≡ old.clock
   pub time_to_live : new.time_to_live ≡ old.time_to_live
   pub cutoff : new.cutoff ≡ least
   pub queues : new.segments.queues ≡ None
+  pub source : new.segments.source ≡ None

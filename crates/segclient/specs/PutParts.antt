@@ -14,7 +14,9 @@ use Rattle.segclient.specs.declared.put.Order.{Order}
 use Rattle.segclient.specs.declared.put.PutAnswer.{PutAnswer}
 use Rattle.segclient.specs.declared.put.PutAnswer.TheVariants as put
 use Rattle.segclient.specs.declared.room.Effort.{Effort}
+use Rattle.segclient.specs.declared.room.Policy.{Policy}
 use Rattle.segclient.specs.declared.stats.Stats.{Stats}
+use Rattle.segclient.specs.Clearing.{ClearsSome}
 use Rattle.segclient.specs.Counting.{with_more}
 use Rattle.segclient.specs.PutCalls.{PutCall, sets, evicts, Plan, came_to, refilled_segments, kept_items, evicted_keys, IsRefused, Makes, StoresUntil}
 use Rattle.segclient.specs.Putting.{IsPutAnswer, SetsAtMost16, SetsUntilFull}
@@ -27,6 +29,13 @@ pub record IsEffort (calls : List PutCall) (effort : Effort) : Type 0 where
   pub refilled : effort.refilled ≡ sum_by (came_to refilled_segments) calls
   pub kept : effort.kept ≡ sum_by (came_to kept_items) calls
   pub keys : effort.keys ≡ sum_by (came_to evicted_keys) calls
+
+abbrev pub effort_of : List PutCall → Effort
+effort_of calls = record {
+  refilled = sum_by (came_to refilled_segments) calls;
+  kept = sum_by (came_to kept_items) calls;
+  keys = sum_by (came_to evicted_keys) calls;
+}
 
 abbrev pub effort_from : ℕ → ℕ → ℕ → Effort
 effort_from refilled kept keys = record { refilled = refilled; kept = kept; keys = keys }
@@ -69,6 +78,11 @@ pub record MakesRoom (b : Board) (cutoff : Option ℕ) (deadline most : ℕ) (ma
   pub room : has_room b.shape q ≡ made
   pub until : made ≡ true → StoresUntil deadline q
   pub refused : made ≡ false → AreRefused b.shape (number p) arranges.calls
+
+-- a free segment was refilled, or nothing came about
+abbrev pub TakesFree : Board → ℕ → Bool → Pass → Pass → Type 0
+TakesFree b deadline true p q = MakesRoom b None deadline 1 true (effort_from 1 0 0) p q
+TakesFree b deadline false p q = Arranges b None deadline 1 (effort_from 0 0 0) p q
 
 -- so many keys were evicted from a segment, and then it was refilled;
 -- or it couldn't be: the evict was Busy, or the refill Held
@@ -200,19 +214,27 @@ pub record PutsWhole (b : Board) (plan : Plan) (moment most : ℕ) (told : PutAn
   pub tries : SetsAtMost16 calls
   pub spares : Spares b.shape moment calls p
 
+-- ---- after a put
+
+-- a client cleared rows of a segment: only after a put that is Stored, and only if it has queues
+pub record ClearsAfter (b : Board) (policy : Policy) (told : PutAnswer) (queued : Bool)
+    (effort : Effort) (p q : Pass) : Type 0 where
+  pub some : ClearsSome b policy.cutoff policy.deadline effort p q
+  pub unasked : told ≢ put.Stored → some.steps ≡ []
+  pub unqueued : queued ≡ false → some.steps ≡ []
+
 -- ---- at most so many calls
 
 -- to give up segments in turn, once round
 abbrev pub most_in_turn : Shape → ℕ
 most_in_turn shape = 2 * shape.segments_each + 2
 
--- to clear segments by queues: three times as many as there are, each over its rows
-abbrev pub most_in_queues : Shape → ℕ
-most_in_queues shape = 3 * shape.segments_each * (shape.rows + 1)
+-- to make room by any policy, with no free segment that can be taken, and with one that is tried
+abbrev pub most_at_last : Shape → ℕ
+most_at_last shape = (shape.rows + 1) + 2 * most_in_turn shape
 
--- to make room by any policy
 abbrev pub most_for_room : Shape → ℕ
-most_for_room shape = most_in_queues shape + (shape.rows + 1) + 2 * most_in_turn shape
+most_for_room shape = 1 + most_at_last shape
 
 -- for a set that makes room, and for a put
 abbrev pub most_for_set : Shape → ℕ

@@ -1,14 +1,15 @@
 -- What a put of a client came to.
-use Rattle.std.specs.Prelude.{◌≡◌, ◌≢◌, ℕ, ◌+◌, ◌-◌, ◌/◌, ◌%◌, ◌^◌, ◌<◌, ◌≤◌, max, Bool, true, false, cond, nat_lt, List, length, All, Some, None}
+use Rattle.std.specs.Prelude.{◌≡◌, ◌≢◌, ℕ, ◌+◌, ◌-◌, ◌/◌, ◌%◌, ◌^◌, ◌<◌, ◌≤◌, max, Bool, true, false, cond, nat_lt, is_some, List, [], length, All, Some, None}
 use Rattle.segmodel.specs.declared.answer.WriteAnswer.TheVariants as write
 use Rattle.segmodel.specs.declared.request.Request.TheVariants.{Set}
 use Rattle.segmodel.specs.Words.{owner}
-use Rattle.segbase.specs.Words.{Board, number}
+use Rattle.segbase.specs.Words.{Board, number, Pass}
 use Rattle.segstore.specs.Words.{has_room, memo}
 use Rattle.segclient.specs.declared.member.Member.{Member}
 use Rattle.segclient.specs.declared.put.PutAnswer.{PutAnswer}
 use Rattle.segclient.specs.declared.put.PutAnswer.TheVariants as put
-use Rattle.segclient.specs.Counting.{counted, given_up_too}
+use Rattle.segclient.specs.Clearing.{Clears, Step}
+use Rattle.segclient.specs.Counting.{cleared_too, counted, given_up_too}
 use Rattle.segclient.specs.Member.{KeepsSettings}
 use Rattle.segclient.specs.PutCalls.{IsRefused, Makes, PutCall, sets}
 use Rattle.segclient.specs.PutCalls.{StoresUntil}
@@ -25,15 +26,17 @@ deadline_of member =
 -- A put made these calls, for its request and by the client's settings.
 -- It makes at most 16 sets in a row.
 -- With a row left that can be read then, it makes room only once its bucket was full.
--- Hold and lock are as they were, and the client counted the put, and what the calls came to.
+-- Once it is Stored, a client with queues clears rows of another segment, by at most 16 steps.
+-- Hold and lock are as they were, and the client counted the put, and what calls and steps came to.
 pub record Puts (key value : List ℕ) (told : PutAnswer) (b : Board) (old new : Member)
     : Type 0 where
   pub calls : List PutCall
+  pub between : Pass
   pub makes : Makes b (record {
     request = Some (Set key value old.clock);
     cutoff = old.cutoff;
     deadline = deadline_of old;
-  }) calls old.pass new.pass
+  }) calls old.pass between
   pub answer : IsPutAnswer b.shape (number old.pass) told calls
   pub not_stored : told ≢ put.Stored → All (λ call. call ≢ sets write.Stored) calls
   pub tries : SetsAtMost16 calls
@@ -42,8 +45,14 @@ pub record Puts (key value : List ℕ) (told : PutAnswer) (b : Board) (old new :
       → old.clock < until
       → has_room b.shape old.pass ≡ true
       → SetsUntilFull calls
+  pub steps : List Step
+  pub clears : Clears b old.cutoff (deadline_of old) steps between new.pass
+  pub few_steps : length steps ≤ 16
+  pub unasked : told ≢ put.Stored → steps ≡ []
+  pub unqueued : is_some old.segments.queues ≡ false → steps ≡ []
   pub memo : memo new.pass ≡ memo old.pass
-  pub stats : new.stats ≡ counted (put_tally told) (given_up_too calls old.stats)
+  pub stats : new.stats ≡ counted (put_tally told)
+      (cleared_too steps (given_up_too calls old.stats))
   pub draws : new.draws ≡ old.draws
   pub settings : KeepsSettings old new
   pub costs : length calls ≤ most_calls b.shape

@@ -43,4 +43,4 @@ SetsAtMost16 (call ∷ earlier) = (last_sets (call ∷ earlier) ≤ 16) × SetsA
 
 -- at most so many calls
 abbrev pub most_calls : Shape → ℕ
-most_calls shape = 6 * (shape.segments_each + 1) * (shape.rows + 3) + 61
+most_calls shape = 8 * shape.segments_each + 2 * shape.rows + 77

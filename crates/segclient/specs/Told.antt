@@ -7,9 +7,11 @@ use Rattle.segindex.specs.Words.{board_of, Index, shape_of, StoresBetween}
 use Rattle.segclient.specs.declared.member.Member.{Member}
 use Rattle.segclient.specs.declared.put.PutAnswer.{PutAnswer}
 use Rattle.segclient.specs.declared.put.PutAnswer.TheVariants as put
+use Rattle.segclient.specs.Clearing.{effort_of_steps}
 use Rattle.segclient.specs.Entries.{AddsForPut, AddsRoom}
 use Rattle.segclient.specs.Member.{IsMember}
 use Rattle.segclient.specs.PutCalls.{came_to, evicted_keys, kept_items, refilled_segments}
+use Rattle.segclient.specs.PutParts.{effort_of}
 use Rattle.segclient.specs.Puts.{deadline_of, MakesRoomFor, Puts}
 
 -- A put that is Stored came in after the first step of its call, and its value stood right after.
@@ -21,15 +23,15 @@ PutStands = (i : Index) (key value : List ℕ) (old new : Member)
     StoresBetween (shape_of i) (number old.pass) (Set key value old.clock)
     (event.seen start) (seen new.pass))
 
--- A put adds entries that make room, as many as its calls came to. If it is Stored, the last
--- entry is the one of its request, and else there is none.
+-- A put adds entries that make room, as many as its calls came to. If it is Stored, then comes
+-- the entry of its request, and then those by which it clears a segment, as many as its steps
+-- came to. Else there is no entry of its request.
 abbrev pub PutAdds : Type 0
 PutAdds = (i : Index) (key value : List ℕ) (told : PutAnswer) (old new : Member)
     → IsMember i old
     → (puts : Puts key value told (board_of i) old new)
     → AddsForPut (shape_of i) (number old.pass) old.cutoff (Set key value old.clock)
-    (deadline_of old) told (sum_by (came_to refilled_segments) puts.calls)
-    (sum_by (came_to kept_items) puts.calls) (sum_by (came_to evicted_keys) puts.calls)
+    (deadline_of old) told (effort_of puts.calls) (effort_of_steps puts.steps)
     (mine old.pass) (mine new.pass)
 
 -- So it is of room that is made alone.

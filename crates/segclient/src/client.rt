@@ -188,7 +188,8 @@ impl<'i> Client<'i> {
     /// If no row is left, or the segment that it stores into has expired,
     /// it recycles segments of its own: it evicts them, and refills one to expire
     /// a time to live from now, or up to half of that earlier.
-    /// By queues it first moves on what was read in those that it evicts. An update moves on
+    /// By queues it goes over up to eight rows of another segment once it is stored, while few
+    /// segments are free: it moves on what was read, and evicts the rest. An update moves on
     /// without being read, some times.
     /// By a cutoff, or keeping nothing, it takes the one that was filled before the others,
     /// from the second round on if it had queues before;

@@ -3,7 +3,7 @@
 #![tactic(auto)]
 
 mod all;
-mod arranging;
+mod clearing;
 mod client;
 mod hold;
 mod many;

@@ -4,8 +4,8 @@ ghost use Rattle.segindex.specs.Words.{board_of, shape_of};
 ghost use Rattle.segstore.specs.Words.{IsQuiet};
 ghost use Rattle.segclient.specs.Member.{next_draws};
 
-use crate::put::{Order, PutAnswer, put_by};
-use crate::queues::Queues;
+use crate::put::{Order, PutAnswer, clear_after, put_by};
+use crate::queues::queues_of;
 use crate::ring::own_ring;
 use crate::room::{Policy, Segments, make_room_by};
 use crate::stats::Stats;
@@ -57,7 +57,11 @@ impl Member {
         let ring = own_ring(index, &pass);
         Member {
             pass,
-            segments: Segments { ring, queues: None },
+            segments: Segments {
+                ring,
+                queues: None,
+                source: None,
+            },
             draws: number,
             clock: 0,
             time_to_live: u32::MAX,
@@ -72,7 +76,7 @@ impl Member {
         ensures member { IfOk result (IsMember index.now) }
         ensures begins { IfOk result (Begins (shape_of index.now) (Some 0) pass) }
     {
-        let queues = Queues::new(alloc, index.shape())?;
+        let queues = queues_of(alloc, index, &pass)?;
         let mut member = Member::new(index, pass);
         member.segments.queues = Some(queues);
         member.cutoff = Some(0);
@@ -113,6 +117,7 @@ impl Member {
     {
         self.cutoff = cutoff;
         self.segments.queues = None;
+        self.segments.source = None;
     }
 
     /// As `Client::stats`.
@@ -252,13 +257,12 @@ impl Member {
         ensures member { IsMember index.now self.new }
         ensures puts { Puts key.now value.now result (board_of index.now) self.old self.new }
     {
-        let order = Order {
-            key,
-            value,
-            policy: self.policy(),
-        };
+        let policy = self.policy();
+        let order = Order { key, value, policy };
         let (told, effort) = put_by(index, &mut self.pass, &mut self.segments, order);
         self.stats.count_effort(effort);
+        let cleared = clear_after(index, &mut self.pass, &mut self.segments, policy, told);
+        self.stats.count_effort(cleared);
         self.stats.count(Tally::of_put(told));
         told
     }

@@ -3,12 +3,15 @@ ghost use Rattle.std.specs.Prelude.{◌≡◌, ◌<◌, ◌^◌, is_some, true};
 ghost use Rattle.segbase.specs.Words.{number, Pass as BasePass};
 ghost use Rattle.segindex.specs.Words.{board_of, shape_of};
 ghost use Rattle.segstore.specs.Words.{GoesOn, IsQuiet};
-ghost use Rattle.segclient.specs.PutParts.{current_deadline, is_stale, MakesPut, most_for_put};
+ghost use Rattle.segclient.specs.Clearing.{IsCleared};
+ghost use Rattle.segclient.specs.PutParts.{ClearsAfter, current_deadline, is_stale, MakesPut, most_for_put};
 ghost use Rattle.segclient.specs.PutParts.{most_for_set, plan_of, PutsAtLast, PutsWhole, Sets};
 ghost use Rattle.segclient.specs.PutParts.{SetsIfFresh};
 ghost use Rattle.segclient.specs.Putting.{most_calls};
 ghost use Rattle.segclient.specs.Rings.{IsOwnRing};
 
+use crate::clearing::clear_some;
+use crate::queues::note_put;
 use crate::room::{Effort, Policy, Segments, evict_oldest, make_room_by};
 use segindex::{Index, Pass};
 use segmodel::WriteAnswer;
@@ -99,9 +102,11 @@ fn set_in_room(
 ) -> (PutAnswer, Effort)
     requires quiet { IsQuiet (board_of index.now) pass.old }
     requires own { IsOwnRing (shape_of index.now) (number pass.old) segments.old.ring }
+    requires cleared { IsCleared (shape_of index.now) segments.old.source pass.old }
     ensures on { GoesOn (board_of index.now) pass.old pass.new }
     ensures own { IsOwnRing (shape_of index.now) (number pass.new) segments.new.ring }
     ensures queues { is_some segments.new.queues ≡ is_some segments.old.queues }
+    ensures cleared { IsCleared (shape_of index.now) segments.new.source pass.new }
     ensures few { (result.1.refilled < 2 ^ 30) × (result.1.kept < 2 ^ 60)
         × (result.1.keys < 2 ^ 59) }
     ensures sets { (start : BasePass)
@@ -133,9 +138,11 @@ fn put_at_last(
 ) -> (PutAnswer, Effort)
     requires quiet { IsQuiet (board_of index.now) pass.old }
     requires own { IsOwnRing (shape_of index.now) (number pass.old) segments.old.ring }
+    requires cleared { IsCleared (shape_of index.now) segments.old.source pass.old }
     ensures on { GoesOn (board_of index.now) pass.old pass.new }
     ensures own { IsOwnRing (shape_of index.now) (number pass.new) segments.new.ring }
     ensures queues { is_some segments.new.queues ≡ is_some segments.old.queues }
+    ensures cleared { IsCleared (shape_of index.now) segments.new.source pass.new }
     ensures puts { (start : BasePass)
         → SetsIfFresh (board_of index.now) (plan_of order.entry) order.entry.policy.moment told
         start pass.old
@@ -162,9 +169,11 @@ fn put_once(
 ) -> (PutAnswer, Effort)
     requires quiet { IsQuiet (board_of index.now) pass.old }
     requires own { IsOwnRing (shape_of index.now) (number pass.old) segments.old.ring }
+    requires cleared { IsCleared (shape_of index.now) segments.old.source pass.old }
     ensures on { GoesOn (board_of index.now) pass.old pass.new }
     ensures own { IsOwnRing (shape_of index.now) (number pass.new) segments.new.ring }
     ensures queues { is_some segments.new.queues ≡ is_some segments.old.queues }
+    ensures cleared { IsCleared (shape_of index.now) segments.new.source pass.new }
     ensures puts { PutsWhole (board_of index.now) (plan_of order.entry) order.entry.policy.moment
         (most_calls (shape_of index.now)) result.0 result.1 pass.old pass.new }
 {
@@ -184,9 +193,11 @@ fn put_in_queues(
 ) -> (PutAnswer, Effort)
     requires quiet { IsQuiet (board_of index.now) pass.old }
     requires own { IsOwnRing (shape_of index.now) (number pass.old) segments.old.ring }
+    requires cleared { IsCleared (shape_of index.now) segments.old.source pass.old }
     ensures on { GoesOn (board_of index.now) pass.old pass.new }
     ensures own { IsOwnRing (shape_of index.now) (number pass.new) segments.new.ring }
     ensures queues { is_some segments.new.queues ≡ is_some segments.old.queues }
+    ensures cleared { IsCleared (shape_of index.now) segments.new.source pass.new }
     ensures puts { PutsWhole (board_of index.now) (plan_of order.entry) order.entry.policy.moment
         (most_calls (shape_of index.now)) result.0 result.1 pass.old pass.new }
 {
@@ -199,7 +210,7 @@ fn put_in_queues(
     let Some(queues) = segments.queues.as_mut() else {
         return (told, effort);
     };
-    queues.was_put(pass, hash, is_update);
+    note_put(index, pass, queues, hash, is_update);
     (told, effort)
 }
 
@@ -213,9 +224,11 @@ pub(crate) fn put_by(
 ) -> (PutAnswer, Effort)
     requires quiet { IsQuiet (board_of index.now) pass.old }
     requires own { IsOwnRing (shape_of index.now) (number pass.old) segments.old.ring }
+    requires cleared { IsCleared (shape_of index.now) segments.old.source pass.old }
     ensures on { GoesOn (board_of index.now) pass.old pass.new }
     ensures own { IsOwnRing (shape_of index.now) (number pass.new) segments.new.ring }
     ensures queues { is_some segments.new.queues ≡ is_some segments.old.queues }
+    ensures cleared { IsCleared (shape_of index.now) segments.new.source pass.new }
     ensures puts { PutsWhole (board_of index.now) (plan_of order.entry) order.entry.policy.moment
         (most_calls (shape_of index.now)) result.0 result.1 pass.old pass.new }
 {
@@ -223,4 +236,32 @@ pub(crate) fn put_by(
         return put_in_queues(index, pass, segments, order);
     }
     put_once(index, pass, segments, order)
+}
+
+// After a put that was stored, a client with queues clears some rows of another segment.
+#[inline(always)]
+pub(crate) fn clear_after(
+    index: &Index,
+    pass: &mut Pass,
+    segments: &mut Segments,
+    policy: Policy,
+    told: PutAnswer,
+) -> Effort
+    requires quiet { IsQuiet (board_of index.now) pass.old }
+    requires own { IsOwnRing (shape_of index.now) (number pass.old) segments.old.ring }
+    requires cleared { IsCleared (shape_of index.now) segments.old.source pass.old }
+    ensures on { GoesOn (board_of index.now) pass.old pass.new }
+    ensures own { IsOwnRing (shape_of index.now) (number pass.new) segments.new.ring }
+    ensures queues { is_some segments.new.queues ≡ is_some segments.old.queues }
+    ensures cleared { IsCleared (shape_of index.now) segments.new.source pass.new }
+    ensures clears { ClearsAfter (board_of index.now) policy told
+        (is_some segments.old.queues) result pass.old pass.new }
+{
+    let PutAnswer::Stored = told else {
+        return Effort::none();
+    };
+    if segments.queues.is_none() {
+        return Effort::none();
+    }
+    clear_some(index, pass, segments, policy)
 }

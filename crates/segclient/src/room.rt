@@ -1,28 +1,33 @@
 //! How a put makes room: it recycles segments of its own in the order in which they were filled,
 //! or by queues.
-ghost use Rattle.std.specs.Prelude.{◌≡◌, ◌+◌, ◌<◌, ◌≤◌, ◌^◌, ℕ, true, is_some, Some, None};
+ghost use Rattle.std.specs.Prelude.{◌≡◌, ◌≢◌, ◌+◌, ◌*◌, ◌<◌, ◌≤◌, ◌^◌, ℕ, true, false, is_some, Some, None};
 ghost use Rattle.segmodel.specs.Words.{owner};
 ghost use Rattle.segbase.specs.Words.{current_of, number};
 ghost use Rattle.segstore.specs.Words.{GoesOn, has_room, IsQuiet};
 ghost use Rattle.segindex.specs.Words.{board_of, shape_of};
 ghost use Rattle.segclient.specs.PutCalls.{came_to, keeps, kept_items, StoresUntil};
+ghost use Rattle.segclient.specs.Clearing.{IsCleared};
 ghost use Rattle.segclient.specs.PutParts.{Arranges, effort_from, Empties, GivesUp, MakesRoom};
-ghost use Rattle.segclient.specs.PutParts.{most_for_room, most_in_turn, StoresAsBefore};
+ghost use Rattle.segclient.specs.PutParts.{most_at_last, most_for_room, most_in_turn};
+ghost use Rattle.segclient.specs.PutParts.{StoresAsBefore, TakesFree};
 ghost use Rattle.segclient.specs.Rings.{IsOwnRing};
 
-use crate::arranging::{Room, free_two};
-use crate::queues::{Queue, Queues};
+use crate::clearing::Source;
+use crate::queues::{oldest as oldest_in, oldest_in_use, place_of, round, was_given_up};
 use crate::tally::evicted_by;
 use segindex::{Index, KeepRowAnswer, Pass};
 use segmodel::{EvictAnswer, RefillAnswer, SegState};
 use segpolicy::Ring;
+use segqueues::{Queue, Queues};
 
 // The segments of a pass. The ring has the order in which they are given up, unless the queues do,
-// by which a client keeps what was read.
+// by which a client keeps what was read. Only a client with queues has a segment that is being
+// cleared.
 #[derive(Drop)]
 pub(crate) struct Segments {
     pub(crate) ring: Ring,
     pub(crate) queues: Option<Queues>,
+    pub(crate) source: Option<Source>,
 }
 
 // How room is made: the least frequency of what is kept, if anything is, the deadline of what is
@@ -55,7 +60,7 @@ impl Effort {
     }
 
     // No segment was refilled, and no item kept.
-    fn evicting(keys: u64) -> Effort
+    pub(crate) fn evicting(keys: u64) -> Effort
         ensures { result ≡ record { refilled = 0; kept = 0; keys = keys } }
     {
         Effort {
@@ -250,7 +255,7 @@ fn make_room_keeping(
     ensures own { IsOwnRing (shape_of index.now) (number pass.new) ring.new }
     ensures few { (result.1.refilled ≤ 2) × (result.1.kept < 2 ^ 32) × (result.1.keys < 2 ^ 59) }
     ensures room { MakesRoom (board_of index.now) (Some cutoff) deadline
-        (most_for_room (shape_of index.now)) result.0 result.1 pass.old pass.new }
+        (most_at_last (shape_of index.now)) result.0 result.1 pass.old pass.new }
 {
     let (is_made, first) = make_room(index, pass, ring, deadline);
     if !is_made {
@@ -294,16 +299,16 @@ fn make_room_in_order(
     ensures room { result.0 ≡ true → MakesRoom (board_of index.now) None deadline
         (most_in_turn (shape_of index.now)) true result.1 pass.old pass.new }
 {
-    let until = queues.last_turn();
+    let round = round(index, pass, queues);
     let mut keys = 0;
     for tried in 0..index.shape().segments_each {
-        let Some(segment) = queues.next_until(index, pass, until) else {
+        let Some(segment) = oldest_in(index, pass, queues, round.queue_at(tried)) else {
             return (false, Effort::evicting(keys));
         };
         let (is_refilled, more) = give_up(index, pass, segment, deadline);
         keys += u64::from(more);
         if is_refilled {
-            queues.was_refilled(segment, false);
+            queues.was_refilled(place_of(index, segment), false);
             let refilled = Effort {
                 refilled: 1,
                 kept: 0,
@@ -311,50 +316,44 @@ fn make_room_in_order(
             };
             return (true, refilled);
         }
-        queues.was_evicted(segment);
+        was_given_up(index, pass, queues, segment);
     }
     (false, Effort::evicting(keys))
 }
 
-// Makes room by the queues. If no segment could be given up in their order, each is tried
-// once more, and the current one at last.
+// Makes room by the queues, unless a row is left. If no segment could be given up in their order,
+// each is tried once more, and the current one at last.
 fn make_room_in_queues(
     index: &Index,
     pass: &mut Pass,
     ring: &mut Ring,
     queues: &mut Queues,
-    room: Room,
+    deadline: u32,
 ) -> (bool, Effort)
     requires quiet { IsQuiet (board_of index.now) pass.old }
     requires own { IsOwnRing (shape_of index.now) (number pass.old) ring.old }
     ensures on { GoesOn (board_of index.now) pass.old pass.new }
     ensures own { IsOwnRing (shape_of index.now) (number pass.new) ring.new }
-    ensures few { (result.1.refilled < 2 ^ 30) × (result.1.kept < 2 ^ 60)
-        × (result.1.keys < 2 ^ 59) }
-    ensures room { MakesRoom (board_of index.now) (Some room.least) room.deadline
-        (most_for_room (shape_of index.now)) result.0 result.1 pass.old pass.new }
+    ensures few { (result.1.refilled ≤ 2) × (result.1.kept ≡ 0) × (result.1.keys < 2 ^ 58) }
+    ensures room { MakesRoom (board_of index.now) None deadline
+        (2 * most_in_turn (shape_of index.now)) result.0 result.1 pass.old pass.new }
 {
-    let cleared = free_two(index, pass, queues, room);
-    let is_scarce = queues.count(index, pass, Queue::Free) < 2;
-    if is_scarce && has_room_until(index, pass, room.deadline) {
-        return (true, cleared);
+    if has_room_until(index, pass, deadline) {
+        return (true, Effort::none());
     }
-    let (is_made, first) = make_room_in_order(index, pass, queues, room.deadline);
-    let effort = cleared.plus(first);
+    let (is_made, first) = make_room_in_order(index, pass, queues, deadline);
     if is_made {
-        return (true, effort);
+        return (true, first);
     }
-    let (is_made, last) = make_room(index, pass, ring, room.deadline);
+    let (is_made, last) = make_room(index, pass, ring, deadline);
     if let Some(segment) = pass.current() {
-        queues.was_refilled(segment, false);
+        queues.was_refilled(place_of(index, segment), false);
     }
-    (is_made, effort.plus(last))
+    (is_made, first.plus(last))
 }
 
-// Makes room by the client's policy, at this moment.
-#[cold]
-#[inline(never)]
-pub(crate) fn make_room_by(
+// Makes room by the client's policy, at this moment, from segments that it gives up for it.
+fn make_room_at_last(
     index: &Index,
     pass: &mut Pass,
     segments: &mut Segments,
@@ -365,25 +364,93 @@ pub(crate) fn make_room_by(
     ensures on { GoesOn (board_of index.now) pass.old pass.new }
     ensures own { IsOwnRing (shape_of index.now) (number pass.new) segments.new.ring }
     ensures queues { is_some segments.new.queues ≡ is_some segments.old.queues }
+    ensures source { segments.new.source ≡ segments.old.source }
     ensures few { (result.1.refilled < 2 ^ 30) × (result.1.kept < 2 ^ 60)
         × (result.1.keys < 2 ^ 59) }
     ensures room { MakesRoom (board_of index.now) policy.cutoff policy.deadline
-        (most_for_room (shape_of index.now)) result.0 result.1 pass.old pass.new }
+        (most_at_last (shape_of index.now)) result.0 result.1 pass.old pass.new }
 {
     let Some(least) = policy.cutoff else {
         return make_room(index, pass, &mut segments.ring, policy.deadline);
     };
     match segments.queues.as_mut() {
         Some(queues) => {
-            let room = Room {
-                least,
-                deadline: policy.deadline,
-                moment: policy.moment,
-            };
-            make_room_in_queues(index, pass, &mut segments.ring, queues, room)
+            make_room_in_queues(index, pass, &mut segments.ring, queues, policy.deadline)
         }
         None => make_room_keeping(index, pass, &mut segments.ring, least, policy.deadline),
     }
+}
+
+// Whether the segment is the one that is being cleared.
+fn is_source(source: Option<Source>, segment: u32) -> bool
+    ensures { result ≡ false → (one : Source) → source ≡ Some one → one.segment ≢ segment }
+{
+    match source {
+        Some(source) => source.segment == segment,
+        None => false,
+    }
+}
+
+// Refills the free segment that was evicted before the others, for puts, and says whether that
+// came about. One that is held comes last. The one that is being cleared is left.
+fn take_free(index: &Index, pass: &mut Pass, segments: &mut Segments, deadline: u32) -> bool
+    requires quiet { IsQuiet (board_of index.now) pass.old }
+    requires cleared { IsCleared (shape_of index.now) segments.old.source pass.old }
+    ensures on { GoesOn (board_of index.now) pass.old pass.new }
+    ensures ring { segments.new.ring ≡ segments.old.ring }
+    ensures queues { is_some segments.new.queues ≡ is_some segments.old.queues }
+    ensures cleared { IsCleared (shape_of index.now) segments.new.source pass.new }
+    ensures takes { TakesFree (board_of index.now) deadline result pass.old pass.new }
+{
+    let Some(queues) = segments.queues.as_mut() else {
+        return false;
+    };
+    let Some(segment) = oldest_in(index, pass, queues, Queue::Free) else {
+        return false;
+    };
+    if is_source(segments.source, segment) {
+        return false;
+    }
+    let RefillAnswer::Refilled = index.refill(pass, segment, deadline) else {
+        was_given_up(index, pass, queues, segment);
+        return false;
+    };
+    queues.was_refilled(place_of(index, segment), false);
+    true
+}
+
+// Makes room by the client's policy, at this moment. Where a free segment is taken for it,
+// the clearing of another goes on, and else it ends.
+#[cold]
+#[inline(never)]
+pub(crate) fn make_room_by(
+    index: &Index,
+    pass: &mut Pass,
+    segments: &mut Segments,
+    policy: Policy,
+) -> (bool, Effort)
+    requires quiet { IsQuiet (board_of index.now) pass.old }
+    requires own { IsOwnRing (shape_of index.now) (number pass.old) segments.old.ring }
+    requires cleared { IsCleared (shape_of index.now) segments.old.source pass.old }
+    ensures on { GoesOn (board_of index.now) pass.old pass.new }
+    ensures own { IsOwnRing (shape_of index.now) (number pass.new) segments.new.ring }
+    ensures queues { is_some segments.new.queues ≡ is_some segments.old.queues }
+    ensures cleared { IsCleared (shape_of index.now) segments.new.source pass.new }
+    ensures few { (result.1.refilled < 2 ^ 30) × (result.1.kept < 2 ^ 60)
+        × (result.1.keys < 2 ^ 59) }
+    ensures room { MakesRoom (board_of index.now) policy.cutoff policy.deadline
+        (most_for_room (shape_of index.now)) result.0 result.1 pass.old pass.new }
+{
+    if take_free(index, pass, segments, policy.deadline) {
+        let effort = Effort {
+            refilled: 1,
+            kept: 0,
+            keys: 0,
+        };
+        return (true, effort);
+    }
+    segments.source = None;
+    make_room_at_last(index, pass, segments, policy)
 }
 
 // The segment in use that was filled before all others of the pass, but for the one that it stores
@@ -421,7 +488,7 @@ fn oldest(index: &Index, pass: &Pass, segments: &mut Segments) -> u32
         → (other : ℕ) → owner (shape_of index.now) other ≡ number pass.now → other ≡ result }
 {
     if let Some(queues) = segments.queues.as_ref() {
-        if let Some(segment) = queues.oldest_in_use(index, pass) {
+        if let Some(segment) = oldest_in_use(index, pass, queues) {
             return segment;
         }
     }
@@ -435,14 +502,16 @@ pub(crate) fn evict_oldest(index: &Index, pass: &mut Pass, segments: &mut Segmen
     ensures on { GoesOn (board_of index.now) pass.old pass.new }
     ensures own { IsOwnRing (shape_of index.now) (number pass.new) segments.new.ring }
     ensures queues { is_some segments.new.queues ≡ is_some segments.old.queues }
+    ensures source { segments.new.source ≡ None }
     ensures few { (result.refilled ≡ 0) × (result.kept ≡ 0) × (result.keys < 2 ^ 32) }
     ensures empties { Empties (board_of index.now) result pass.old pass.new }
 {
     let segment = oldest(index, pass, segments);
     let keys = evicted_by(index.evict(pass, segment));
     if let Some(queues) = segments.queues.as_mut() {
-        queues.was_evicted(segment);
+        was_given_up(index, pass, queues, segment);
     }
+    segments.source = None;
     Effort {
         refilled: 0,
         kept: 0,

@@ -3,6 +3,8 @@
 #![tactic(auto)]
 
 #[cfg(test)]
+mod bounded_puts;
+#[cfg(test)]
 mod cache_server;
 #[cfg(test)]
 mod callers;

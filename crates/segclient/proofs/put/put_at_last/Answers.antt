@@ -16,6 +16,7 @@ returns-in_default c =
       on = one.ensures.on;
       own = one.ensures.own;
       queues = one.ensures.queues;
+      cleared = one.ensures.cleared;
       puts = λ start is. (
         as_many b plan moment (most_for_set b.shape) (most_for_put b.shape) one.result.0 one.result.1 one.result.1 start one.new.pass (omega arith) refl (one.ensures.sets start is),
         λ full. absurd (c.in_default.not-BucketFull full),

@@ -5,6 +5,7 @@ use Rattle.segclient.specs.declared.put.PutAnswer.TheVariants as put
 use Rattle.segclient.specs.PutParts.{MakesPut, most_for_put, plan_of}
 use Rattle.segclient.specs.Putting.{most_calls}
 use Rattle.segclient.specs.Rings.{IsOwnRing}
+use Rattle.segclient.proofs.Cleared.{fresh_stays}
 use Rattle.segclient.proofs.Few.{put_few}
 use Rattle.segclient.proofs.Order.{sets_end}
 use Rattle.segclient.proofs.Whole.{whole_put}
@@ -26,11 +27,23 @@ returns-in-Stored c =
       on = first.ensures.on;
       own = subst (λ n. IsOwnRing b.shape n c.args.segments.now.ring) (sym first.ensures.on.same) c.requires.own;
       queues = refl;
+      cleared = fresh_stays b plan moment first.result c.args.pass.now first.new.pass c.requires.quiet first.ensures.sets c.args.segments.now.source c.requires.cleared;
       puts = whole_put b plan moment (most_for_put b.shape) (most_calls b.shape) first.result c.none.result c.args.pass.now first.new.pass (put_few b.shape) (
         subst (λ e. MakesPut b plan moment (most_for_put b.shape) first.result e c.args.pass.now first.new.pass) (sym c.none.ensures)
             (sets_end b plan moment (most_for_put b.shape) first.result c.args.pass.now first.new.pass (omega arith) (λ e. stored_apart (sym c.in-Stored.is ∙ e)) first.ensures.sets),
         λ full. absurd (stored_full (sym c.in-Stored.is ∙ full)),
       );
+    }
+
+pub put_at_last-requires : goal.put_at_last-requires
+put_at_last-requires c =
+    let b = board_of c.args.index.now in
+    let p = c.args.pass.now in
+    let first = c.set_if_fresh-first in
+    record {
+      quiet = first.ensures.on.quiet;
+      own = subst (λ n. IsOwnRing b.shape n c.args.segments.now.ring) (sym first.ensures.on.same) c.requires.own;
+      cleared = fresh_stays b (plan_of c.args.order) c.args.order.policy.moment first.result p first.new.pass c.requires.quiet first.ensures.sets c.args.segments.now.source c.requires.cleared;
     }
 
 pub returns-clause-on : goal.returns-clause-on

@@ -7,6 +7,7 @@ use Rattle.segclient.specs.declared.put.PutAnswer.TheVariants as put
 use Rattle.segclient.specs.declared.room.Effort.{Effort}
 use Rattle.segclient.specs.PutParts.{effort_from, MakesPut, most_for_room, most_for_set, plan_of, SetsIfFresh}
 use Rattle.segclient.proofs.Calls.{both}
+use Rattle.segclient.proofs.Cleared.{sets_stay}
 use Rattle.segclient.proofs.Order.{as_many, lacked, no_room_end, none_more, room_on, sets_end, sets_on}
 use Rattle.segclient.proofs.put.set_in_room.Goals as goal
 
@@ -20,6 +21,7 @@ returns-in_default c =
       on = goes_same b p c.requires.quiet;
       own = c.requires.own;
       queues = refl;
+      cleared = c.requires.cleared;
       few = (
         let x = ap (λ (e : Effort). e.refilled) c.none.ensures in omega (arith, x),
         let x = ap (λ (e : Effort). e.kept) c.none.ensures in omega (arith, x),
@@ -43,6 +45,13 @@ returns-then-not-is_made-clause-sets c = λ start is.
 
 pub returns-clause-on : goal.returns-clause-on
 returns-clause-on c = goes_then (board_of c.args.index.now) c.args.pass.now c.make_room_by-is_made.new.pass c.set_while_busy.new.pass c.make_room_by-is_made.ensures.on c.set_while_busy.ensures.on
+
+pub returns-clause-cleared : goal.returns-clause-cleared
+returns-clause-cleared c =
+    let b = board_of c.args.index.now in
+    let room = c.make_room_by-is_made in
+    let last = c.set_while_busy in
+    sets_stay b (plan_of c.args.order) last.result room.new.pass last.new.pass room.ensures.on.quiet last.ensures.sets room.new.segments.source room.ensures.cleared
 
 pub returns-clause-sets : goal.returns-clause-sets
 returns-clause-sets c = λ start is.

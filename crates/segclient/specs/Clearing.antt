@@ -1,0 +1,118 @@
+-- The calls by which a put that was stored clears a segment of its pass, row by row,
+-- the newest first, and what is known of that segment between two puts.
+use Rattle.std.specs.Prelude.{◌≡◌, ◌≢◌, ℕ, ◌≤◌, List, [], ◌∷◌, length, sum_by, Option, Some, None}
+use Rattle.std.specs.Coded.{×_prop, Unit-prop, Π_prop}
+use Rattle.std.proofs.Common.{sym, ◌∙◌}
+use Rattle.std.proofs.Props.{props}
+use Rattle.std.proofs.lemmas.Option.{same_Some}
+use Rattle.segword.specs.Words.{Shape, triple-prop}
+use Rattle.segmodel.specs.declared.answer.EvictAnswer.TheVariants as evict
+use Rattle.segmodel.specs.declared.answer.RefillAnswer.TheVariants as refill
+use Rattle.segmodel.specs.Words.{EvictAnswer, owner, RefillAnswer}
+use Rattle.segbase.specs.Words.{Board, current_of, number, Pass}
+use Rattle.segevict.specs.declared.eviction.EvictRowAnswer.{EvictRowAnswer}
+use Rattle.segevict.specs.declared.eviction.EvictRowAnswer.TheVariants as evict_row
+use Rattle.segevict.specs.declared.retention.KeepRowAnswer.{KeepRowAnswer}
+use Rattle.segevict.specs.declared.retention.KeepRowAnswer.TheVariants as kept
+use Rattle.segevict.specs.Words.{AreUnnamed, EvictsItem, EvictsRest, KeepsItemInto}
+use Rattle.segindex.specs.Refilling.{RefillsAside}
+use Rattle.segclient.specs.declared.clearing.Source.{Source}
+use Rattle.segclient.specs.declared.room.Effort.{Effort}
+use Rattle.segclient.specs.PutCalls.{Amount, evicted_keys, kept_items, refilled_segments}
+
+-- ---- the segment that is being cleared
+
+-- It is one of the pass's own, and no item names its first rows, up to where the clearing is.
+abbrev pub IsCleared : Shape → Option Source → Pass → Type 0
+IsCleared shape None p = Unit {0}
+IsCleared shape (Some source) p =
+    (owner shape source.segment ≡ number p) × AreUnnamed shape source.segment source.row p
+
+-- it isn't the segment that the pass stores into
+abbrev pub IsClearing : Shape → Source → Pass → Type 0
+IsClearing shape source p =
+    IsCleared shape (Some source) p × (current_of p ≢ Some source.segment)
+
+pub IsCleared-prop : (shape : Shape) (source : Option Source) (p : Pass)
+    → IsProp (IsCleared shape source p)
+IsCleared-prop shape None p = Unit-prop
+IsCleared-prop shape (Some source) p = ×_prop (hlevel props)
+    (Π_prop (λ row. Π_prop (λ below. ×_prop
+    (triple-prop (λ used. hlevel props) (λ x y at on. same_Some x y (sym at.0 ∙ on.0)))
+    (Π_prop (λ named. hlevel props)))))
+
+-- ---- steps
+
+-- A call with its answer: a keep of a segment's row by a cutoff into another segment,
+-- an evict of a row, an evict of all rows from one on,
+-- or a refill that leaves the segment that the pass stores into.
+pub data Step : Type 0 where
+  keeps_into : ℕ → ℕ → ℕ → ℕ → KeepRowAnswer → Step
+  evicts_row : ℕ → ℕ → EvictRowAnswer → Step
+  evicts_rest : ℕ → ℕ → EvictAnswer → Step
+  refills_aside : ℕ → RefillAnswer → Step
+
+-- the segment is one of the pass's own, and not the one that it stores into
+abbrev pub IsAside : Board → ℕ → Pass → Type 0
+IsAside b segment p = (owner b.shape segment ≡ number p) × (current_of p ≢ Some segment)
+
+-- A step had its answer. What is kept has at least the cutoff of the client,
+-- and what is refilled has this deadline.
+abbrev pub IsStep : Board → Option ℕ → ℕ → Step → Pass → Pass → Type 0
+IsStep b cutoff deadline (keeps_into segment row by into told) p q =
+    IsAside b segment p
+    × ((least : ℕ) × (cutoff ≡ Some least) × (least ≤ by))
+    × KeepsItemInto b segment row by into told p q
+IsStep b cutoff deadline (evicts_row segment row told) p q =
+    IsAside b segment p × EvictsItem b segment row told p q
+IsStep b cutoff deadline (evicts_rest segment from told) p q =
+    IsAside b segment p × EvictsRest b segment from told p q
+IsStep b cutoff deadline (refills_aside segment told) p q =
+    (owner b.shape segment ≡ number p) × RefillsAside b segment deadline told p q
+
+-- the steps were made, one after another
+unfoldable pub Clears : Board → Option ℕ → ℕ → List Step → Pass → Pass → Type 0
+Clears b cutoff deadline [] p q = q ≡ p
+Clears b cutoff deadline (step ∷ earlier) p q =
+    (between : Pass) × Clears b cutoff deadline earlier p between
+    × IsStep b cutoff deadline step between q
+
+-- ---- what steps came to
+
+-- how many segments a step refilled, how many items it moved, or how many keys it evicted
+abbrev pub came_to_step : Amount → Step → ℕ
+came_to_step refilled_segments (refills_aside segment refill.Refilled) = 1
+came_to_step kept_items (keeps_into segment row by into kept.Moved) = 1
+came_to_step evicted_keys (evicts_row segment row evict_row.Evicted) = 1
+came_to_step evicted_keys (evicts_rest segment from (evict.Evicted keys)) = keys
+came_to_step evicted_keys (evicts_rest segment from (evict.Busy keys)) = keys
+came_to_step _ _ = 0
+
+-- in numbers
+pub record IsEffortOf (steps : List Step) (effort : Effort) : Type 0 where
+  pub refilled : effort.refilled ≡ sum_by (came_to_step refilled_segments) steps
+  pub kept : effort.kept ≡ sum_by (came_to_step kept_items) steps
+  pub keys : effort.keys ≡ sum_by (came_to_step evicted_keys) steps
+
+abbrev pub effort_of_steps : List Step → Effort
+effort_of_steps steps = record {
+  refilled = sum_by (came_to_step refilled_segments) steps;
+  kept = sum_by (came_to_step kept_items) steps;
+  keys = sum_by (came_to_step evicted_keys) steps;
+}
+
+-- at most so many steps came to these numbers
+pub record ClearsAtMost (b : Board) (cutoff : Option ℕ) (deadline most : ℕ) (effort : Effort)
+    (p q : Pass) : Type 0 where
+  pub steps : List Step
+  pub clears : Clears b cutoff deadline steps p q
+  pub few : length steps ≤ most
+  pub comes : IsEffortOf steps effort
+
+-- so do the steps of a put
+abbrev pub ClearsSome : Board → Option ℕ → ℕ → Effort → Pass → Pass → Type 0
+ClearsSome b cutoff deadline effort p q = ClearsAtMost b cutoff deadline 16 effort p q
+
+-- so do those of one turn, whose items have at least this frequency
+abbrev pub ClearsRow : Board → ℕ → ℕ → Effort → Pass → Pass → Type 0
+ClearsRow b least deadline effort p q = ClearsAtMost b (Some least) deadline 2 effort p q

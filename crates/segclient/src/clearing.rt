@@ -1,0 +1,400 @@
+//! How a put that was stored clears a segment of its pass: some rows at each put.
+ghost use Rattle.std.specs.Prelude.{◌≡◌, ◌+◌, ◌<◌, ◌≤◌, ◌^◌, ℕ, true, false, is_some, Option, IfSome, Some, None};
+ghost use Rattle.segbase.specs.Words.{number};
+ghost use Rattle.segindex.specs.Words.{board_of, shape_of};
+ghost use Rattle.segstore.specs.Words.{GoesOn, IsQuiet};
+ghost use Rattle.segclient.specs.Clearing.{ClearsAtMost, ClearsRow, ClearsSome, IsCleared};
+ghost use Rattle.segclient.specs.Clearing.{came_to_step, evicts_row, IsClearing, keeps_into};
+ghost use Rattle.segclient.specs.PutCalls.{evicted_keys, kept_items};
+ghost use Rattle.segclient.specs.Rings.{IsOwnRing};
+
+use crate::queues::{next_source, oldest, place_of, set_last_need, target_of, was_given_up};
+use crate::room::{Effort, Policy, Segments};
+use crate::tally::{evicted_by, refilled_by};
+use segindex::{EvictRowAnswer, Index, KeepRowAnswer, Pass, RowRef};
+use segqueues::{Queue, Queues};
+
+// A segment of the pass that is being cleared. No item names a row of it before this one.
+#[derive(Clone, Copy)]
+pub(crate) struct Source {
+    pub(crate) segment: u32,
+    pub(crate) row: u32,
+}
+
+// How a segment is cleared: the least frequency of what is kept, the deadline of what is
+// refilled, and the moment.
+#[derive(Clone, Copy)]
+struct Terms {
+    least: u8,
+    deadline: u32,
+    moment: u32,
+}
+
+// What a turn came to: where the clearing is then, whether the put has done its part,
+// and in numbers.
+#[derive(Clone, Copy)]
+struct Turn {
+    source: Option<Source>,
+    is_over: bool,
+    effort: Effort,
+}
+
+// How many turns a put has, each of which goes over one row at most.
+const TURNS: u32 = 8;
+
+// The row of the source is done.
+fn next_row(source: Source, effort: Effort) -> Turn
+    requires fits { source.row + 1 < 2 ^ 32 }
+    ensures { result ≡ record {
+      source = Some (record { segment = source.segment; row = source.row + 1 });
+      is_over = false;
+      effort = effort;
+    } }
+{
+    Turn {
+        source: Some(Source {
+            segment: source.segment,
+            row: source.row + 1,
+        }),
+        is_over: false,
+        effort,
+    }
+}
+
+// The source is left as it is, and comes last in its queue.
+fn leave(index: &Index, queues: &mut Queues, source: Source, effort: Effort) -> Turn
+    ensures { result ≡ record { source = None; is_over = true; effort = effort } }
+{
+    queues.was_refused(place_of(index, source.segment));
+    queues.was_cleared();
+    Turn {
+        source: None,
+        is_over: true,
+        effort,
+    }
+}
+
+// Evicts what is left of the source, of which each used row is done.
+fn end_source(index: &Index, pass: &mut Pass, queues: &mut Queues, source: Source) -> Turn
+    requires quiet { IsQuiet (board_of index.now) pass.old }
+    requires clearing { IsClearing (shape_of index.now) source pass.old }
+    ensures on { GoesOn (board_of index.now) pass.old pass.new }
+    ensures cleared { IsCleared (shape_of index.now) result.source pass.new }
+    ensures few { (result.effort.refilled ≤ 1) × (result.effort.kept ≤ 1)
+        × (result.effort.keys < 2 ^ 32) }
+    ensures clears { (cutoff : Option ℕ) → (deadline : ℕ)
+        → ClearsAtMost (board_of index.now) cutoff deadline 1 result.effort pass.old pass.new }
+{
+    let told = index.evict_rest(pass, source.segment, source.row);
+    was_given_up(index, pass, queues, source.segment);
+    queues.was_cleared();
+    Turn {
+        source: None,
+        is_over: false,
+        effort: Effort {
+            refilled: 0,
+            kept: 0,
+            keys: u64::from(evicted_by(told)),
+        },
+    }
+}
+
+// How many keys an evict of one row took out that has this answer.
+fn row_evicted_by(answer: EvictRowAnswer) -> u32
+    ensures few { result ≤ 1 }
+    ensures value { (segment row : ℕ)
+        → result ≡ came_to_step evicted_keys (evicts_row segment row answer) }
+{
+    match answer {
+        EvictRowAnswer::Evicted => 1,
+        EvictRowAnswer::Left
+        | EvictRowAnswer::Busy
+        | EvictRowAnswer::NotYours
+        | EvictRowAnswer::NotUsed => 0,
+    }
+}
+
+// Evicts the item of the row.
+fn evict_one(index: &Index, pass: &mut Pass, queues: &mut Queues, source: Source) -> Turn
+    requires quiet { IsQuiet (board_of index.now) pass.old }
+    requires clearing { IsClearing (shape_of index.now) source pass.old }
+    requires fits { source.row + 1 < 2 ^ 32 }
+    ensures on { GoesOn (board_of index.now) pass.old pass.new }
+    ensures cleared { IsCleared (shape_of index.now) result.source pass.new }
+    ensures few { (result.effort.refilled ≤ 1) × (result.effort.kept ≤ 1)
+        × (result.effort.keys < 2 ^ 32) }
+    ensures clears { (cutoff : Option ℕ) → (deadline : ℕ)
+        → ClearsAtMost (board_of index.now) cutoff deadline 1 result.effort pass.old pass.new }
+{
+    let told = index.evict_row(pass, source.segment, source.row);
+    let effort = Effort::evicting(u64::from(row_evicted_by(told)));
+    match told {
+        EvictRowAnswer::Evicted | EvictRowAnswer::Left => next_row(source, effort),
+        EvictRowAnswer::NotYours | EvictRowAnswer::NotUsed | EvictRowAnswer::Busy => {
+            leave(index, queues, source, effort)
+        }
+    }
+}
+
+// Where the item of a row is moved, and the least frequency of what is.
+#[derive(Clone, Copy)]
+struct Move {
+    into: u32,
+    least: u8,
+}
+
+// How many items a keep of one row into a segment moved that has this answer.
+fn row_moved_by(answer: KeepRowAnswer) -> u32
+    ensures few { result ≤ 1 }
+    ensures value { (segment row by into : ℕ)
+        → result ≡ came_to_step kept_items (keeps_into segment row by into answer) }
+{
+    match answer {
+        KeepRowAnswer::Moved => 1,
+        KeepRowAnswer::Left
+        | KeepRowAnswer::NoRoom
+        | KeepRowAnswer::Busy
+        | KeepRowAnswer::NotYours
+        | KeepRowAnswer::NotUsed => 0,
+    }
+}
+
+// Moves the item of the row if it was read often enough, and else evicts it.
+fn move_one(index: &Index, pass: &mut Pass, queues: &mut Queues, source: Source, to: Move) -> Turn
+    requires quiet { IsQuiet (board_of index.now) pass.old }
+    requires clearing { IsClearing (shape_of index.now) source pass.old }
+    requires fits { source.row + 1 < 2 ^ 32 }
+    ensures on { GoesOn (board_of index.now) pass.old pass.new }
+    ensures cleared { IsCleared (shape_of index.now) result.source pass.new }
+    ensures few { (result.effort.refilled ≤ 1) × (result.effort.kept ≤ 1)
+        × (result.effort.keys < 2 ^ 32) }
+    ensures clears { (deadline : ℕ) → ClearsRow (board_of index.now) to.least deadline
+        result.effort pass.old pass.new }
+{
+    let at = place_of(index, source.segment);
+    let need = queues.need_of(at, source.row);
+    let cutoff = queues.cutoff_of(at, source.row, to.least);
+    let row = RowRef {
+        segment: source.segment,
+        row: source.row,
+    };
+    let told = index.keep_row_into(pass, row, cutoff, to.into);
+    let effort = Effort {
+        refilled: 0,
+        kept: u64::from(row_moved_by(told)),
+        keys: 0,
+    };
+    match told {
+        KeepRowAnswer::Moved => {
+            set_last_need(index, pass, queues, to.into, need.saturating_add(1));
+            next_row(source, effort)
+        }
+        KeepRowAnswer::Left => evict_one(index, pass, queues, source),
+        KeepRowAnswer::NoRoom
+        | KeepRowAnswer::Busy
+        | KeepRowAnswer::NotYours
+        | KeepRowAnswer::NotUsed => leave(index, queues, source, effort),
+    }
+}
+
+// Opens a free segment for what moves. One that is held comes last, and the put has done its part.
+fn open_main(
+    index: &Index,
+    pass: &mut Pass,
+    queues: &mut Queues,
+    source: Source,
+    deadline: u32,
+) -> Turn
+    requires quiet { IsQuiet (board_of index.now) pass.old }
+    requires clearing { IsClearing (shape_of index.now) source pass.old }
+    ensures on { GoesOn (board_of index.now) pass.old pass.new }
+    ensures cleared { IsCleared (shape_of index.now) result.source pass.new }
+    ensures few { (result.effort.refilled ≤ 1) × (result.effort.kept ≤ 1)
+        × (result.effort.keys < 2 ^ 32) }
+    ensures clears { (cutoff : Option ℕ) → ClearsAtMost (board_of index.now) cutoff deadline 1
+        result.effort pass.old pass.new }
+{
+    let unopened = Turn {
+        source: Some(source),
+        is_over: true,
+        effort: Effort::none(),
+    };
+    let Some(segment) = oldest(index, pass, queues, Queue::Free) else {
+        return unopened;
+    };
+    if segment == source.segment {
+        return unopened;
+    }
+    let refilled = refilled_by(index.refill_aside(pass, segment, deadline));
+    if refilled > 0 {
+        queues.was_refilled(place_of(index, segment), true);
+    } else {
+        was_given_up(index, pass, queues, segment);
+    }
+    Turn {
+        source: Some(source),
+        is_over: refilled == 0,
+        effort: Effort {
+            refilled,
+            kept: 0,
+            keys: 0,
+        },
+    }
+}
+
+// Whether what is in the source can be read still.
+fn is_fresh(pass: &Pass, source: Source, moment: u32) -> bool {
+    match pass.deadline(source.segment) {
+        Some(deadline) => moment < deadline,
+        None => false,
+    }
+}
+
+// How many rows of the current segment are left.
+fn rows_left(index: &Index, pass: &Pass) -> u32 {
+    let Some(segment) = pass.current() else {
+        return 0;
+    };
+    let used = pass.used(segment).unwrap_or(0);
+    index.shape().rows.saturating_sub(used)
+}
+
+// Goes over one row of the source, or opens a main segment for what moves from it.
+// Behind its last row it is free.
+fn clear_row(
+    index: &Index,
+    pass: &mut Pass,
+    queues: &mut Queues,
+    source: Source,
+    terms: Terms,
+) -> Turn
+    requires quiet { IsQuiet (board_of index.now) pass.old }
+    requires clearing { IsClearing (shape_of index.now) source pass.old }
+    ensures on { GoesOn (board_of index.now) pass.old pass.new }
+    ensures cleared { IsCleared (shape_of index.now) result.source pass.new }
+    ensures few { (result.effort.refilled ≤ 1) × (result.effort.kept ≤ 1)
+        × (result.effort.keys < 2 ^ 32) }
+    ensures clears { ClearsRow (board_of index.now) terms.least terms.deadline
+        result.effort pass.old pass.new }
+{
+    if pass.used(source.segment).unwrap_or(0) <= source.row {
+        return end_source(index, pass, queues, source);
+    }
+    if !is_fresh(pass, source, terms.moment) {
+        return evict_one(index, pass, queues, source);
+    }
+    if let Some(into) = target_of(index, pass, queues, source.segment) {
+        let to = Move {
+            into,
+            least: terms.least,
+        };
+        return move_one(index, pass, queues, source, to);
+    }
+    if pass.deadline(source.segment) != Some(terms.deadline) {
+        return evict_one(index, pass, queues, source);
+    }
+    if queues.can_open(rows_left(index, pass)) {
+        return open_main(index, pass, queues, source, terms.deadline);
+    }
+    queues.was_left_behind();
+    evict_one(index, pass, queues, source)
+}
+
+// Where the clearing goes on, or where another begins if few segments are free.
+fn source_of(index: &Index, pass: &Pass, queues: &Queues, was: Option<Source>) -> Option<Source>
+    requires quiet { IsQuiet (board_of index.now) pass.now }
+    requires cleared { IsCleared (shape_of index.now) was pass.now }
+    ensures clearing { IfSome result (λ source. IsClearing (shape_of index.now) source pass.now) }
+{
+    if let Some(source) = was {
+        if pass.current() != Some(source.segment) {
+            return Some(source);
+        }
+    }
+    if !queues.are_few_free() {
+        return None;
+    }
+    Some(Source {
+        segment: next_source(index, pass, queues)?,
+        row: 0,
+    })
+}
+
+// Clears some rows by the queues.
+fn clear_rows(
+    index: &Index,
+    pass: &mut Pass,
+    queues: &mut Queues,
+    was: Option<Source>,
+    terms: Terms,
+) -> Turn
+    requires quiet { IsQuiet (board_of index.now) pass.old }
+    requires cleared { IsCleared (shape_of index.now) was pass.old }
+    ensures on { GoesOn (board_of index.now) pass.old pass.new }
+    ensures cleared { IsCleared (shape_of index.now) result.source pass.new }
+    ensures few { (result.effort.refilled ≤ 16) × (result.effort.kept ≤ 16)
+        × (result.effort.keys < 2 ^ 36) }
+    ensures clears { ClearsSome (board_of index.now) (Some terms.least) terms.deadline
+        result.effort pass.old pass.new }
+{
+    let mut source = was;
+    let mut effort = Effort::none();
+    for tried in 0..TURNS {
+        let Some(next) = source_of(index, pass, queues, source) else {
+            return Turn {
+                source: None,
+                is_over: true,
+                effort,
+            };
+        };
+        let turn = clear_row(index, pass, queues, next, terms);
+        source = turn.source;
+        effort = effort.plus(turn.effort);
+        if turn.is_over {
+            return Turn {
+                source,
+                is_over: true,
+                effort,
+            };
+        }
+    }
+    Turn {
+        source,
+        is_over: true,
+        effort,
+    }
+}
+
+// Clears some rows of a segment of the pass, by the queues: at most 16 calls of the index.
+pub(crate) fn clear_some(
+    index: &Index,
+    pass: &mut Pass,
+    segments: &mut Segments,
+    policy: Policy,
+) -> Effort
+    requires quiet { IsQuiet (board_of index.now) pass.old }
+    requires own { IsOwnRing (shape_of index.now) (number pass.old) segments.old.ring }
+    requires cleared { IsCleared (shape_of index.now) segments.old.source pass.old }
+    ensures on { GoesOn (board_of index.now) pass.old pass.new }
+    ensures own { IsOwnRing (shape_of index.now) (number pass.new) segments.new.ring }
+    ensures queues { is_some segments.new.queues ≡ is_some segments.old.queues }
+    ensures cleared { IsCleared (shape_of index.now) segments.new.source pass.new }
+    ensures few { (result.refilled ≤ 16) × (result.kept ≤ 16) × (result.keys < 2 ^ 36) }
+    ensures clears { ClearsSome (board_of index.now) policy.cutoff policy.deadline
+        result pass.old pass.new }
+{
+    let Some(least) = policy.cutoff else {
+        return Effort::none();
+    };
+    let Some(queues) = segments.queues.as_mut() else {
+        return Effort::none();
+    };
+    let terms = Terms {
+        least,
+        deadline: policy.deadline,
+        moment: policy.moment,
+    };
+    let turn = clear_rows(index, pass, queues, segments.source, terms);
+    segments.source = turn.source;
+    turn.effort
+}
