@@ -1,5 +1,6 @@
 -- What an export answers, and what it does with a handle, a key and a value.
 use Rattle.std.specs.Prelude.{◌≡◌, ℕ, ◌≤◌, List, length, ◌++◌, drop, Option, Some}
+use Rattle.segword.specs.declared.key.TheConstants.{KEY_BYTES}
 use Rattle.segword.specs.Words.{value_limit}
 use Rattle.segcache.specs.declared.client.SharedClient.{SharedClient}
 use Rattle.segcache.specs.declared.kept.Kept.{Kept}
@@ -36,9 +37,9 @@ ByClient Refuses Does (Some (kept.Client old)) after =
 ByClient Refuses Does before after = Refuses status.NoHandle × (after ≡ before)
 
 abbrev pub HasKeyLength : List ℕ → Type 0
-HasKeyLength bytes = (1 ≤ length bytes) × (length bytes ≤ 24)
+HasKeyLength bytes = (1 ≤ length bytes) × (length bytes ≤ KEY_BYTES)
 
--- With a key of 1 to 24 bytes the client did this. Any other is refused by BadKey.
+-- With a key of 1 to KEY_BYTES bytes the client did this. Any other is refused by BadKey.
 pub record ByKey (Refuses : Status → Type 0) (key : List ℕ)
     (Does : SharedClient → SharedClient → Type 0) (old new : SharedClient) : Type 0 where
   pub good : HasKeyLength key → Does old new

@@ -14,7 +14,7 @@ pub enum Status {
     NotStored,
     Exists,
     NotFound,
-    /// A key has 1 to 24 bytes.
+    /// A key has 1 to `KEY_BYTES` bytes.
     BadKey,
     /// A value has at most `VALUE_BYTES` bytes.
     BadValue,

@@ -4,6 +4,7 @@ use Rattle.std.specs.Char.{is_ascii_digit}
 use Rattle.std.specs.Int.{to_be_bytes, w64}
 use Rattle.std.specs.List.{slice_split}
 use Rattle.std.specs.Str.{bytes_eq}
+use Rattle.segword.specs.declared.key.TheConstants.{KEY_BYTES}
 use Rattle.segword.specs.Fnv.{hash_of}
 use Rattle.segreplay.specs.declared.line.Form.{Form}
 use Rattle.segreplay.specs.declared.line.Form.TheVariants as form
@@ -19,11 +20,11 @@ verb_named text =
     else (if bytes_eq text (codes "set") then Some verb.Set
     else (if bytes_eq text (codes "delete") then Some verb.Delete else None))
 
--- A text of at most 24 bytes is the key itself. A longer one goes by the bytes of its hash.
+-- A text of at most KEY_BYTES bytes is the key itself. A longer one goes by the bytes of its hash.
 abbrev pub key_named : List ℕ → Option (List ℕ)
 key_named [] = None
 key_named text =
-    if nat_lt 24 (length text) then Some (to_be_bytes w64 (hash_of text)) else Some text
+    if nat_lt KEY_BYTES (length text) then Some (to_be_bytes w64 (hash_of text)) else Some text
 
 -- the number below 2^32 that these digits write, behind digits that write the first one
 abbrev pub number_from : ℕ → List ℕ → Option ℕ

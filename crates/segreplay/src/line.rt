@@ -6,7 +6,7 @@ ghost use Rattle.segreplay.specs.Lines.{client_of, csv_request, is_blank, key_na
 ghost use Rattle.segreplay.specs.Lines.{number_named, plain_request, request_of, stated};
 ghost use Rattle.segreplay.specs.Lines.{verb_named};
 
-use segword::{Key, hash};
+use segword::{KEY_BYTES, Key, hash};
 
 /// How the lines of a trace are written.
 #[derive(Clone, Copy, Debug, PartialEq, Eq)]
@@ -35,9 +35,6 @@ pub struct Request {
     /// How long what it puts is to live.
     pub time_to_live: u32,
 }
-
-// The most bytes of a key that stands for itself.
-const KEY_BYTES: usize = 24;
 
 // What stands before the first such byte, and what is behind it.
 fn cut(text: &[u8], at: u8) -> Option<(&[u8], &[u8])>
