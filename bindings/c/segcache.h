@@ -65,8 +65,14 @@ enum {
   SEGCACHE_NOT_HOLDING = 15,     /* the client holds no item */
   SEGCACHE_CLIENT_OUT = 16,      /* a client of the cache was not given back */
   SEGCACHE_FOREIGN = 17,         /* the client or the note is of another cache */
-  SEGCACHE_END = 18              /* of a cursor: no pair is left */
+  SEGCACHE_END = 18,             /* of a cursor: no pair is left */
+  SEGCACHE_OTHER_VERSION = 19    /* of an open: the library isn't of this header's version */
 };
+
+/* The version of this header. segcache_version has the library's, as a number: 1,000,000 times the first number of the
+   version, 10,000 times the second and 100 times the third. A release has 1 more than what came before it (-dev). */
+#define SEGCACHE_VERSION "0.4.0-dev"
+#define SEGCACHE_VERSION_NUMBER 40000u
 
 #define SEGCACHE_MAX_KEY 24u
 #define SEGCACHE_MAX_VALUE 32u
@@ -139,6 +145,7 @@ typedef struct segcache_lookup {
 
 /* --- The exports of the library. Programs call the functions below these. ---------------------------- */
 
+uint32_t segcache_raw_version(void);
 uint32_t segcache_raw_open(uint32_t keys, uint32_t threads, segcache_handle *cache, segcache_handle *clients,
                            size_t clients_len);
 uint32_t segcache_raw_open_shape(const segcache_shape *shape, segcache_handle *cache, segcache_handle *clients,
@@ -191,6 +198,9 @@ uint32_t segcache_raw_free(segcache_handle *cache);
 
 /* --- Opening ---------------------------------------------------------------------------------------- */
 
+/* The number of the library's version. It is SEGCACHE_VERSION_NUMBER, if header and library belong together. */
+static inline uint32_t segcache_version(void) { return segcache_raw_version(); }
+
 /* How many caches were opened, by all files of the program. So each has a number of its own. */
 __attribute__((weak)) uint64_t segcache_opened;
 
@@ -215,13 +225,15 @@ static inline uint32_t segcache_hand_out(uint32_t status, segcache_handle made, 
 /* Makes a cache for so many keys (425,984 at most), and a client for each of so many threads (1 to 64).
    It takes all memory at once, but for that of notes and of a close. `cache` and `clients[threads]` are written,
    whatever they were: if they are of a cache that is still open, that one is lost. If the answer is not OK they are
-   zeroed, of more than 64 clients the first 64. Answers: OK, BAD_SHAPE, OUT_OF_MEMORY. */
+   zeroed, of more than 64 clients the first 64. Answers: OK, BAD_SHAPE, OUT_OF_MEMORY; OTHER_VERSION, if the library
+   has another version than this header, and nothing was made. */
 static inline uint32_t segcache_open(uint32_t keys, uint32_t threads, segcache *cache, segcache_client *clients) {
   segcache_handle made, raw[SEGCACHE_MAX_THREADS];
   uint32_t status = SEGCACHE_BAD_SHAPE, count = threads <= SEGCACHE_MAX_THREADS ? threads : SEGCACHE_MAX_THREADS;
   memset(&made, 0, sizeof made);
   memset(raw, 0, sizeof raw);
-  if (count == threads) status = segcache_raw_open(keys, threads, &made, raw, count);
+  if (segcache_version() != SEGCACHE_VERSION_NUMBER) status = SEGCACHE_OTHER_VERSION;
+  else if (count == threads) status = segcache_raw_open(keys, threads, &made, raw, count);
   return segcache_hand_out(status, made, raw, count, cache, clients);
 }
 
@@ -232,7 +244,8 @@ static inline uint32_t segcache_open_shape(const segcache_shape *shape, segcache
   uint32_t count = shape->passes <= SEGCACHE_MAX_THREADS ? shape->passes : SEGCACHE_MAX_THREADS;
   memset(&made, 0, sizeof made);
   memset(raw, 0, sizeof raw);
-  if (count == shape->passes) status = segcache_raw_open_shape(shape, &made, raw, count);
+  if (segcache_version() != SEGCACHE_VERSION_NUMBER) status = SEGCACHE_OTHER_VERSION;
+  else if (count == shape->passes) status = segcache_raw_open_shape(shape, &made, raw, count);
   return segcache_hand_out(status, made, raw, count, cache, clients);
 }
 
@@ -501,7 +514,7 @@ static inline const char *segcache_text(uint32_t status) {
       "a key has 1 to 24 bytes", "a value has 32 bytes at most", "the buffer is too short", "such a shape cannot be",
       "out of memory", "no handle: zeroed, given back or freed", "the client holds an item already",
       "the client holds no item", "a client is still out", "the client or the note is of another cache",
-      "the end",
+      "the end", "the library has another version than segcache.h",
   };
   return status < sizeof texts / sizeof *texts ? texts[status] : "no such status";
 }

@@ -80,6 +80,16 @@ int reads(segcache_client *client, const char *key, uint32_t now, const char *wa
                         : status == SEGCACHE_OK && length == strlen(wanted) && memcmp(value, wanted, length) == 0;
 }
 
+/* The archive is of the header's version, as the text and the number have it. */
+static void test_version(void) {
+  unsigned first, second, third;
+  int end = 0, parts = sscanf(SEGCACHE_VERSION, "%u.%u.%u%n", &first, &second, &third, &end);
+  const char *rest = SEGCACHE_VERSION + end;
+  CHECK(parts == 3 && (strcmp(rest, "") == 0 || strcmp(rest, "-dev") == 0));
+  CHECK(segcache_version() == 1000000 * first + 10000 * second + 100 * third + (*rest == 0));
+  CHECK(segcache_version() == SEGCACHE_VERSION_NUMBER);
+}
+
 static void test_opening(void) {
   segcache cache;
   segcache_client clients[65];
@@ -443,6 +453,7 @@ int main(void) {
   segcache_client clients[2];
   long before = out;
   test_debug();
+  test_version();
   test_opening();
   test_most_threads();
   EXPECT(segcache_open(1000, 2, &cache, clients), SEGCACHE_OK);

@@ -48,6 +48,8 @@ static uint32_t fill(segcache_handle *handles, size_t count) {
 #define H segcache_handle *
 #define AT (void *)
 
+static uint32_t of_version = SEGCACHE_VERSION_NUMBER; /* of the library that is made up */
+uint32_t segcache_raw_version(void) { return of_version; }
 uint32_t segcache_raw_open(uint32_t keys, uint32_t threads, H cache, H clients, size_t count) {
   tell("open %u %u %zu %zu %zu", keys, threads, count, empty(cache, 1), empty(clients, count));
   fill(cache, 1);
@@ -211,6 +213,28 @@ static void test_opening(void) {
   STOPS(segcache_open_shape(&shape, &cache, clients), SEGCACHE_BAD_SHAPE);
 }
 
+/* A library of another version opens nothing, whatever it is asked for, and the handles are zeroed. */
+static void test_version(void) {
+  segcache cache;
+  segcache_client clients[64];
+  segcache_shape shape = {4, 4, 2, 2, 8, 7};
+  const uint32_t others[] = {SEGCACHE_VERSION_NUMBER - 1, SEGCACHE_VERSION_NUMBER + 1};
+  for (int i = 0; i < 4; i++) {
+    of_version = others[i / 2];
+    answer = SEGCACHE_OK;
+    memset(&cache, 1, sizeof cache);
+    memset(clients, 1, sizeof clients);
+    STOPS(i % 2 ? segcache_open(100, 2, &cache, clients) : segcache_open_shape(&shape, &cache, clients),
+          SEGCACHE_OTHER_VERSION);
+    checks += 2;
+    if (segcache_version() != of_version) faults++, printf("the version is %u, and not %u\n", segcache_version(), of_version);
+    if (!is_zeroed(&cache, sizeof cache) || !is_zeroed(clients, 2 * sizeof *clients))
+      faults++, printf("an open by version %u leaves handles\n", of_version);
+  }
+  STOPS(segcache_open(100, 65, &cache, clients), SEGCACHE_OTHER_VERSION);
+  of_version = SEGCACHE_VERSION_NUMBER;
+}
+
 /* Notes, and clients that go back: of the same cache, and of another one. */
 static void test_homes(segcache *cache, segcache_client *client, segcache *other, segcache_client *foreign) {
   segcache_note_t note = {0}, none = {0};
@@ -367,7 +391,8 @@ static void test_texts(void) {
       {SEGCACHE_ALREADY_HOLDING, "the client holds an item already"},
       {SEGCACHE_NOT_HOLDING, "the client holds no item"}, {SEGCACHE_CLIENT_OUT, "a client is still out"},
       {SEGCACHE_FOREIGN, "the client or the note is of another cache"}, {SEGCACHE_END, "the end"},
-      {19, "no such status"}, {UINT32_MAX, "no such status"}};
+      {SEGCACHE_OTHER_VERSION, "the library has another version than segcache.h"},
+      {20, "no such status"}, {UINT32_MAX, "no such status"}};
   for (size_t i = 0; i < sizeof all / sizeof *all; i++) {
     snprintf(told, sizeof told, "%s", segcache_text(all[i].status));
     check(__LINE__, all[i].status, all[i].status, all[i].text);
@@ -379,6 +404,7 @@ int main(void) {
   segcache_client client, foreign;
   test_texts();
   test_opening();
+  test_version();
   answer = SEGCACHE_OK;
   segcache_open(100, 1, &cache, &client);
   segcache_open(100, 1, &other, &foreign);

@@ -78,8 +78,11 @@ impl Builder {
     /// Makes the cache and its clients, and takes their memory.
     ///
     /// # Errors
-    /// [`Error::BadShape`] and [`Error::OutOfMemory`].
+    /// [`Error::BadShape`], [`Error::OutOfMemory`] and [`Error::OtherVersion`].
     pub fn build(self) -> Result<(Cache, Vec<Client>), Error> {
+        if crate::library_version() != crate::VERSION_NUMBER {
+            return Err(Error::OtherVersion);
+        }
         let count = self.shape.map_or(self.threads, |shape| shape.passes);
         if count > 64 {
             return Err(Error::BadShape);

@@ -26,6 +26,8 @@ pub enum Error {
     ClientOut,
     /// The note is of another cache.
     Foreign,
+    /// The archive has another version than the crate.
+    OtherVersion,
     /// An answer that the call never gives; it would be a fault of the library.
     Unexpected(u32),
 }
@@ -61,6 +63,7 @@ impl fmt::Display for Error {
             Error::AlreadyHolding => "the client holds a value already",
             Error::ClientOut => "a client of the cache is still there",
             Error::Foreign => "the note is of another cache",
+            Error::OtherVersion => "the library has another version than the crate",
             Error::Unexpected(status) => return write!(f, "unexpected status {status}"),
         })
     }

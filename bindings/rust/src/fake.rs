@@ -17,6 +17,16 @@ pub(crate) const VERSION: Version = Version(77);
 thread_local! {
     static CALLS: RefCell<Vec<String>> = const { RefCell::new(Vec::new()) };
     static STATUS: Cell<u32> = const { Cell::new(0) };
+    static LIBRARY: Cell<u32> = const { Cell::new(crate::VERSION_NUMBER) };
+}
+
+/// Sets the version of the library that is made up.
+pub(crate) fn be_of_version(number: u32) {
+    LIBRARY.with(|it| it.set(number));
+}
+
+pub(crate) unsafe extern "C" fn segcache_raw_version() -> u32 {
+    LIBRARY.with(Cell::get)
 }
 
 /// Sets what the calls of this thread return from now on.

@@ -100,6 +100,19 @@ pub use client::{Cas, Client, IndexStats, Stats, Version};
 pub use error::Error;
 pub use hold::{Hold, Note};
 
+/// The version of this crate. A library of another version opens no cache: [`Error::OtherVersion`].
+pub const VERSION: &str = env!("CARGO_PKG_VERSION");
+
+/// The crate's version as a number: 1,000,000 times the first number, 10,000 times the second and 100 times the third.
+/// A release has 1 more than what came before it (`-dev`).
+pub const VERSION_NUMBER: u32 = 40_000;
+
+/// The number of the library's version. It is [`VERSION_NUMBER`], if library and crate belong together.
+pub fn library_version() -> u32 {
+    // SAFETY: the call takes nothing, and reads nothing.
+    unsafe { raw::segcache_raw_version() }
+}
+
 /// A key of the content: 1 to 24 bytes.
 pub type Key = Bytes<24>;
 

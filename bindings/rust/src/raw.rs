@@ -39,6 +39,7 @@ pub(crate) use crate::fake::*;
 #[rustfmt::skip]
 #[cfg(not(test))]
 extern "C" {
+    pub(crate) fn segcache_raw_version() -> u32;
     pub(crate) fn segcache_raw_open(keys: u32, threads: u32, cache: *mut Handle, clients: *mut Handle, clients_len: usize) -> u32;
     pub(crate) fn segcache_raw_open_shape(shape: *const crate::Shape, cache: *mut Handle, clients: *mut Handle, clients_len: usize) -> u32;
     pub(crate) fn segcache_raw_get(client: *mut Handle, key: *const u8, key_len: usize, value: *mut u8, room: usize, value_len: *mut usize, now: u32) -> u32;

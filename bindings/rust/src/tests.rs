@@ -1,5 +1,5 @@
 //! What each call hands to the library, and what it makes of each answer, over functions that are made up (`fake`).
-use crate::fake::{answer, calls, NO_HANDLE, VALUE, VERSION};
+use crate::fake::{answer, be_of_version, calls, NO_HANDLE, VALUE, VERSION};
 use crate::{Builder, Cache, Cas, Client, Error, Shape, Version};
 use std::num::NonZeroU8;
 
@@ -142,6 +142,7 @@ fn each_error_has_its_text() {
         (Error::AlreadyHolding, "the client holds a value already"),
         (Error::ClientOut, "a client of the cache is still there"),
         (Error::Foreign, "the note is of another cache"),
+        (Error::OtherVersion, "the library has another version than the crate"),
         (Error::Unexpected(99), "unexpected status 99"),
     ];
     for (error, text) in texts {
@@ -164,6 +165,30 @@ fn a_builder_asks_for_what_it_was_told() {
     for (status, error) in ERRORS {
         assert_eq!(returns(status, || Cache::builder().build().err()), Some(error));
     }
+}
+
+#[test]
+fn a_library_of_another_version_opens_nothing() {
+    for number in [crate::VERSION_NUMBER - 1, crate::VERSION_NUMBER + 1] {
+        be_of_version(number);
+        assert_eq!(crate::library_version(), number);
+        assert_eq!(Cache::builder().build().err(), Some(Error::OtherVersion));
+        assert_eq!(Cache::builder().threads(65).build().err(), Some(Error::OtherVersion));
+        assert_eq!(calls().len(), 0);
+    }
+    be_of_version(crate::VERSION_NUMBER);
+    open(Cache::builder());
+}
+
+#[test]
+fn the_number_is_that_of_the_version() {
+    let (numbers, is_release) = match crate::VERSION.strip_suffix("-dev") {
+        Some(numbers) => (numbers, 0),
+        None => (crate::VERSION, 1),
+    };
+    let parts: Vec<u32> = numbers.split('.').map(|part| part.parse().unwrap()).collect();
+    assert_eq!(parts.len(), 3);
+    assert_eq!(1_000_000 * parts[0] + 10_000 * parts[1] + 100 * parts[2] + is_release, crate::VERSION_NUMBER);
 }
 
 #[test]

@@ -19,5 +19,6 @@ mod opening;
 mod reading;
 mod settings;
 mod status;
+mod version;
 mod when;
 mod writing;
