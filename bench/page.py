@@ -85,15 +85,17 @@ class Results:
         return min(peers, key=lambda one: self.figures[(*cell, one["beside"])]["process_ns"]["median"], default=None)
 
 
-def front_table(results):
-    """The table of README.md: medians, with a star where the quartiles overlap with ours."""
-    found = [("Nanoseconds a command: threads", "this index", "C++, same layout", "Abseil, spin locks", "DashMap")]
+def front_table(results, through_c):
+    """The table of README.md: medians, told as tied where the quartiles overlap with ours."""
+    found = [("Nanoseconds a command: threads", "this index", "through C", "C++, same layout", "Abseil, spin locks", "DashMap")]
     for label, mix, threads in FRONT:
         place = (mix, "zipf", 100_000, threads, "large", "small")
         open_beside = {one["beside"] for one in results.compared if Results.place(one["cell"]) == place and not one["is_claimed"]}
-        costs = [results.cost(place, name, lambda cost: f'{cost["median"]:.0f}') + ("?" if name in open_beside else "")
-                 for name in SHOWN]
-        found.append((label, *costs))
+        ours, *others = [results.cost(place, name, lambda cost: f'{cost["median"]:.0f}')
+                         + (" (tied)" if name in open_beside else "") for name in SHOWN]
+        from_c = through_c.beside("ours_c", mix=[mix], threads=[threads], keys=[100_000])
+        times = f'× {1 / from_c[0]["ratio"]["median"]:.2f}' if from_c else "unmeasured"
+        found.append((label, ours, times, *others))
     return found
 
 
