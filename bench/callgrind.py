@@ -1,3 +1,4 @@
+# SPDX-License-Identifier: MIT
 """Counts what a run of a program executes, by valgrind: its instructions, and those of them that are locked."""
 
 import re
@@ -13,7 +14,8 @@ LOCKED = re.compile(r"\s*([0-9a-f]+):\s+(?:lock |xchg\s.*\()")
 @cache
 def locked_places(path):
     """The addresses of a program's locked instructions."""
-    code = subprocess.run(["objdump", "-d", "--no-show-raw-insn", path], check=True, capture_output=True, text=True).stdout
+    command = ["objdump", "-d", "--no-show-raw-insn", path]
+    code = subprocess.run(command, check=True, capture_output=True, text=True).stdout
     return {int(found[1], 16) for line in code.splitlines() if (found := LOCKED.match(line))}
 
 

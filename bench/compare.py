@@ -1,3 +1,4 @@
+# SPDX-License-Identifier: MIT
 """Two programs beside each other, turn by turn, and what may be claimed of them."""
 
 from collections import defaultdict

@@ -1,3 +1,4 @@
+# SPDX-License-Identifier: MIT
 """What the figures depend on: the machine, and the versions of all that is measured."""
 
 import os

@@ -1,3 +1,4 @@
+# SPDX-License-Identifier: MIT
 """The cells of docs/MEASUREMENTS.md, and the tables that it and README.md have of them."""
 
 from collections import defaultdict
@@ -87,10 +88,12 @@ class Results:
 
 def front_table(results, through_c):
     """The table of README.md: medians, told as tied where the quartiles overlap with ours."""
-    found = [("Nanoseconds a command: threads", "this index", "through C", "C++, same layout", "Abseil, spin locks", "DashMap")]
+    names = ("this index", "through C", "C++, same layout", "Abseil, spin locks", "DashMap")
+    found = [("Nanoseconds a command: threads", *names)]
     for label, mix, threads in FRONT:
         place = (mix, "zipf", 100_000, threads, "large", "small")
-        open_beside = {one["beside"] for one in results.compared if Results.place(one["cell"]) == place and not one["is_claimed"]}
+        here = [one for one in results.compared if Results.place(one["cell"]) == place]
+        open_beside = {one["beside"] for one in here if not one["is_claimed"]}
         ours, *others = [results.cost(place, name, lambda cost: f'{cost["median"]:.0f}')
                          + (" (tied)" if name in open_beside else "") for name in SHOWN]
         from_c = through_c.beside("ours_c", mix=[mix], threads=[threads], keys=[100_000])
@@ -149,8 +152,8 @@ def library_table(results):
     """Ours through the library for C, divided by ours without it: over few keys and over many."""
     found = [("Through C", "One thread", "Four")]
     for mix in ("gets", "sets", "mixed"):
-        by_threads = [sorted(results.beside("ours_c", mix=[mix], threads=[threads]), key=lambda one: one["cell"]["keys"])
-                      for threads in (1, 4)]
+        by_threads = [results.beside("ours_c", mix=[mix], threads=[threads]) for threads in (1, 4)]
+        by_threads = [sorted(ones, key=lambda one: one["cell"]["keys"]) for ones in by_threads]
         found.append((mix, *(", ".join(f'{1 / one["ratio"]["median"]:.2f}' for one in ones) for ones in by_threads)))
     return found
 

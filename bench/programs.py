@@ -1,3 +1,4 @@
+# SPDX-License-Identifier: MIT
 """The programs of the measure: how each is built, and what one run of it came to."""
 
 import json

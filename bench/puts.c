@@ -1,3 +1,4 @@
+// SPDX-License-Identifier: MIT
 /* Times each put of a full cache: what the puts that make room cost beside the others, by policy and shape.
  *
  *     make -C bindings/c                          (after bindings/archive)

@@ -1,3 +1,4 @@
+// SPDX-License-Identifier: MIT
 // Keys and values as all stores of the measure keep them, and the hash that all of them use.
 #pragma once
 

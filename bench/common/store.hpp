@@ -1,3 +1,4 @@
+// SPDX-License-Identifier: MIT
 // What every store of the measure answers, and how a map decides a write as the index does.
 #pragma once
 

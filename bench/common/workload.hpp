@@ -1,3 +1,4 @@
+// SPDX-License-Identifier: MIT
 // The commands of the measure: which keys are drawn, and what is asked of them.
 #pragma once
 

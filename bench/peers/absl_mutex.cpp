@@ -1,3 +1,4 @@
+// SPDX-License-Identifier: MIT
 // Measures one of Abseil's flat_hash_map behind one mutex.
 
 #include "../common/measure.hpp"

@@ -1,3 +1,4 @@
+// SPDX-License-Identifier: MIT
 // Measures what absl_spin is, with Abseil's own prefetch of the keys that are at hand together.
 
 #include "../common/measure.hpp"

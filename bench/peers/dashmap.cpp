@@ -1,3 +1,4 @@
+// SPDX-License-Identifier: MIT
 // Measures DashMap, a map in Rust, which stands in the folder `dashmap` behind calls of C.
 
 #include "../common/measure.hpp"

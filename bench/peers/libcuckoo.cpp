@@ -1,3 +1,4 @@
+// SPDX-License-Identifier: MIT
 // Measures libcuckoo's cuckoohash_map.
 
 #include "../common/measure.hpp"

@@ -1,3 +1,4 @@
+// SPDX-License-Identifier: MIT
 // Measures the index through its library for C: `ours` over again, with a call of C for each command.
 
 #include "../../bindings/c/segcache.h"

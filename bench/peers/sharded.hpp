@@ -1,3 +1,4 @@
+// SPDX-License-Identifier: MIT
 // A map that is no concurrent one, cut into shards, each behind a lock of its own.
 #pragma once
 

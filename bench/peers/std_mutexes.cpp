@@ -1,3 +1,4 @@
+// SPDX-License-Identifier: MIT
 // Measures 64 of the standard library's unordered_map, each behind a mutex.
 
 #include "../common/measure.hpp"

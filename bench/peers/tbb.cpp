@@ -1,3 +1,4 @@
+// SPDX-License-Identifier: MIT
 // Measures oneTBB's concurrent_hash_map.
 
 #include "../common/measure.hpp"

@@ -1,3 +1,4 @@
+// SPDX-License-Identifier: MIT
 // Measures the lock-free hash table of Userspace RCU (rculfhash). An entry is never changed where it
 // stands: a write puts a new node in its place, and the old one is freed after all readers have left.
 

@@ -1,3 +1,4 @@
+// SPDX-License-Identifier: MIT
 // A look ahead: the words that calls on some keys are about to read are loaded together, so that the waits overlap.
 #pragma once
 

@@ -1,3 +1,4 @@
+// SPDX-License-Identifier: MIT
 // Checks the reference: on one thread beside a plain map, and by threads that read only what was
 // stored under their key. It is made so small that chains grow and segments are evicted all the time.
 

@@ -1,3 +1,4 @@
+// SPDX-License-Identifier: MIT
 // Segments taken out of use, key by key, and filled anew.
 #pragma once
 

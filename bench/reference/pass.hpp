@@ -1,3 +1,4 @@
+// SPDX-License-Identifier: MIT
 // A pass: what one thread uses to work on an index, and the segments into which it stores.
 #pragma once
 

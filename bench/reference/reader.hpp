@@ -1,3 +1,4 @@
+// SPDX-License-Identifier: MIT
 // Readers: get and gets. They take no bucket's bit, and count themselves in the segment that they read.
 #pragma once
 

@@ -1,3 +1,4 @@
+// SPDX-License-Identifier: MIT
 // Measures the reference: the same layout and the same steps as the index, written by hand.
 
 #include "../common/measure.hpp"

@@ -1,3 +1,4 @@
+// SPDX-License-Identifier: MIT
 // The table: one run of 64-bit words, each read and changed by sequentially consistent operations.
 #pragma once
 

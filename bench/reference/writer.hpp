@@ -1,3 +1,4 @@
+// SPDX-License-Identifier: MIT
 // Writers: set, add, replace, cas and delete, each under the bit of its bucket.
 #pragma once
 

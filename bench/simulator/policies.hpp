@@ -1,3 +1,4 @@
+// SPDX-License-Identifier: MIT
 // Caches of so many items of one size, by what they evict.
 #pragma once
 

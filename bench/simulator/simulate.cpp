@@ -1,3 +1,4 @@
+// SPDX-License-Identifier: MIT
 // Simulates caches over a workload, or writes the workload's commands.
 
 #include "policies.hpp"

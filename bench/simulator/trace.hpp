@@ -1,3 +1,4 @@
+// SPDX-License-Identifier: MIT
 // Streams of commands on keys, drawn from fixed seeds: the workloads over which hit rates are compared.
 #pragma once
 

@@ -1,3 +1,4 @@
+// SPDX-License-Identifier: MIT
 /* An example: four threads share a cache. Each looks a page up, and stores it where it is missing. */
 #include "segcache.h"
 

@@ -1,3 +1,4 @@
+// SPDX-License-Identifier: MIT
 // The same in C++: a cache and its clients as classes that give back what they have.
 #include "segcache.h"
 

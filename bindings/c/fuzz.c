@@ -1,3 +1,4 @@
+// SPDX-License-Identifier: MIT
 /* Makes the calls that libFuzzer's bytes name, each beside a model of one thread, with right and wrong handles and
  * lengths. It aborts where an answer, a buffer or a count is another than the model's. */
 #include "segcache.h"

@@ -1,3 +1,4 @@
+// SPDX-License-Identifier: MIT
 /* The lines that the README shows, as a program. */
 #include "segcache.h"
 

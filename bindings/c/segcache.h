@@ -1,3 +1,4 @@
+// SPDX-License-Identifier: MIT
 /* The cache for C (C99 and later) and C++ (C++11 and later), by gcc or clang: a library over the proved index.
  *
  *     segcache cache; segcache_client clients[4];

@@ -1,3 +1,4 @@
+// SPDX-License-Identifier: MIT
 /* The checks of segcache.h under SEGCACHE_DEBUG: which handles live, and which are in a call just now.
  * Only segcache.h includes this file. One table serves the whole program, since its names are weak; so
  * compile all files of a program with SEGCACHE_DEBUG, or none. */

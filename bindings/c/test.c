@@ -1,3 +1,4 @@
+// SPDX-License-Identifier: MIT
 /* Tests of the library through segcache.h: each call and its answers, and allocations that fail.
  * Link with -Wl,--wrap=malloc,--wrap=realloc,--wrap=free: so the tests refuse memory and count what is out. */
 #include "test.h"

@@ -1,3 +1,4 @@
+// SPDX-License-Identifier: MIT
 /* What the files of the test program share. */
 #ifndef SEGCACHE_TEST_H
 #define SEGCACHE_TEST_H

@@ -1,3 +1,4 @@
+// SPDX-License-Identifier: MIT
 /* Tests that each function of segcache.h hands its arguments to its export, each in its place, and returns what that
  * one answers, whatever it is. The exports are made up here: each writes down what it was handed. So these tests need
  * no archive, and see what no run of the cache shows, as the moment of a set. */

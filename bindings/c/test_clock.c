@@ -1,3 +1,4 @@
+// SPDX-License-Identifier: MIT
 /* Tests of the clock: each call that is given one goes by it. */
 #include "test.h"
 

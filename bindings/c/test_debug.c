@@ -1,3 +1,4 @@
+// SPDX-License-Identifier: MIT
 /* What SEGCACHE_DEBUG stops: each fault in a child, which has to abort. */
 #include "test.h"
 

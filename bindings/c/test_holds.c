@@ -1,3 +1,4 @@
+// SPDX-License-Identifier: MIT
 /* Tests of holds and notes. */
 #include "test.h"
 

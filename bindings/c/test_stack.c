@@ -1,3 +1,4 @@
+// SPDX-License-Identifier: MIT
 /* Tests how much stack the calls need: rule 6 of segcache.h says it. Each call runs on a stack of its own that was
  * painted before; what isn't painted any longer was used. */
 #define _GNU_SOURCE

@@ -1,3 +1,4 @@
+// SPDX-License-Identifier: MIT
 /* Four threads over one cache, each with a client of its own. Each value holds its key, so a wrong one is
  * seen, and no answer comes but those that segcache.h lists. threads [COMMANDS OF A THREAD] */
 #include "segcache.h"

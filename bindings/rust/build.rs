@@ -1,3 +1,4 @@
+// SPDX-License-Identifier: MIT
 //! Finds libsegcache.a: in the folder SEGCACHE_LIB, or where the package or the repository has it. Without the archive
 //! `cargo doc` and `cargo check` work, and what links says what makes it.
 use std::env;

@@ -1,3 +1,4 @@
+// SPDX-License-Identifier: MIT
 /* What the commands of both protocols do to items. Each action counts itself in the worker's counts. */
 #ifndef ACTIONS_H
 #define ACTIONS_H

@@ -1,3 +1,4 @@
+// SPDX-License-Identifier: MIT
 /* Bytes that came on a connection, or are to be sent. */
 #ifndef BUFFER_H
 #define BUFFER_H

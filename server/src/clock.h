@@ -1,3 +1,4 @@
+// SPDX-License-Identifier: MIT
 /* The server's clock: whole seconds since a moment before the start, so that 0 and 1 are always past. */
 #ifndef CLOCK_H
 #define CLOCK_H

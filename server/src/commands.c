@@ -1,3 +1,4 @@
+// SPDX-License-Identifier: MIT
 /* The commands of memcached's text protocol. */
 #include "actions.h"
 #include "clock.h"

@@ -1,3 +1,4 @@
+// SPDX-License-Identifier: MIT
 #include "connection.h"
 #include <errno.h>
 #include <stdio.h>

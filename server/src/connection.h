@@ -1,3 +1,4 @@
+// SPDX-License-Identifier: MIT
 /* A connection: what came on it, what is to be sent, and how its commands are told apart. */
 #ifndef CONNECTION_H
 #define CONNECTION_H

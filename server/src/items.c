@@ -1,3 +1,4 @@
+// SPDX-License-Identifier: MIT
 #include "items.h"
 #include "clock.h"
 #include <stddef.h>

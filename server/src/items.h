@@ -1,3 +1,4 @@
+// SPDX-License-Identifier: MIT
 /* Items as memcached has them, over the store: with flags, an exact second of expiry and a unique version each.
  *
  * An item's header stands in front of its data in the store's value. An item that has expired, or that a flush has

@@ -1,3 +1,4 @@
+// SPDX-License-Identifier: MIT
 #include "listen.h"
 #include <errno.h>
 #include <fcntl.h>

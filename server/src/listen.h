@@ -1,3 +1,4 @@
+// SPDX-License-Identifier: MIT
 /* The sockets that connections come to. */
 #ifndef LISTEN_H
 #define LISTEN_H

@@ -1,3 +1,4 @@
+// SPDX-License-Identifier: MIT
 /* A cache server that takes memcached's place. README.md says what it serves. */
 #include "clock.h"
 #include "listen.h"

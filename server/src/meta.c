@@ -1,3 +1,4 @@
+// SPDX-License-Identifier: MIT
 /* The meta commands: mn, mg, ms, md, ma and me, with the flags of memcached 1.6. */
 #include "actions.h"
 #include "clock.h"

@@ -1,3 +1,4 @@
+// SPDX-License-Identifier: MIT
 /* The options of the command line: memcached's names, where this server has the thing. */
 #ifndef OPTIONS_H
 #define OPTIONS_H

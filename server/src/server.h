@@ -1,3 +1,4 @@
+// SPDX-License-Identifier: MIT
 /* The server and its workers. Each worker is a thread with a client of the store, and serves many connections. */
 #ifndef SERVER_H
 #define SERVER_H

@@ -1,3 +1,4 @@
+// SPDX-License-Identifier: MIT
 /* The command stats, with memcached's names. */
 #include "clock.h"
 #include "connection.h"

@@ -1,3 +1,4 @@
+// SPDX-License-Identifier: MIT
 /* The cache library, as the server sees it. store.c is the only file that calls the library, but for the constants.
  *
  * A store has a client for each worker. Only one thread at a time may use a client. All moments are clock_now's. */

@@ -1,3 +1,4 @@
+// SPDX-License-Identifier: MIT
 /* The words of a line of the protocol, and the numbers and keys in them. */
 #ifndef WORDS_H
 #define WORDS_H

@@ -1,3 +1,4 @@
+// SPDX-License-Identifier: MIT
 /* Sends libFuzzer's bytes to a connection of the server in pieces, and takes what it replies. Sanitizers judge. */
 #include "clock.h"
 #include "connection.h"

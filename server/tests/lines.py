@@ -1,3 +1,4 @@
+# SPDX-License-Identifier: MIT
 """Conversations: what is sent, and what memcached answers. Each begins on an empty server.
 
 They have keys of 24 bytes and values of 16 at most, so that each build of this server can have them.

@@ -1,3 +1,4 @@
+// SPDX-License-Identifier: MIT
 /* A load for a server of memcached's text protocol: threads, each over some connections. On each connection it
  * sends so many commands in one piece, and reads all replies before the next. It ends by itself.
  *

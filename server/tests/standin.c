@@ -1,3 +1,4 @@
+// SPDX-License-Identifier: MIT
 /* A stand-in for the library: a map behind one lock, for tests of the server at sizes that the library's default build
  * hasn't: keys of 250 bytes and values of 4,064. It isn't the library, and nothing of it is proved. Its statuses
  * are the library's for the calls that the server makes; it has no other calls.

@@ -1,3 +1,4 @@
+# SPDX-License-Identifier: MIT
 """What the tests of the server share: a server at a free port, connections to it, and the count of faults."""
 
 import re

@@ -1,3 +1,4 @@
+// SPDX-License-Identifier: MIT
 //! Four threads share a cache. Each looks a page up, and stores it where it is missing.
 use segcache::{Cache, Client, Error};
 use std::thread;

@@ -1,3 +1,4 @@
+// SPDX-License-Identifier: MIT
 //! Keys and values as the library hands them out: a few bytes, by value.
 use std::fmt;
 use std::ops::Deref;

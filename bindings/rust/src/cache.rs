@@ -1,3 +1,4 @@
+// SPDX-License-Identifier: MIT
 //! The cache that the clients share: how it is made, and what it lists at its end.
 use crate::raw::{self, Handle};
 use crate::{Bytes, Client, Error, Key, Value};

@@ -1,3 +1,4 @@
+// SPDX-License-Identifier: MIT
 //! A client: what one thread reads and writes the cache by.
 use crate::cache::Shared;
 use crate::raw::{self, Handle, Lookup};

@@ -1,3 +1,4 @@
+// SPDX-License-Identifier: MIT
 //! What a call may answer in place of a result.
 use std::fmt;
 

@@ -1,3 +1,4 @@
+// SPDX-License-Identifier: MIT
 //! What the unit tests have in place of the library: each function writes down what it was handed, and returns the
 //! status that it was told. So they see what no run of the cache shows, as the moment of a set, and an answer that is
 //! Busy. A handle is its number here.

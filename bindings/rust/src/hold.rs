@@ -1,3 +1,4 @@
+// SPDX-License-Identifier: MIT
 //! Holds and notes.
 use crate::cache::Shared;
 use crate::client::OK;

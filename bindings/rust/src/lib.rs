@@ -1,3 +1,4 @@
+// SPDX-License-Identifier: MIT
 //! A cache for the threads of one program, over a proved index: safe Rust over `libsegcache.a`.
 //!
 //! Each thread has a [`Client`] of its own, and reads what all of them put. No call of a client waits; a

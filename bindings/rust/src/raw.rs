@@ -1,3 +1,4 @@
+// SPDX-License-Identifier: MIT
 //! The exports of libsegcache.a. A slice of the library is a pointer and a length here.
 
 /// What a handle is to the library; zeroed, it is none.

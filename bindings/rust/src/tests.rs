@@ -1,3 +1,4 @@
+// SPDX-License-Identifier: MIT
 //! What each call hands to the library, and what it makes of each answer, over functions that are made up (`fake`).
 use crate::fake::{answer, be_of_version, calls, NO_HANDLE, VALUE, VERSION};
 use crate::{Builder, Cache, Cas, Client, Error, Shape, Version};

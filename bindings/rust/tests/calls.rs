@@ -1,3 +1,4 @@
+// SPDX-License-Identifier: MIT
 //! Each call of the crate, and each error that a program can bring about.
 use segcache::{Cache, Cas, Client, Error, Shape, Version};
 use std::num::NonZeroU8;

@@ -1,3 +1,4 @@
+// SPDX-License-Identifier: MIT
 //! DashMap behind calls of C, so that the same driver measures it as the other stores.
 //! The types and the rules of writes are those of `bench/common`.
 
