@@ -66,8 +66,8 @@ enum class Kind { Get, Gets, Set, Add, Replace, Cas, Delete, Modify };
 enum class Mix { Sets, Replaces, Gets, Mixed, A, B, C, F, Gets16, Mixed16, Gets16Apart, Mixed16Apart };
 
 inline std::optional<Mix> mix_named(std::string_view name) {
-    constexpr std::string_view names[] = {"sets", "replaces", "gets", "mixed", "a", "b", "c", "f",
-                                          "gets16", "mixed16", "gets16apart", "mixed16apart"};
+    constexpr std::string_view names[] = {"sets", "replaces", "gets",   "mixed",   "a",           "b",
+                                          "c",    "f",        "gets16", "mixed16", "gets16apart", "mixed16apart"};
     const auto found = std::find(std::begin(names), std::end(names), name);
     return found == std::end(names) ? std::nullopt : std::optional(static_cast<Mix>(found - std::begin(names)));
 }
@@ -210,7 +210,9 @@ private:
             for (unsigned place = 0; place < piece; ++place) {
                 at_hand[place] = Key::of_number(numbers_[start + place]);
             }
-            if constexpr (requires(Value* found, Answer* answers) { client_.get_many(at_hand.data(), piece, generator_, found, answers); }) {
+            if constexpr (requires(Value * found, Answer * answers) {
+                              client_.get_many(at_hand.data(), piece, generator_, found, answers);
+                          }) {
                 if (load.mix == Mix::Gets16) {
                     get_together(at_hand);
                     continue;

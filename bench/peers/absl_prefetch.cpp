@@ -8,4 +8,6 @@
 
 using Map = absl::flat_hash_map<bench::Key, bench::Entry, bench::KeyHash>;
 
-int main(int count, char** words) { return bench::measure<bench::Sharded<Map, bench::SpinLock, 64, true>>(count, words); }
+int main(int count, char** words) {
+    return bench::measure<bench::Sharded<Map, bench::SpinLock, 64, true>>(count, words);
+}

@@ -36,8 +36,8 @@ public:
 
     Answer get(const Key& key, std::uint32_t, Value& value) {
         std::size_t length = 0;
-        const std::uint32_t status = segcache_get(client_, key.bytes.data(), key.length, now, value.bytes.data(),
-                                                value.bytes.size(), &length);
+        const std::uint32_t status =
+            segcache_get(client_, key.bytes.data(), key.length, now, value.bytes.data(), value.bytes.size(), &length);
         value.length = static_cast<std::uint8_t>(length);
         return answer_of(status);
     }
@@ -45,7 +45,7 @@ public:
     Answer gets(const Key& key, std::uint32_t, Value& value, std::uint32_t& version) {
         std::size_t length = 0;
         const std::uint32_t status = segcache_gets(client_, key.bytes.data(), key.length, now, value.bytes.data(),
-                                                 value.bytes.size(), &length, &version);
+                                                   value.bytes.size(), &length, &version);
         value.length = static_cast<std::uint8_t>(length);
         return answer_of(status);
     }
@@ -74,9 +74,7 @@ public:
         return answer_of(write_once(write, key, value, expected));
     }
 
-    Answer remove(const Key& key) {
-        return answer_of(segcache_delete(client_, key.bytes.data(), key.length, now));
-    }
+    Answer remove(const Key& key) { return answer_of(segcache_delete(client_, key.bytes.data(), key.length, now)); }
 
 private:
     std::uint32_t write_once(bench::Write write, const Key& key, const Value& value, std::uint32_t expected) {

@@ -86,9 +86,7 @@ public:
             return shard.map.erase(key) > 0 ? Answer::Hit : Answer::Miss;
         }
 
-        void look_ahead(const Key* keys, unsigned number)
-            requires prefetches
-        {
+        void look_ahead(const Key* keys, unsigned number) requires prefetches {
             for (unsigned place = 0; place < number; ++place) {
                 Shard& shard = shard_of(keys[place]);
                 __builtin_prefetch(&shard, 1);

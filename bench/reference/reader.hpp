@@ -15,8 +15,7 @@ enum class Read { Found, Miss, Busy };
 
 class Reader {
 public:
-    Reader(Table& table, const bench::Key& key, std::uint32_t now)
-        : table_(table), key_(key), now_(now), tag_(0) {
+    Reader(Table& table, const bench::Key& key, std::uint32_t now) : table_(table), key_(key), now_(now), tag_(0) {
         const Word hash = bench::hash_of(key);
         tag_ = tag_of(hash);
         place_ = {table.bucket_of(hash), 1};
@@ -112,9 +111,7 @@ private:
                row_[3] == key_.words[3];
     }
 
-    void read_value(bench::Value& value) {
-        value = value_in({header_, 0, 0, 0, row_[4], row_[5], row_[6], row_[7]});
-    }
+    void read_value(bench::Value& value) { value = value_in({header_, 0, 0, 0, row_[4], row_[5], row_[6], row_[7]}); }
 
     void count_hit(std::uint32_t draw) {
         const std::uint32_t frequency = frequency_in(word_);

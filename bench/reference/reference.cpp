@@ -34,7 +34,8 @@ public:
 
         void look_ahead(const bench::Key* keys, unsigned count) { reference::Ahead(*table_).look(keys, count); }
 
-        void get_many(const bench::Key* keys, unsigned count, bench::Generator& draws, bench::Value* found, Answer* answers) {
+        void get_many(const bench::Key* keys, unsigned count, bench::Generator& draws, bench::Value* found,
+                      Answer* answers) {
             look_ahead(keys, count);
             for (unsigned place = 0; place < count; ++place) {
                 answers[place] = get(keys[place], draws.next(), found[place]);

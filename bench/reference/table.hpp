@@ -29,8 +29,7 @@ class Table {
 public:
     // The words are written here, so that every page is there before anything is timed.
     explicit Table(const Shape& shape)
-        : shape_(shape),
-          front_(1 + 8 * (std::size_t{shape.buckets} + shape.overflow)),
+        : shape_(shape), front_(1 + 8 * (std::size_t{shape.buckets} + shape.overflow)),
           segment_words_(1 + 8 * std::size_t{shape.rows}),
           words_(front_ + segment_words_ * shape.passes * shape.segments_each) {}
 

@@ -47,7 +47,9 @@ int main(int count, char** words) {
                      words[0], words[0]);
         return 2;
     }
-    const auto number = [words](int place) { return static_cast<std::uint32_t>(std::strtoul(words[place], nullptr, 10)); };
+    const auto number = [words](int place) {
+        return static_cast<std::uint32_t>(std::strtoul(words[place], nullptr, 10));
+    };
     const std::uint32_t warm = number(3);
     const Trace trace = Drawing(*workload, number(2)).draw(std::size_t{warm} + number(4));
     if (count == 5) {

@@ -115,7 +115,8 @@ struct Trace {
 class Drawing {
 public:
     Drawing(const Workload& workload, std::uint32_t ranks)
-        : workload_(workload), zipf_(ranks, workload.exponent), key_of_rank_(ranks), fresh_(ranks + workload.scan_keys) {
+        : workload_(workload), zipf_(ranks, workload.exponent), key_of_rank_(ranks),
+          fresh_(ranks + workload.scan_keys) {
         std::iota(key_of_rank_.begin(), key_of_rank_.end(), 0);
         shuffle();
     }

@@ -10,10 +10,17 @@ enum { CLIENTS = 3, KEYS = 64, CALLS = 22, GUARD = 0xA5, FRAME = 8, LONGEST = 40
 
 #define REQUIRE(condition) ((condition) ? (void)0 : (fprintf(stderr, "%d: %s\n", __LINE__, #condition), abort()))
 
-struct bytes { const uint8_t *at; size_t left; };
+struct bytes {
+  const uint8_t *at;
+  size_t left;
+};
 
 /* What one key was stored with, if it is stored. After an eviction it may be gone. */
-struct entry { bool stored; uint8_t value[SEGCACHE_MAX_VALUE]; size_t length; };
+struct entry {
+  bool stored;
+  uint8_t value[SEGCACHE_MAX_VALUE];
+  size_t length;
+};
 
 struct model {
   struct entry entries[KEYS];
@@ -21,14 +28,21 @@ struct model {
   segcache_client clients[CLIENTS];
   segcache_note_t note;
   bool out[CLIENTS], expires;
-  struct { bool is; uint8_t value[SEGCACHE_MAX_VALUE]; size_t length; } held[CLIENTS];
+  struct {
+    bool is;
+    uint8_t value[SEGCACHE_MAX_VALUE];
+    size_t length;
+  } held[CLIENTS];
   uint32_t now, version, version_key; /* of the last gets, if nothing was written since */
   bool has_version;
   uint64_t gone; /* keys that were evicted, by the counts of clients that were given back */
 };
 
 /* A buffer of which so many bytes may be written. */
-struct buffer { uint8_t at[LONGEST + FRAME]; size_t room; };
+struct buffer {
+  uint8_t at[LONGEST + FRAME];
+  size_t room;
+};
 
 static uint32_t draw(struct bytes *bytes, uint32_t below) {
   if (bytes->left == 0) return 0;
@@ -68,7 +82,8 @@ static uint64_t evicted(struct model *model) {
 }
 
 /* What a read came to: the model's value, or a miss of a key that isn't stored, expired or was evicted. */
-static void check_read(struct model *model, uint32_t number, uint32_t status, const struct buffer *value, size_t length) {
+static void check_read(struct model *model, uint32_t number, uint32_t status, const struct buffer *value,
+                       size_t length) {
   struct entry *entry = &model->entries[number];
   if (status == SEGCACHE_MISS) {
     REQUIRE(!entry->stored || model->expires || evicted(model) > 0);
@@ -90,9 +105,13 @@ static void read_key(struct model *model, struct bytes *bytes, segcache_client *
   uint32_t number = draw(bytes, KEYS), version = 0, status;
   size_t length = 77, key_length = key_of(number, key);
   struct buffer value = empty(draw(bytes, LONGEST));
-  if (with_version) status = segcache_gets(client, key, key_length, model->now, value.at, value.room, &length, &version);
+  if (with_version)
+    status = segcache_gets(client, key, key_length, model->now, value.at, value.room, &length, &version);
   else status = segcache_get(client, key, key_length, model->now, value.at, value.room, &length);
-  if (!client->raw.full) { REQUIRE(status == SEGCACHE_NO_HANDLE && is_clean(&value, 0)); return; }
+  if (!client->raw.full) {
+    REQUIRE(status == SEGCACHE_NO_HANDLE && is_clean(&value, 0));
+    return;
+  }
   check_read(model, number, status, &value, length);
   if (!with_version || status != SEGCACHE_OK) return;
   model->has_version = true, model->version = version, model->version_key = number;
@@ -110,7 +129,10 @@ static void read_many(struct model *model, struct bytes *bytes, segcache_client 
     end += lookups[i].key_len;
   }
   uint32_t status = segcache_get_many(client, keys, end, model->now, lookups, count);
-  if (!client->raw.full) { REQUIRE(status == SEGCACHE_NO_HANDLE); return; }
+  if (!client->raw.full) {
+    REQUIRE(status == SEGCACHE_NO_HANDLE);
+    return;
+  }
   for (size_t i = 0; i < count; i++) {
     struct buffer value = empty(SEGCACHE_MAX_VALUE);
     if (lookups[i].status == SEGCACHE_OK) memcpy(value.at, lookups[i].value, lookups[i].value_len);
@@ -126,24 +148,36 @@ static bool is_there(struct model *model, segcache_client *client, const uint8_t
 
 /* put, set, add, replace, cas: also with lengths that can't be. */
 static void write_key(struct model *model, struct bytes *bytes, segcache_client *client, uint32_t call) {
-  static uint32_t (*const calls[])(segcache_client *, const void *, size_t, const void *, size_t, uint32_t) = {
-      segcache_put, segcache_set, segcache_add, segcache_replace};
+  static uint32_t (*const calls[])(segcache_client *, const void *, size_t, const void *, size_t,
+                                   uint32_t) = {segcache_put, segcache_set, segcache_add, segcache_replace};
   uint8_t key[LONGEST] = {0}, value[LONGEST];
   uint32_t number = draw(bytes, KEYS);
   size_t key_length = key_of(number, key), length = draw(bytes, LONGEST);
   struct entry *entry = &model->entries[number];
   memset(value, (int)draw(bytes, 256), sizeof value);
   if (draw(bytes, 32) == 31) key_length = SEGCACHE_MAX_KEY + 1 + draw(bytes, 8);
-  bool live = client->raw.full, there = live && key_length <= SEGCACHE_MAX_KEY && is_there(model, client, key, key_length);
+  bool live = client->raw.full,
+       there = live && key_length <= SEGCACHE_MAX_KEY && is_there(model, client, key, key_length);
   bool fresh = model->has_version && model->version_key == number;
   uint32_t status = call == 4 ? segcache_cas(client, key, key_length, value, length, model->version, model->now)
                               : calls[call](client, key, key_length, value, length, model->now);
-  if (!live) { REQUIRE(status == SEGCACHE_NO_HANDLE); return; }
-  if (key_length > SEGCACHE_MAX_KEY) { REQUIRE(status == SEGCACHE_BAD_KEY); return; }
-  if (length > SEGCACHE_MAX_VALUE) { REQUIRE(status == SEGCACHE_BAD_VALUE); return; }
+  if (!live) {
+    REQUIRE(status == SEGCACHE_NO_HANDLE);
+    return;
+  }
+  if (key_length > SEGCACHE_MAX_KEY) {
+    REQUIRE(status == SEGCACHE_BAD_KEY);
+    return;
+  }
+  if (length > SEGCACHE_MAX_VALUE) {
+    REQUIRE(status == SEGCACHE_BAD_VALUE);
+    return;
+  }
   REQUIRE(status == SEGCACHE_OK || status == SEGCACHE_NO_ROOM || status == SEGCACHE_BUCKET_FULL ||
-          (call == 2 && there && status == SEGCACHE_NOT_STORED) || (call == 3 && !there && status == SEGCACHE_NOT_STORED) ||
-          (call == 4 && there && !fresh && status == SEGCACHE_EXISTS) || (call == 4 && !there && status == SEGCACHE_NOT_FOUND));
+          (call == 2 && there && status == SEGCACHE_NOT_STORED) ||
+          (call == 3 && !there && status == SEGCACHE_NOT_STORED) ||
+          (call == 4 && there && !fresh && status == SEGCACHE_EXISTS) ||
+          (call == 4 && !there && status == SEGCACHE_NOT_FOUND));
   if (status != SEGCACHE_OK) return;
   REQUIRE(!(call == 2 && there) && !(call >= 3 && !there));
   entry->stored = true, entry->length = length, model->has_version = false;
@@ -156,7 +190,10 @@ static void delete_key(struct model *model, struct bytes *bytes, segcache_client
   size_t length = key_of(number, key);
   bool there = client->raw.full && is_there(model, client, key, length);
   uint32_t status = segcache_delete(client, key, length, model->now);
-  if (!client->raw.full) { REQUIRE(status == SEGCACHE_NO_HANDLE); return; }
+  if (!client->raw.full) {
+    REQUIRE(status == SEGCACHE_NO_HANDLE);
+    return;
+  }
   REQUIRE(status == (there ? SEGCACHE_OK : SEGCACHE_NOT_FOUND));
   if (there) model->entries[number].stored = false, model->has_version = false;
 }
@@ -167,9 +204,18 @@ static void hold(struct model *model, struct bytes *bytes, uint32_t which) {
   uint32_t number = draw(bytes, KEYS);
   struct entry *entry = &model->entries[number];
   uint32_t status = segcache_hold(client, key, key_of(number, key), model->now);
-  if (!client->raw.full) { REQUIRE(status == SEGCACHE_NO_HANDLE); return; }
-  if (model->held[which].is) { REQUIRE(status == SEGCACHE_ALREADY_HOLDING); return; }
-  if (status != SEGCACHE_OK) { REQUIRE(status == SEGCACHE_MISS); return; }
+  if (!client->raw.full) {
+    REQUIRE(status == SEGCACHE_NO_HANDLE);
+    return;
+  }
+  if (model->held[which].is) {
+    REQUIRE(status == SEGCACHE_ALREADY_HOLDING);
+    return;
+  }
+  if (status != SEGCACHE_OK) {
+    REQUIRE(status == SEGCACHE_MISS);
+    return;
+  }
   REQUIRE(entry->stored);
   model->held[which].is = true, model->held[which].length = entry->length;
   memcpy(model->held[which].value, entry->value, entry->length);
@@ -180,8 +226,14 @@ static void read_held(struct model *model, struct bytes *bytes, uint32_t which) 
   struct buffer value = empty(draw(bytes, LONGEST));
   size_t length = 0;
   uint32_t status = segcache_held_value(client, value.at, value.room, &length);
-  if (!client->raw.full) { REQUIRE(status == SEGCACHE_NO_HANDLE); return; }
-  if (!model->held[which].is) { REQUIRE(status == SEGCACHE_NOT_HOLDING); return; }
+  if (!client->raw.full) {
+    REQUIRE(status == SEGCACHE_NO_HANDLE);
+    return;
+  }
+  if (!model->held[which].is) {
+    REQUIRE(status == SEGCACHE_NOT_HOLDING);
+    return;
+  }
   REQUIRE(length == model->held[which].length);
   REQUIRE(status == (length > value.room ? SEGCACHE_SHORT_BUFFER : SEGCACHE_OK));
   REQUIRE(is_clean(&value, status == SEGCACHE_OK ? length : 0));
@@ -190,8 +242,9 @@ static void read_held(struct model *model, struct bytes *bytes, uint32_t which) 
 
 static void pass_note(struct model *model, segcache_client *client, uint32_t call) {
   bool full = model->note.raw.full;
-  uint32_t status = call == 0 ? segcache_note(client, &model->note)
-                              : call == 1 ? segcache_learn(client, &model->note) : segcache_note_free(&model->note);
+  uint32_t status = call == 0   ? segcache_note(client, &model->note)
+                    : call == 1 ? segcache_learn(client, &model->note)
+                                : segcache_note_free(&model->note);
   bool may = call == 0 ? client->raw.full && !full : call == 1 ? client->raw.full && full : full;
   REQUIRE(status == (may ? SEGCACHE_OK : SEGCACHE_NO_HANDLE));
   REQUIRE(model->note.raw.full == (may ? call == 0 : full));
@@ -210,30 +263,45 @@ static void make_call(struct model *model, struct bytes *bytes) {
   segcache_client *client = &model->clients[which];
   bool live = client->raw.full;
   switch (call) {
-    case 0: case 1: read_key(model, bytes, client, call == 1); break;
-    case 2: read_many(model, bytes, client); break;
-    case 3: case 4: case 5: case 6: case 7: write_key(model, bytes, client, call - 3); break;
-    case 8: case 9: case 10: write_key(model, bytes, client, 0); break;
-    case 11: delete_key(model, bytes, client); break;
-    case 12: hold(model, bytes, which); break;
-    case 13: read_held(model, bytes, which); break;
-    case 14:
-      REQUIRE(segcache_release(client) ==
-              (!live ? SEGCACHE_NO_HANDLE : model->held[which].is ? SEGCACHE_OK : SEGCACHE_NOT_HOLDING));
-      model->held[which].is = false;
-      break;
-    case 15: case 16: case 17: pass_note(model, client, call - 15); break;
-    case 18: model->now += draw(bytes, 8); break;
-    case 19:
-      if (draw(bytes, 8) != 0) break;
-      REQUIRE(segcache_set_time_to_live(client, 1 + draw(bytes, 32)) == (live ? SEGCACHE_OK : SEGCACHE_NO_HANDLE));
-      model->expires = model->expires || live;
-      break;
-    case 20:
-      if (draw(bytes, 4) == 0) REQUIRE(segcache_keep_from(client, draw(bytes, 6)) == (live ? SEGCACHE_OK : SEGCACHE_NO_HANDLE));
-      else { uint32_t status = segcache_make_room(client, model->now); REQUIRE(live ? status == SEGCACHE_OK || status == SEGCACHE_NO_ROOM : status == SEGCACHE_NO_HANDLE); }
-      break;
-    default: if (draw(bytes, 16) == 0) give_back(model, which);
+  case 0:
+  case 1: read_key(model, bytes, client, call == 1); break;
+  case 2: read_many(model, bytes, client); break;
+  case 3:
+  case 4:
+  case 5:
+  case 6:
+  case 7: write_key(model, bytes, client, call - 3); break;
+  case 8:
+  case 9:
+  case 10: write_key(model, bytes, client, 0); break;
+  case 11: delete_key(model, bytes, client); break;
+  case 12: hold(model, bytes, which); break;
+  case 13: read_held(model, bytes, which); break;
+  case 14:
+    REQUIRE(segcache_release(client) == (!live                   ? SEGCACHE_NO_HANDLE
+                                         : model->held[which].is ? SEGCACHE_OK
+                                                                 : SEGCACHE_NOT_HOLDING));
+    model->held[which].is = false;
+    break;
+  case 15:
+  case 16:
+  case 17: pass_note(model, client, call - 15); break;
+  case 18: model->now += draw(bytes, 8); break;
+  case 19:
+    if (draw(bytes, 8) != 0) break;
+    REQUIRE(segcache_set_time_to_live(client, 1 + draw(bytes, 32)) == (live ? SEGCACHE_OK : SEGCACHE_NO_HANDLE));
+    model->expires = model->expires || live;
+    break;
+  case 20:
+    if (draw(bytes, 4) == 0)
+      REQUIRE(segcache_keep_from(client, draw(bytes, 6)) == (live ? SEGCACHE_OK : SEGCACHE_NO_HANDLE));
+    else {
+      uint32_t status = segcache_make_room(client, model->now);
+      REQUIRE(live ? status == SEGCACHE_OK || status == SEGCACHE_NO_ROOM : status == SEGCACHE_NO_HANDLE);
+    }
+    break;
+  default:
+    if (draw(bytes, 16) == 0) give_back(model, which);
   }
 }
 
@@ -259,11 +327,17 @@ static void check_content(struct model *model) {
 int LLVMFuzzerTestOneInput(const uint8_t *data, size_t size) {
   struct bytes bytes = {data, size};
   struct model model = {0};
-  segcache_shape shape = {.buckets = 1u << draw(&bytes, 4), .overflow = draw(&bytes, 4), .passes = CLIENTS,
-                          .segments_each = 1 + draw(&bytes, 12), .rows = 1 + draw(&bytes, 5),
+  segcache_shape shape = {.buckets = 1u << draw(&bytes, 4),
+                          .overflow = draw(&bytes, 4),
+                          .passes = CLIENTS,
+                          .segments_each = 1 + draw(&bytes, 12),
+                          .rows = 1 + draw(&bytes, 5),
                           .first_version = draw(&bytes, 2) ? UINT32_MAX >> 8 : 0};
   uint32_t status = segcache_open_shape(&shape, &model.cache, model.clients);
-  if (status != SEGCACHE_OK) { REQUIRE(status == SEGCACHE_BAD_SHAPE && !model.cache.raw.full); return 0; }
+  if (status != SEGCACHE_OK) {
+    REQUIRE(status == SEGCACHE_BAD_SHAPE && !model.cache.raw.full);
+    return 0;
+  }
   memset(model.out, true, sizeof model.out);
   while (bytes.left > 0) make_call(&model, &bytes);
   bool any = model.out[0] || model.out[1] || model.out[2];

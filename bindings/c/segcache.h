@@ -49,17 +49,17 @@ extern "C" {
 
 enum {
   SEGCACHE_OK = 0,
-  SEGCACHE_MISS = 1,             /* the key was absent at a moment of the call */
-  SEGCACHE_BUSY = 2,             /* others worked on the key's bucket all the while: call again */
-  SEGCACHE_NO_ROOM = 3,          /* no row is left to store into: make_room, or put again later */
-  SEGCACHE_BUCKET_FULL = 4,      /* the key's bucket has no free word: go on without */
-  SEGCACHE_NOT_STORED = 5,       /* an add of a key that is present, a replace of one that is not */
-  SEGCACHE_EXISTS = 6,           /* a cas: the bucket was written since the gets */
-  SEGCACHE_NOT_FOUND = 7,        /* a cas or a delete: the key is absent */
-  SEGCACHE_BAD_KEY = 8,          /* no byte, or more than 24 */
-  SEGCACHE_BAD_VALUE = 9,        /* more than 32 bytes */
-  SEGCACHE_SHORT_BUFFER = 10,    /* nothing was copied; the length says how much room is needed */
-  SEGCACHE_BAD_SHAPE = 11,       /* a shape, or a number of keys or of threads, that cannot be */
+  SEGCACHE_MISS = 1,          /* the key was absent at a moment of the call */
+  SEGCACHE_BUSY = 2,          /* others worked on the key's bucket all the while: call again */
+  SEGCACHE_NO_ROOM = 3,       /* no row is left to store into: make_room, or put again later */
+  SEGCACHE_BUCKET_FULL = 4,   /* the key's bucket has no free word: go on without */
+  SEGCACHE_NOT_STORED = 5,    /* an add of a key that is present, a replace of one that is not */
+  SEGCACHE_EXISTS = 6,        /* a cas: the bucket was written since the gets */
+  SEGCACHE_NOT_FOUND = 7,     /* a cas or a delete: the key is absent */
+  SEGCACHE_BAD_KEY = 8,       /* no byte, or more than 24 */
+  SEGCACHE_BAD_VALUE = 9,     /* more than 32 bytes */
+  SEGCACHE_SHORT_BUFFER = 10, /* nothing was copied; the length says how much room is needed */
+  SEGCACHE_BAD_SHAPE = 11,    /* a shape, or a number of keys or of threads, that cannot be */
   SEGCACHE_OUT_OF_MEMORY = 12,
   SEGCACHE_NO_HANDLE = 13,       /* the handle is zeroed, given back or freed; or that of a new note is in use */
   SEGCACHE_ALREADY_HOLDING = 14, /* the client holds an item: release that first */
@@ -155,10 +155,10 @@ uint32_t segcache_raw_get(segcache_handle *client, const uint8_t *key, size_t ke
                           size_t *value_len, uint32_t now);
 uint32_t segcache_raw_gets(segcache_handle *client, const uint8_t *key, size_t key_len, uint8_t *value, size_t room,
                            size_t *value_len, uint32_t *version, uint32_t now);
-uint32_t segcache_raw_get_many(segcache_handle *client, const uint8_t *keys, size_t keys_len,
-                               segcache_lookup *lookups, size_t count, uint32_t now);
-uint32_t segcache_raw_gets_many(segcache_handle *client, const uint8_t *keys, size_t keys_len,
-                                segcache_lookup *lookups, size_t count, uint32_t now);
+uint32_t segcache_raw_get_many(segcache_handle *client, const uint8_t *keys, size_t keys_len, segcache_lookup *lookups,
+                               size_t count, uint32_t now);
+uint32_t segcache_raw_gets_many(segcache_handle *client, const uint8_t *keys, size_t keys_len, segcache_lookup *lookups,
+                                size_t count, uint32_t now);
 uint32_t segcache_raw_put(segcache_handle *client, const uint8_t *key, size_t key_len, const uint8_t *value,
                           size_t value_len, uint32_t now);
 uint32_t segcache_raw_set(segcache_handle *client, const uint8_t *key, size_t key_len, const uint8_t *value,
@@ -255,15 +255,15 @@ static inline uint32_t segcache_open_shape(const segcache_shape *shape, segcache
 /* Copies the value of a key into `value`, which has room for `room` bytes, and its length into
    `value_len`. It waits for nobody.
    Answers: OK; MISS; BUSY; SHORT_BUFFER, with the length that is needed; BAD_KEY, NO_HANDLE. */
-static inline uint32_t segcache_get(segcache_client *client, const void *key, size_t key_len, uint32_t now,
-                                    void *value, size_t room, size_t *value_len) {
+static inline uint32_t segcache_get(segcache_client *client, const void *key, size_t key_len, uint32_t now, void *value,
+                                    size_t room, size_t *value_len) {
   SEGCACHE_BYTES(key, key_len);
   SEGCACHE_BYTES(value, room);
   SEGCACHE_APART(value, room, key, key_len);
   SEGCACHE_BYTES(value_len, sizeof *value_len);
   SEGCACHE_APART(value, room, value_len, sizeof *value_len);
-  return SEGCACHE_CALL(client, segcache_raw_get(&client->raw, (const uint8_t *)key, key_len, (uint8_t *)value,
-                                                room, value_len, now));
+  return SEGCACHE_CALL(
+      client, segcache_raw_get(&client->raw, (const uint8_t *)key, key_len, (uint8_t *)value, room, value_len, now));
 }
 
 /* A get that also gives the version of the key's bucket, for segcache_cas. Answers as segcache_get. */
@@ -274,8 +274,8 @@ static inline uint32_t segcache_gets(segcache_client *client, const void *key, s
   SEGCACHE_APART(value, room, key, key_len);
   SEGCACHE_BYTES(value_len, sizeof *value_len);
   SEGCACHE_APART(value, room, value_len, sizeof *value_len);
-  return SEGCACHE_CALL(client, segcache_raw_gets(&client->raw, (const uint8_t *)key, key_len, (uint8_t *)value,
-                                                 room, value_len, version, now));
+  return SEGCACHE_CALL(client, segcache_raw_gets(&client->raw, (const uint8_t *)key, key_len, (uint8_t *)value, room,
+                                                 value_len, version, now));
 }
 
 /* Gets of several keys, one after another. From 8 keys on their waits for memory overlap, which takes less time than
@@ -312,8 +312,8 @@ static inline uint32_t segcache_put(segcache_client *client, const void *key, si
                                     size_t value_len, uint32_t now) {
   SEGCACHE_BYTES(key, key_len);
   SEGCACHE_BYTES(value, value_len);
-  return SEGCACHE_CALL(client, segcache_raw_put(&client->raw, (const uint8_t *)key, key_len,
-                                                      (const uint8_t *)value, value_len, now));
+  return SEGCACHE_CALL(
+      client, segcache_raw_put(&client->raw, (const uint8_t *)key, key_len, (const uint8_t *)value, value_len, now));
 }
 
 /* Stores a value, and makes no room: NO_ROOM if no row is left, as before a client's first put. Where the deadline of
@@ -322,8 +322,8 @@ static inline uint32_t segcache_set(segcache_client *client, const void *key, si
                                     size_t value_len, uint32_t now) {
   SEGCACHE_BYTES(key, key_len);
   SEGCACHE_BYTES(value, value_len);
-  return SEGCACHE_CALL(client, segcache_raw_set(&client->raw, (const uint8_t *)key, key_len,
-                                                      (const uint8_t *)value, value_len, now));
+  return SEGCACHE_CALL(
+      client, segcache_raw_set(&client->raw, (const uint8_t *)key, key_len, (const uint8_t *)value, value_len, now));
 }
 
 /* A set that stores only if the key is absent. Answers as set, and NOT_STORED. */
@@ -331,8 +331,8 @@ static inline uint32_t segcache_add(segcache_client *client, const void *key, si
                                     size_t value_len, uint32_t now) {
   SEGCACHE_BYTES(key, key_len);
   SEGCACHE_BYTES(value, value_len);
-  return SEGCACHE_CALL(client, segcache_raw_add(&client->raw, (const uint8_t *)key, key_len,
-                                                      (const uint8_t *)value, value_len, now));
+  return SEGCACHE_CALL(
+      client, segcache_raw_add(&client->raw, (const uint8_t *)key, key_len, (const uint8_t *)value, value_len, now));
 }
 
 /* A set that stores only if the key is present. Answers as set, and NOT_STORED. */
@@ -340,8 +340,8 @@ static inline uint32_t segcache_replace(segcache_client *client, const void *key
                                         size_t value_len, uint32_t now) {
   SEGCACHE_BYTES(key, key_len);
   SEGCACHE_BYTES(value, value_len);
-  return SEGCACHE_CALL(client, segcache_raw_replace(&client->raw, (const uint8_t *)key, key_len,
-                                                          (const uint8_t *)value, value_len, now));
+  return SEGCACHE_CALL(client, segcache_raw_replace(&client->raw, (const uint8_t *)key, key_len, (const uint8_t *)value,
+                                                    value_len, now));
 }
 
 /* A set that stores only if no key of the bucket was stored or deleted since the segcache_gets that gave
@@ -351,8 +351,8 @@ static inline uint32_t segcache_cas(segcache_client *client, const void *key, si
                                     size_t value_len, uint32_t version, uint32_t now) {
   SEGCACHE_BYTES(key, key_len);
   SEGCACHE_BYTES(value, value_len);
-  return SEGCACHE_CALL(client, segcache_raw_cas(&client->raw, (const uint8_t *)key, key_len,
-                                                      (const uint8_t *)value, value_len, version, now));
+  return SEGCACHE_CALL(client, segcache_raw_cas(&client->raw, (const uint8_t *)key, key_len, (const uint8_t *)value,
+                                                value_len, version, now));
 }
 
 /* Takes a key out. Answers: OK, NOT_FOUND, BUSY, BAD_KEY, NO_HANDLE. */
@@ -503,19 +503,31 @@ static inline uint32_t segcache_cursor_free(segcache_cursor *cursor) {
 
 /* Gives all memory of a cache back, whose clients were all given back. The cache is none afterwards.
    Answers: OK; CLIENT_OUT, and nothing changed; NO_HANDLE. */
-static inline uint32_t segcache_free(segcache *cache) {
-  return SEGCACHE_CALL(cache, segcache_raw_free(&cache->raw));
-}
+static inline uint32_t segcache_free(segcache *cache) { return SEGCACHE_CALL(cache, segcache_raw_free(&cache->raw)); }
 
 /* A status in words. */
 static inline const char *segcache_text(uint32_t status) {
   static const char *const texts[] = {
-      "ok", "the key is absent", "busy: others worked on the key's bucket", "no room: no segment can be had",
-      "the key's bucket is full", "not stored", "the bucket was written since the gets", "the key is not found",
-      "a key has 1 to 24 bytes", "a value has 32 bytes at most", "the buffer is too short", "such a shape cannot be",
-      "out of memory", "no handle: zeroed, given back or freed", "the client holds an item already",
-      "the client holds no item", "a client is still out", "the client or the note is of another cache",
-      "the end", "the library has another version than segcache.h",
+      "ok",
+      "the key is absent",
+      "busy: others worked on the key's bucket",
+      "no room: no segment can be had",
+      "the key's bucket is full",
+      "not stored",
+      "the bucket was written since the gets",
+      "the key is not found",
+      "a key has 1 to 24 bytes",
+      "a value has 32 bytes at most",
+      "the buffer is too short",
+      "such a shape cannot be",
+      "out of memory",
+      "no handle: zeroed, given back or freed",
+      "the client holds an item already",
+      "the client holds no item",
+      "a client is still out",
+      "the client or the note is of another cache",
+      "the end",
+      "the library has another version than segcache.h",
   };
   return status < sizeof texts / sizeof *texts ? texts[status] : "no such status";
 }

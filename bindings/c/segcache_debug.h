@@ -22,8 +22,7 @@ __attribute__((weak)) char segcache_debug_locked;
 __attribute__((weak)) unsigned long segcache_debug_count;
 
 static inline void segcache_debug_lock(void) {
-  while (__atomic_test_and_set(&segcache_debug_locked, __ATOMIC_SEQ_CST)) {
-  }
+  while (__atomic_test_and_set(&segcache_debug_locked, __ATOMIC_SEQ_CST)) {}
 }
 
 static inline void segcache_debug_unlock(void) { __atomic_clear(&segcache_debug_locked, __ATOMIC_SEQ_CST); }
@@ -101,15 +100,15 @@ static inline void segcache_debug_apart(const void *a, size_t a_len, const void 
     segcache_debug_fail(function, "what is written overlaps something else that is passed");
 }
 
-#define SEGCACHE_CALL(of, call)                                                  \
-  __extension__({                                                                \
-    uint32_t status_ = SEGCACHE_NO_HANDLE;                                       \
-    if ((of) != NULL) {                                                          \
-      unsigned long entered_ = segcache_debug_enter(&(of)->raw, __func__);       \
-      status_ = (call);                                                          \
-      segcache_debug_leave(entered_, &(of)->raw);                                \
-    }                                                                            \
-    status_;                                                                     \
+#define SEGCACHE_CALL(of, call)                                            \
+  __extension__({                                                          \
+    uint32_t status_ = SEGCACHE_NO_HANDLE;                                 \
+    if ((of) != NULL) {                                                    \
+      unsigned long entered_ = segcache_debug_enter(&(of)->raw, __func__); \
+      status_ = (call);                                                    \
+      segcache_debug_leave(entered_, &(of)->raw);                          \
+    }                                                                      \
+    status_;                                                               \
   })
 #define SEGCACHE_BYTES(at, length) segcache_debug_bytes(at, length, __func__)
 #define SEGCACHE_APART(a, a_len, b, b_len) segcache_debug_apart(a, a_len, b, b_len, __func__)

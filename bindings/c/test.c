@@ -95,10 +95,11 @@ static void test_opening(void) {
   segcache cache;
   segcache_client clients[65];
   segcache_shape shape = {4, 4, 2, 2, 8, 7}, bad;
-  const segcache_shape bads[] = {{3, 0, 1, 2, 8, 0},    {131072, 0, 1, 2, 8, 0}, {4, 65537, 1, 2, 8, 0},
-                                 {4, 0, 0, 2, 8, 0},    {4, 0, 65, 2, 8, 0},     {4, 0, 1, 0, 8, 0},
-                                 {4, 0, 1, 1025, 8, 0}, {4, 0, 1, 2, 0, 0},      {4, 0, 1, 2, 4097, 0},
-                                 {65536, 65536, 64, 1024, 4096, 0}};
+  const segcache_shape bads[] = {{3, 0, 1, 2, 8, 0},     {131072, 0, 1, 2, 8, 0},
+                                 {4, 65537, 1, 2, 8, 0}, {4, 0, 0, 2, 8, 0},
+                                 {4, 0, 65, 2, 8, 0},    {4, 0, 1, 0, 8, 0},
+                                 {4, 0, 1, 1025, 8, 0},  {4, 0, 1, 2, 0, 0},
+                                 {4, 0, 1, 2, 4097, 0},  {65536, 65536, 64, 1024, 4096, 0}};
   long before = out;
   EXPECT(segcache_open(100, 0, &cache, clients), SEGCACHE_BAD_SHAPE);
   EXPECT(segcache_open(100, 65, &cache, clients), SEGCACHE_BAD_SHAPE);
@@ -172,7 +173,8 @@ static void test_many(segcache_client *one, segcache_client *other) {
   for (uint8_t i = 0; i < 40; i++) {
     keys[2 * i] = 'm', keys[2 * i + 1] = (char)i, value[1] = (char)i;
     if (i % 2 == 0) EXPECT(segcache_put(one, &keys[2 * i], 2, value, 2, 0), SEGCACHE_OK);
-    lookups[i] = (segcache_lookup){.key_at = 2 * i, .key_len = 2, .value_len = 99, .status = 99, .version = 99, .value = "????"};
+    lookups[i] =
+        (segcache_lookup){.key_at = 2 * i, .key_len = 2, .value_len = 99, .status = 99, .version = 99, .value = "????"};
   }
   lookups[3].key_len = 0, lookups[5].key_len = 25, lookups[39].key_len = 3, lookups[38].key_at = SIZE_MAX;
   EXPECT(segcache_get_many(other, keys, sizeof keys, 0, lookups, 40), SEGCACHE_OK);
@@ -441,7 +443,8 @@ static void test_most_threads(void) {
   segcache_client clients[64];
   segcache_shape shape = {64, 64, 64, 2, 2, 0};
   for (int by_shape = 0; by_shape < 2; by_shape++) {
-    EXPECT(by_shape ? segcache_open_shape(&shape, &cache, clients) : segcache_open(1000, 64, &cache, clients), SEGCACHE_OK);
+    EXPECT(by_shape ? segcache_open_shape(&shape, &cache, clients) : segcache_open(1000, 64, &cache, clients),
+           SEGCACHE_OK);
     for (int i = 0; i < 64; i++) EXPECT(put(&clients[i], (char[]){(char)('0' + i), 0}, "v", 0), SEGCACHE_OK);
     for (int i = 0; i < 64; i++) CHECK(reads(&clients[63 - i], (char[]){(char)('0' + i), 0}, 0, "v"));
     for (int i = 0; i < 64; i++) EXPECT(segcache_give_back(&cache, &clients[i]), SEGCACHE_OK);

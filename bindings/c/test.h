@@ -21,18 +21,19 @@ extern long until_refused; /* so many allocations more, and one is refused; none
 void reuse_blocks(void);
 void free_blocks(void);
 
-#define CHECK(condition)                                                      \
-  do {                                                                        \
-    checks++;                                                                 \
+#define CHECK(condition)                                                          \
+  do {                                                                            \
+    checks++;                                                                     \
     if (!(condition)) faults++, printf("%d: not so: %s\n", __LINE__, #condition); \
   } while (0)
 
-#define EXPECT(call, wanted)                                                                                  \
-  do {                                                                                                      \
-    uint32_t status_here = (call);                                                                            \
-    checks++;                                                                                               \
-    if (status_here != (wanted))                                                                              \
-      faults++, printf("%d: %s: %s, and not: %s\n", __LINE__, #call, segcache_text(status_here), segcache_text(wanted)); \
+#define EXPECT(call, wanted)                                                                                       \
+  do {                                                                                                             \
+    uint32_t status_here = (call);                                                                                 \
+    checks++;                                                                                                      \
+    if (status_here != (wanted))                                                                                   \
+      faults++,                                                                                                    \
+          printf("%d: %s: %s, and not: %s\n", __LINE__, #call, segcache_text(status_here), segcache_text(wanted)); \
   } while (0)
 
 uint32_t put(segcache_client *client, const char *key, const char *value, uint32_t now);

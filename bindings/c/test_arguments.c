@@ -65,7 +65,8 @@ uint32_t segcache_raw_get(H client, BYTES, OUT, uint32_t now) {
   return tell("get %p %p %zu %p %zu %p %u", AT client, AT key, key_len, AT value, room, AT value_len, now);
 }
 uint32_t segcache_raw_gets(H client, BYTES, OUT, uint32_t *version, uint32_t now) {
-  return tell("gets %p %p %zu %p %zu %p %p %u", AT client, AT key, key_len, AT value, room, AT value_len, AT version, now);
+  return tell("gets %p %p %zu %p %zu %p %p %u", AT client, AT key, key_len, AT value, room, AT value_len, AT version,
+              now);
 }
 uint32_t segcache_raw_get_many(H client, MANY) {
   return tell("get_many %p %p %zu %p %zu %u", AT client, AT keys, keys_len, AT lookups, count, now);
@@ -97,7 +98,9 @@ uint32_t segcache_raw_note(H client, H note) {
 }
 uint32_t segcache_raw_learn(H client, H note) { return tell("learn %p %p", AT client, AT note); }
 uint32_t segcache_raw_note_free(H note) { return tell("note_free %p", AT note); }
-uint32_t segcache_raw_set_time_to_live(H client, uint32_t time) { return tell("set_time_to_live %p %u", AT client, time); }
+uint32_t segcache_raw_set_time_to_live(H client, uint32_t time) {
+  return tell("set_time_to_live %p %u", AT client, time);
+}
 uint32_t segcache_raw_keep_from(H client, uint32_t cutoff) { return tell("keep_from %p %u", AT client, cutoff); }
 uint32_t segcache_raw_make_room(H client, uint32_t now) { return tell("make_room %p %u", AT client, now); }
 uint32_t segcache_raw_stats(H client, segcache_stats_t *counts) { return tell("stats %p %p", AT client, AT counts); }
@@ -123,21 +126,21 @@ static void check(int line, uint32_t status, uint32_t wanted_status, const char 
 }
 
 /* Whatever the export answers, the call answers, and the export was handed this. */
-#define PASSES(call, ...)                          \
-  for (answer = 0; answer < 20; answer++) {        \
-    char wanted[sizeof told];                      \
-    told[0] = 0;                                   \
-    uint32_t status = (call);                      \
-    snprintf(wanted, sizeof wanted, __VA_ARGS__);  \
-    check(__LINE__, status, answer, wanted);       \
+#define PASSES(call, ...)                         \
+  for (answer = 0; answer < 20; answer++) {       \
+    char wanted[sizeof told];                     \
+    told[0] = 0;                                  \
+    uint32_t status = (call);                     \
+    snprintf(wanted, sizeof wanted, __VA_ARGS__); \
+    check(__LINE__, status, answer, wanted);      \
   }
 
 /* The call answers this, and no export was called. */
-#define STOPS(call, wanted_status)                 \
-  do {                                             \
-    told[0] = 0;                                   \
-    uint32_t status = (call);                      \
-    check(__LINE__, status, wanted_status, "");    \
+#define STOPS(call, wanted_status)              \
+  do {                                          \
+    told[0] = 0;                                \
+    uint32_t status = (call);                   \
+    check(__LINE__, status, wanted_status, ""); \
   } while (0)
 
 static void test_reads(segcache_client *client) {
@@ -147,13 +150,14 @@ static void test_reads(segcache_client *client) {
   uint32_t version;
   segcache_lookup lookups[3] = {{0}};
   void *raw = &client->raw;
-  PASSES(segcache_get(client, key, 3, 101, value, 31, &length), "get %p %p 3 %p 31 %p 101", raw, AT key, AT value, AT &length);
+  PASSES(segcache_get(client, key, 3, 101, value, 31, &length), "get %p %p 3 %p 31 %p 101", raw, AT key, AT value,
+         AT & length);
   PASSES(segcache_gets(client, key, 3, 102, value, 30, &length, &version), "gets %p %p 3 %p 30 %p %p 102", raw, AT key,
-         AT value, AT &length, AT &version);
+         AT value, AT & length, AT & version);
   PASSES(segcache_get_many(client, key, 2, 103, lookups, 3), "get_many %p %p 2 %p 3 103", raw, AT key, AT lookups);
   PASSES(segcache_gets_many(client, key, 1, 104, lookups, 2), "gets_many %p %p 1 %p 2 104", raw, AT key, AT lookups);
   PASSES(segcache_hold(client, key, 2, 105), "hold %p %p 2 105", raw, AT key);
-  PASSES(segcache_held_value(client, value, 29, &length), "held_value %p %p 29 %p", raw, AT value, AT &length);
+  PASSES(segcache_held_value(client, value, 29, &length), "held_value %p %p 29 %p", raw, AT value, AT & length);
   PASSES(segcache_release(client), "release %p", raw);
 }
 
@@ -176,8 +180,8 @@ static void test_settings(segcache_client *client) {
   PASSES(segcache_set_time_to_live(client, 301), "set_time_to_live %p 301", raw);
   PASSES(segcache_keep_from(client, 302), "keep_from %p 302", raw);
   PASSES(segcache_keep_nothing(client), "keep_from %p 0", raw);
-  PASSES(segcache_stats(client, &stats), "stats %p %p", raw, AT &stats);
-  PASSES(segcache_index_stats(client, &table), "index_stats %p %p", raw, AT &table);
+  PASSES(segcache_stats(client, &stats), "stats %p %p", raw, AT & stats);
+  PASSES(segcache_index_stats(client, &table), "index_stats %p %p", raw, AT & table);
 }
 
 /* Whether all is zeros. */
@@ -193,9 +197,9 @@ static void test_opening(void) {
   segcache_shape shape = {4, 4, 3, 2, 8, 7};
   PASSES(segcache_open(100, 64, &cache, clients), "open 100 64 64 1 64");
   PASSES(segcache_open(99, 0, &cache, clients), "open 99 0 0 1 0");
-  PASSES(segcache_open_shape(&shape, &cache, clients), "open_shape %p 3 1 3", AT &shape);
+  PASSES(segcache_open_shape(&shape, &cache, clients), "open_shape %p 3 1 3", AT & shape);
   shape.passes = 64;
-  PASSES(segcache_open_shape(&shape, &cache, clients), "open_shape %p 64 1 64", AT &shape);
+  PASSES(segcache_open_shape(&shape, &cache, clients), "open_shape %p 64 1 64", AT & shape);
   shape.passes = 2;
   for (int i = 0; i < 4; i++) {
     memset(&cache, 1, sizeof cache);
@@ -228,7 +232,8 @@ static void test_version(void) {
     STOPS(i % 2 ? segcache_open(100, 2, &cache, clients) : segcache_open_shape(&shape, &cache, clients),
           SEGCACHE_OTHER_VERSION);
     checks += 2;
-    if (segcache_version() != of_version) faults++, printf("the version is %u, and not %u\n", segcache_version(), of_version);
+    if (segcache_version() != of_version)
+      faults++, printf("the version is %u, and not %u\n", segcache_version(), of_version);
     if (!is_zeroed(&cache, sizeof cache) || !is_zeroed(clients, 2 * sizeof *clients))
       faults++, printf("an open by version %u leaves handles\n", of_version);
   }
@@ -239,10 +244,10 @@ static void test_version(void) {
 /* Notes, and clients that go back: of the same cache, and of another one. */
 static void test_homes(segcache *cache, segcache_client *client, segcache *other, segcache_client *foreign) {
   segcache_note_t note = {0}, none = {0};
-  PASSES(segcache_note(client, &note), "note %p %p", AT &client->raw, AT &note.raw);
-  PASSES(segcache_learn(client, &note), "learn %p %p", AT &client->raw, AT &note.raw);
-  PASSES(segcache_note_free(&note), "note_free %p", AT &note.raw);
-  PASSES(segcache_give_back(cache, client), "give_back %p %p", AT &cache->raw, AT &client->raw);
+  PASSES(segcache_note(client, &note), "note %p %p", AT & client->raw, AT & note.raw);
+  PASSES(segcache_learn(client, &note), "learn %p %p", AT & client->raw, AT & note.raw);
+  PASSES(segcache_note_free(&note), "note_free %p", AT & note.raw);
+  PASSES(segcache_give_back(cache, client), "give_back %p %p", AT & cache->raw, AT & client->raw);
   STOPS(segcache_learn(foreign, &note), SEGCACHE_FOREIGN);
   STOPS(segcache_learn(foreign, &none), SEGCACHE_NO_HANDLE);
   STOPS(segcache_give_back(cache, foreign), SEGCACHE_FOREIGN);
@@ -300,19 +305,18 @@ static void test_null_handles(segcache *cache, segcache_client *client) {
 
 #ifdef SEGCACHE_DEBUG
 /* The call aborts, in a child. */
-#define ABORTS(call)                                                            \
-  do {                                                                          \
-    int ended = 0;                                                              \
-    pid_t child = fork();                                                       \
-    if (child == 0) {                                                           \
-      if (freopen("/dev/null", "w", stderr) == NULL) _exit(2);                  \
-      (void)(call);                                                             \
-      _exit(0);                                                                 \
-    }                                                                           \
-    waitpid(child, &ended, 0);                                                  \
-    checks++;                                                                   \
-    if (!WIFSIGNALED(ended) || WTERMSIG(ended) != SIGABRT)                      \
-      faults++, printf("%d: not stopped: %s\n", __LINE__, #call);               \
+#define ABORTS(call)                                                                                                   \
+  do {                                                                                                                 \
+    int ended = 0;                                                                                                     \
+    pid_t child = fork();                                                                                              \
+    if (child == 0) {                                                                                                  \
+      if (freopen("/dev/null", "w", stderr) == NULL) _exit(2);                                                         \
+      (void)(call);                                                                                                    \
+      _exit(0);                                                                                                        \
+    }                                                                                                                  \
+    waitpid(child, &ended, 0);                                                                                         \
+    checks++;                                                                                                          \
+    if (!WIFSIGNALED(ended) || WTERMSIG(ended) != SIGABRT) faults++, printf("%d: not stopped: %s\n", __LINE__, #call); \
   } while (0)
 
 /* Null pointers with a length, and what is written over something else that is passed. */
@@ -366,34 +370,45 @@ static void test_end(segcache *cache, segcache_client *client) {
     memset(&cursor, 1, sizeof cursor);
     uint32_t status = segcache_close(cache, &cursor);
     char wanted[100];
-    snprintf(wanted, sizeof wanted, "close %p 1", AT &cache->raw); /* an empty handle, whatever the cursor was */
+    snprintf(wanted, sizeof wanted, "close %p 1", AT & cache->raw); /* an empty handle, whatever the cursor was */
     check(__LINE__, status, answer, wanted);
     if (cursor.raw.full != (answer == SEGCACHE_OK)) faults++, printf("a cursor of a close that answers %u\n", answer);
   }
   answer = SEGCACHE_OK;
   segcache_close(cache, &cursor);
   test_pointers(client, &cursor);
-  PASSES(segcache_next(&cursor, key, &key_len, value, &value_len), "next %p %p 24 %p %p 32 %p", AT &cursor.raw, AT key,
-         AT &key_len, AT value, AT &value_len);
-  PASSES(segcache_cursor_free(&cursor), "cursor_free %p", AT &cursor.raw);
-  PASSES(segcache_free(cache), "free %p", AT &cache->raw);
+  PASSES(segcache_next(&cursor, key, &key_len, value, &value_len), "next %p %p 24 %p %p 32 %p", AT & cursor.raw, AT key,
+         AT & key_len, AT value, AT & value_len);
+  PASSES(segcache_cursor_free(&cursor), "cursor_free %p", AT & cursor.raw);
+  PASSES(segcache_free(cache), "free %p", AT & cache->raw);
 }
 
 static void test_texts(void) {
-  static const struct { uint32_t status; const char *text; } all[] = {
-      {SEGCACHE_OK, "ok"}, {SEGCACHE_MISS, "the key is absent"},
-      {SEGCACHE_BUSY, "busy: others worked on the key's bucket"},
-      {SEGCACHE_NO_ROOM, "no room: no segment can be had"}, {SEGCACHE_BUCKET_FULL, "the key's bucket is full"},
-      {SEGCACHE_NOT_STORED, "not stored"}, {SEGCACHE_EXISTS, "the bucket was written since the gets"},
-      {SEGCACHE_NOT_FOUND, "the key is not found"}, {SEGCACHE_BAD_KEY, "a key has 1 to 24 bytes"},
-      {SEGCACHE_BAD_VALUE, "a value has 32 bytes at most"}, {SEGCACHE_SHORT_BUFFER, "the buffer is too short"},
-      {SEGCACHE_BAD_SHAPE, "such a shape cannot be"}, {SEGCACHE_OUT_OF_MEMORY, "out of memory"},
-      {SEGCACHE_NO_HANDLE, "no handle: zeroed, given back or freed"},
-      {SEGCACHE_ALREADY_HOLDING, "the client holds an item already"},
-      {SEGCACHE_NOT_HOLDING, "the client holds no item"}, {SEGCACHE_CLIENT_OUT, "a client is still out"},
-      {SEGCACHE_FOREIGN, "the client or the note is of another cache"}, {SEGCACHE_END, "the end"},
-      {SEGCACHE_OTHER_VERSION, "the library has another version than segcache.h"},
-      {20, "no such status"}, {UINT32_MAX, "no such status"}};
+  static const struct {
+    uint32_t status;
+    const char *text;
+  } all[] = {{SEGCACHE_OK, "ok"},
+             {SEGCACHE_MISS, "the key is absent"},
+             {SEGCACHE_BUSY, "busy: others worked on the key's bucket"},
+             {SEGCACHE_NO_ROOM, "no room: no segment can be had"},
+             {SEGCACHE_BUCKET_FULL, "the key's bucket is full"},
+             {SEGCACHE_NOT_STORED, "not stored"},
+             {SEGCACHE_EXISTS, "the bucket was written since the gets"},
+             {SEGCACHE_NOT_FOUND, "the key is not found"},
+             {SEGCACHE_BAD_KEY, "a key has 1 to 24 bytes"},
+             {SEGCACHE_BAD_VALUE, "a value has 32 bytes at most"},
+             {SEGCACHE_SHORT_BUFFER, "the buffer is too short"},
+             {SEGCACHE_BAD_SHAPE, "such a shape cannot be"},
+             {SEGCACHE_OUT_OF_MEMORY, "out of memory"},
+             {SEGCACHE_NO_HANDLE, "no handle: zeroed, given back or freed"},
+             {SEGCACHE_ALREADY_HOLDING, "the client holds an item already"},
+             {SEGCACHE_NOT_HOLDING, "the client holds no item"},
+             {SEGCACHE_CLIENT_OUT, "a client is still out"},
+             {SEGCACHE_FOREIGN, "the client or the note is of another cache"},
+             {SEGCACHE_END, "the end"},
+             {SEGCACHE_OTHER_VERSION, "the library has another version than segcache.h"},
+             {20, "no such status"},
+             {UINT32_MAX, "no such status"}};
   for (size_t i = 0; i < sizeof all / sizeof *all; i++) {
     snprintf(told, sizeof told, "%s", segcache_text(all[i].status));
     check(__LINE__, all[i].status, all[i].status, all[i].text);

@@ -77,12 +77,18 @@ static const struct fault {
   const char *name;
   void (*commit)(struct handles *);
 } fault_list[] = {
-    {"copied client", copied_client},   {"copied cache", copied_cache},
-    {"copied note", copied_note},       {"copied cursor", copied_cursor},
-    {"client in use", client_in_use},   {"note in use", note_in_use},
-    {"made up", made_up},               {"null key", null_key},
-    {"null length", null_length},       {"value over key", value_over_key},
-    {"length in value", length_in_value}, {"no fault", no_fault},
+    {"copied client", copied_client},
+    {"copied cache", copied_cache},
+    {"copied note", copied_note},
+    {"copied cursor", copied_cursor},
+    {"client in use", client_in_use},
+    {"note in use", note_in_use},
+    {"made up", made_up},
+    {"null key", null_key},
+    {"null length", null_length},
+    {"value over key", value_over_key},
+    {"length in value", length_in_value},
+    {"no fault", no_fault},
 };
 
 static void run(const struct fault *fault) {

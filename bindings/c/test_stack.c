@@ -128,10 +128,20 @@ static size_t used_by(void (*call)(void)) {
 }
 
 int main(void) {
-  static const struct { const char *name; void (*call)(void); } calls[] = {
-      {"open", open_cache}, {"put", put}, {"get", get}, {"get_many", get_many}, {"write, delete", write_and_delete},
-      {"hold", hold}, {"note", take_note}, {"count", count}, {"close", close_cache}, {"list", list},
-      {"open, free", open_and_free}};
+  static const struct {
+    const char *name;
+    void (*call)(void);
+  } calls[] = {{"open", open_cache},
+               {"put", put},
+               {"get", get},
+               {"get_many", get_many},
+               {"write, delete", write_and_delete},
+               {"hold", hold},
+               {"note", take_note},
+               {"count", count},
+               {"close", close_cache},
+               {"list", list},
+               {"open, free", open_and_free}};
   size_t bare = used_by(nothing);
   for (size_t i = 0; i < sizeof calls / sizeof *calls; i++) {
     size_t used = used_by(calls[i].call) - bare;

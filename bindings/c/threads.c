@@ -46,7 +46,8 @@ static void *work(void *argument) {
       if (length > 4) value[length - 1] = (uint8_t)(key + length);
       status = segcache_put(client, &key, 4, value, length, now);
       if (status == SEGCACHE_OK) worker->stored++;
-      else if (status == SEGCACHE_BUSY || status == SEGCACHE_NO_ROOM || status == SEGCACHE_BUCKET_FULL) worker->refused++;
+      else if (status == SEGCACHE_BUSY || status == SEGCACHE_NO_ROOM || status == SEGCACHE_BUCKET_FULL)
+        worker->refused++;
       else worker->wrong++;
       break;
     default:

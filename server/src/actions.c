@@ -4,10 +4,25 @@
 #include <string.h>
 
 /* A wish with the caller whose unique versions its editor takes, and what the editor found. */
-struct write_wish { const struct caller *caller; struct write *write; enum answer answer; };
-struct sum_wish { const struct caller *caller; struct sum *sum; enum answer answer; };
-struct touch_wish { uint32_t expires; struct found *found; };
-struct removal_wish { const struct caller *caller; const struct removal *removal; enum answer answer; };
+struct write_wish {
+  const struct caller *caller;
+  struct write *write;
+  enum answer answer;
+};
+struct sum_wish {
+  const struct caller *caller;
+  struct sum *sum;
+  enum answer answer;
+};
+struct touch_wish {
+  uint32_t expires;
+  struct found *found;
+};
+struct removal_wish {
+  const struct caller *caller;
+  const struct removal *removal;
+  enum answer answer;
+};
 
 /* What an edit came to. `answer` is the editor's own, where it had its way. */
 static enum answer answer_of(struct worker *worker, enum edited edited, enum answer answer) {
@@ -76,9 +91,9 @@ enum answer write_item(struct worker *worker, struct word key, struct write *wri
   struct write_wish wish = {&caller, write, DID};
   struct counts *counts = &worker->counts;
   enum finding finding;
-  enum answer answer = write->kind == SET ? set_item(worker, key, write)
-                                          : answer_of(worker, items_edit(&caller, key, edit_write, &wish, &finding),
-                                                      DID);
+  enum answer answer = write->kind == SET
+                           ? set_item(worker, key, write)
+                           : answer_of(worker, items_edit(&caller, key, edit_write, &wish, &finding), DID);
   if (write->kind != SET && answer == DID) answer = wish.answer;
   counts->sets++;
   counts->stored += answer == DID;
@@ -117,10 +132,10 @@ static bool edit_sum(struct found *found, bool present, void *argument) {
   struct sum *sum = wish->sum;
   uint64_t number = 0;
   char digits[DIGITS];
-  wish->answer = !present && !sum->vivifies                                                   ? NOT_FOUND
+  wish->answer = !present && !sum->vivifies                                             ? NOT_FOUND
                  : present && sum->has_unique && unique_of(&found->item) != sum->unique ? EXISTS
-                 : present && !number_of(found, &number)                                     ? NOT_A_NUMBER
-                                                                                              : DID;
+                 : present && !number_of(found, &number)                                ? NOT_A_NUMBER
+                                                                                        : DID;
   if (wish->answer != DID) return false;
   sum->number = !present ? sum->first : sum->up ? number + sum->by : number < sum->by ? 0 : number - sum->by;
   if (write_number(digits, sum->number) > MOST_DATA) {
@@ -201,9 +216,9 @@ enum answer delete_item(struct worker *worker, struct word key) {
 static bool edit_removal(struct found *found, bool present, void *argument) {
   struct removal_wish *wish = argument;
   const struct removal *removal = wish->removal;
-  wish->answer = !present                                                                 ? NOT_FOUND
+  wish->answer = !present                                                            ? NOT_FOUND
                  : removal->has_unique && unique_of(&found->item) != removal->unique ? EXISTS
-                                                                                          : DID;
+                                                                                     : DID;
   if (wish->answer != DID) return false;
   if (removal->marks_stale) {
     renew_item(wish->caller, &found->item);

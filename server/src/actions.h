@@ -6,14 +6,14 @@
 #include "server.h"
 
 enum answer {
-  DID,            /* stored, touched, counted or deleted */
-  NOT_STORED,     /* an add of a key that is there; a replace, append or prepend of one that isn't */
-  EXISTS,         /* the item has another unique version */
+  DID,        /* stored, touched, counted or deleted */
+  NOT_STORED, /* an add of a key that is there; a replace, append or prepend of one that isn't */
+  EXISTS,     /* the item has another unique version */
   NOT_FOUND,
-  NOT_A_NUMBER,   /* an incr or decr of other data */
+  NOT_A_NUMBER, /* an incr or decr of other data */
   DATA_TOO_LARGE,
   NO_ROOM_LEFT,
-  BUSY_KEY,       /* others wrote to the key's bucket all the while */
+  BUSY_KEY, /* others wrote to the key's bucket all the while */
 };
 
 enum kind { SET, ADD, REPLACE, APPEND, PREPEND, CAS };
@@ -24,7 +24,7 @@ struct write {
   const char *data;
   size_t length; /* MOST_DATA at most */
   uint32_t flags, expires;
-  bool has_unique; /* the item has to have this unique version; for CAS always */
+  bool has_unique;   /* the item has to have this unique version; for CAS always */
   bool may_be_stale; /* a CAS with a smaller unique version than the item's stores too, and marks as stale */
   uint64_t unique, stored_unique; /* stored_unique: of the item that was stored */
 };

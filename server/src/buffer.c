@@ -4,8 +4,8 @@
 #include <string.h>
 
 enum {
-  FIRST_ROOM = 16 * 1024,  /* of a buffer, at first */
-  KEPT_ROOM = 256 * 1024,  /* a larger buffer isn't kept as a spare one */
+  FIRST_ROOM = 16 * 1024, /* of a buffer, at first */
+  KEPT_ROOM = 256 * 1024, /* a larger buffer isn't kept as a spare one */
 };
 
 bool buffer_reserve(struct buffer *buffer, size_t more) {

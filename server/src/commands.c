@@ -126,8 +126,7 @@ static bool serve_touch(struct connection *connection, const struct request *req
   int64_t exptime;
   if (!has_words(connection, request, 3, 4)) return true;
   if (!is_key(request->words[1])) return say(connection, request->quiet, BAD_LINE);
-  if (!read_signed(request->words[2], &exptime))
-    return say(connection, request->quiet, BAD_TIME);
+  if (!read_signed(request->words[2], &exptime)) return say(connection, request->quiet, BAD_TIME);
   uint32_t expires = clock_expiry(exptime, connection->worker->now);
   enum answer answer = touch_item(connection->worker, request->words[1], expires, NULL);
   return say(connection, request->quiet, text_of(answer, "TOUCHED"));

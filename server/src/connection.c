@@ -114,7 +114,8 @@ uint32_t connection_serve(struct connection *connection, uint32_t most) {
   struct buffer *input = &connection->input;
   uint32_t served = 0;
   for (size_t took = 1; !connection->closing && took > 0 && served < most && input->done < input->length &&
-                        connection->reply.length < MOST_REPLY; input->done += took) {
+                        connection->reply.length < MOST_REPLY;
+       input->done += took) {
     size_t left = input->length - input->done;
     took = connection->swallow < left ? connection->swallow : left;
     connection->swallow -= took;

@@ -32,7 +32,7 @@ struct connection {
   size_t swallow;  /* bytes of a refused value that are still to come */
   size_t searched; /* so many bytes of what isn't served have no line's end */
   struct getting getting;
-  struct connection *before, *after;  /* among all of its worker */
+  struct connection *before, *after; /* among all of its worker */
   struct connection *waiting_after, *handed_after;
 };
 

@@ -5,8 +5,8 @@
 #include <time.h>
 
 enum {
-  TRIES = 256,      /* of an edit that another write came between */
-  SPINS = 8,        /* of them without a pause */
+  TRIES = 256, /* of an edit that another write came between */
+  SPINS = 8,   /* of them without a pause */
   PAUSE_NS = 50000,
   UNIQUE_BITS = 60,
   SECOND_AT = 32, /* the bit of a unique version where its second begins */
@@ -56,8 +56,7 @@ static enum finding finding_of(const struct caller *caller, const struct item *i
 
 enum finding items_find(const struct caller *caller, struct word key, struct found *found) {
   size_t length = 0;
-  enum store_status status =
-      store_read(caller->client, key, caller->now, &found->item, &length, &found->version);
+  enum store_status status = store_read(caller->client, key, caller->now, &found->item, &length, &found->version);
   found->entry = status == STORE_OK;
   found->length = length < HEADER ? 0 : length - HEADER;
   if (status == STORE_ABSENT) return MISSING;
@@ -66,9 +65,7 @@ enum finding items_find(const struct caller *caller, struct word key, struct fou
 
 /* What goes to the store of an item. */
 static struct store_value value_of(const struct caller *caller, const struct item *item, size_t length) {
-  uint32_t seconds = item->expires == NEVER          ? 0
-                     : item->expires > caller->now ? item->expires - caller->now
-                                                   : 1;
+  uint32_t seconds = item->expires == NEVER ? 0 : item->expires > caller->now ? item->expires - caller->now : 1;
   return (struct store_value){item, HEADER + length, seconds};
 }
 

@@ -10,8 +10,8 @@
 #include <stdatomic.h>
 
 enum {
-  HEADER = 16,                               /* bytes in front of an item's data */
-  MOST_DATA = STORE_MOST_VALUE - HEADER,     /* bytes of an item's data */
+  HEADER = 16,                           /* bytes in front of an item's data */
+  MOST_DATA = STORE_MOST_VALUE - HEADER, /* bytes of an item's data */
 };
 
 /* What the meta protocol marks an item with. */

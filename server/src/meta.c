@@ -8,7 +8,7 @@
 #include <string.h>
 
 enum {
-  MOST_OPAQUE = 31,                                  /* bytes behind O */
+  MOST_OPAQUE = 31,                                 /* bytes behind O */
   MOST_HEAD = 4 * MOST_ALL_KEYS + 8 * (DIGITS + 3), /* of a reply without its value */
 };
 
@@ -25,7 +25,9 @@ struct meta {
 };
 
 /* A reply as it is made up. */
-struct head { char *at, bytes[MOST_HEAD]; };
+struct head {
+  char *at, bytes[MOST_HEAD];
+};
 
 static void put_text(struct head *head, const char *text) {
   size_t length = strlen(text);
@@ -94,7 +96,14 @@ static const char *read_flag(struct meta *meta, struct word flag, uint32_t now) 
   case 'b':
     meta->key = (struct word){meta->decoded, decode_base64(meta->shown, meta->decoded)};
     return meta->key.length > 0 ? NULL : "CLIENT_ERROR error decoding key";
-  case 'k': case 's': case 't': case 'c': case 'f': case 'l': case 'P': case 'L': return NULL;
+  case 'k':
+  case 's':
+  case 't':
+  case 'c':
+  case 'f':
+  case 'l':
+  case 'P':
+  case 'L': return NULL;
   default: return "CLIENT_ERROR invalid flag";
   }
 }
@@ -262,8 +271,8 @@ static bool serve_mset(struct connection *connection, struct meta *meta, struct 
   }
   if (!take_data(request, length, &good)) return false;
   if (!good) return say(connection, false, "CLIENT_ERROR bad data chunk");
-  write = (struct write){write.kind, request->data.at, length, meta->item_flags, meta->expires, meta->has_unique,
-                         meta->stale, meta->unique, 0};
+  write = (struct write){write.kind,  request->data.at, length, meta->item_flags, meta->expires, meta->has_unique,
+                         meta->stale, meta->unique,     0};
   enum answer answer = write_item(worker, meta->key, &write);
   if (is_error(answer)) return say(connection, false, status_of(answer));
   struct head head;
@@ -287,9 +296,15 @@ static bool serve_marithmetic(struct connection *connection, const struct meta *
   static const char modes[] = "I+D-";
   const char *place = meta->mode == '\0' ? modes : strchr(modes, meta->mode);
   if (place == NULL) return say(connection, false, "CLIENT_ERROR invalid mode for ma M token");
-  struct sum sum = {.up = place < modes + 2, .vivifies = meta->vivifies, .has_unique = meta->has_unique,
-                    .sets_expiry = meta->sets_expiry, .by = meta->by, .first = meta->first, .unique = meta->unique,
-                    .expires = meta->expires, .first_expires = meta->first_expires};
+  struct sum sum = {.up = place < modes + 2,
+                    .vivifies = meta->vivifies,
+                    .has_unique = meta->has_unique,
+                    .sets_expiry = meta->sets_expiry,
+                    .by = meta->by,
+                    .first = meta->first,
+                    .unique = meta->unique,
+                    .expires = meta->expires,
+                    .first_expires = meta->first_expires};
   enum answer answer = count_item(connection->worker, meta->key, &sum);
   if (is_error(answer)) return say(connection, false, status_of(answer));
   if (answer != DID) return say_status(connection, meta, status_of(answer), false);

@@ -8,7 +8,7 @@
 #include <stdlib.h>
 #include <string.h>
 
-enum { USUAL_ITEM = 1024 * 1024 };                                      /* bytes, without -I */
+enum { USUAL_ITEM = 1024 * 1024 };                                    /* bytes, without -I */
 enum { KEYS = UCHAR_MAX + 1, TIME_TO_LIVE, KEEP_FROM, IDLE_TIMEOUT }; /* options without a letter */
 
 static const char letters[] = ":p:s:a:l:dP:u:m:c:t:b:R:I:B:U:o:hVvACF";
@@ -163,9 +163,16 @@ static bool take(struct options *options, int option, char *argument) {
 }
 
 enum reading options_read(struct options *options, int count, char **words) {
-  *options = (struct options){.addresses = "127.0.0.1", .socket_mode = 0700, .port = 11211, .megabytes = 64,
-                              .threads = 4, .most_connections = 1024, .backlog = 1024, .commands_a_turn = 256,
-                              .keep_from = STORE_BY_QUEUES, .protocol = "auto-negotiate"};
+  *options = (struct options){.addresses = "127.0.0.1",
+                              .socket_mode = 0700,
+                              .port = 11211,
+                              .megabytes = 64,
+                              .threads = 4,
+                              .most_connections = 1024,
+                              .backlog = 1024,
+                              .commands_a_turn = 256,
+                              .keep_from = STORE_BY_QUEUES,
+                              .protocol = "auto-negotiate"};
   for (int option; (option = getopt_long(count, words, letters, names, NULL)) != -1;) {
     if (option == ':') return bad(words[optind - 1], "needs an argument; -h shows them all");
     if (option == '?') return bad(words[optind - 1], "isn't known; -h shows those that are");

@@ -27,12 +27,12 @@ struct worker {
   struct counts counts;
   uint64_t evicted_before; /* what the client had evicted at the last reset of the counts */
   pthread_t thread;
-  int epoll, wake;      /* wake: an eventfd, for connections that are handed over and for the end */
-  uint32_t now;         /* the moment of this round */
+  int epoll, wake; /* wake: an eventfd, for connections that are handed over and for the end */
+  uint32_t now;    /* the moment of this round */
   struct buffer spare_input, spare_reply;
   pthread_mutex_t handed_lock;
-  struct connection *handed;                     /* accepted, and not yet taken over */
-  struct connection *first, *last;               /* all of this worker, the one that was silent for longest first */
+  struct connection *handed;                       /* accepted, and not yet taken over */
+  struct connection *first, *last;                 /* all of this worker, the one that was silent for longest first */
   struct connection *waiting_first, *waiting_last; /* those with commands left over from their last turn */
   bool stop;
 };

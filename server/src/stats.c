@@ -50,38 +50,78 @@ static uint64_t limit_of(const struct options *options) {
 }
 
 /* What memcached counts of things that this server doesn't have. Programs that watch memcached read them. */
-static const char *const zeros[] = {
-    "auth_cmds", "auth_errors", "listen_disabled_num", "time_in_listen_disabled_us", "hash_is_expanding",
-    "slab_reassign_running", "slabs_moved", "lru_crawler_running", "log_worker_dropped", "log_worker_written",
-    "log_watcher_skipped", "log_watcher_sent", "log_watchers", "expired_unfetched", "evicted_unfetched",
-    "evicted_active", "reclaimed", "lrutail_reflocked", "hash_power_level", "hash_bytes", "lru_crawler_starts",
-    "lru_maintainer_juggles", "crawler_reclaimed", "crawler_items_checked", "direct_reclaims"};
+static const char *const zeros[] = {"auth_cmds",           "auth_errors",
+                                    "listen_disabled_num", "time_in_listen_disabled_us",
+                                    "hash_is_expanding",   "slab_reassign_running",
+                                    "slabs_moved",         "lru_crawler_running",
+                                    "log_worker_dropped",  "log_worker_written",
+                                    "log_watcher_skipped", "log_watcher_sent",
+                                    "log_watchers",        "expired_unfetched",
+                                    "evicted_unfetched",   "evicted_active",
+                                    "reclaimed",           "lrutail_reflocked",
+                                    "hash_power_level",    "hash_bytes",
+                                    "lru_crawler_starts",  "lru_maintainer_juggles",
+                                    "crawler_reclaimed",   "crawler_items_checked",
+                                    "direct_reclaims"};
 
 static void stat_all(struct connection *connection) {
   struct server *server = connection->worker->server;
   struct totals totals = count_all(connection->worker);
   const struct counts *counts = &totals.counts;
-  const struct { const char *name; uint64_t number; } stats[] = {
-      {"max_connections", server->options.most_connections}, {"curr_connections", server->connections},
-      {"total_connections", server->accepted}, {"rejected_connections", server->rejected},
-      {"connection_structures", server->connections}, {"response_obj_oom", counts->reply_refused},
-      {"read_buf_oom", counts->read_refused}, {"malloc_fails", counts->reply_refused + counts->read_refused},
-      {"cmd_get", counts->gets}, {"cmd_set", counts->sets}, {"cmd_flush", counts->flushes},
-      {"cmd_touch", counts->touches}, {"cmd_meta", counts->metas}, {"get_hits", counts->get_hits},
-      {"get_misses", counts->get_misses}, {"get_expired", counts->get_expired}, {"get_flushed", counts->get_flushed},
-      {"delete_misses", counts->delete_misses}, {"delete_hits", counts->delete_hits},
-      {"incr_misses", counts->incr_misses}, {"incr_hits", counts->incr_hits}, {"decr_misses", counts->decr_misses},
-      {"decr_hits", counts->decr_hits}, {"cas_misses", counts->cas_misses}, {"cas_hits", counts->cas_hits},
-      {"cas_badval", counts->cas_bad}, {"touch_hits", counts->touch_hits}, {"touch_misses", counts->touch_misses},
-      {"store_too_large", counts->too_large}, {"store_no_memory", counts->no_memory},
-      {"store_busy", counts->overtaken}, {"bytes_read", counts->read_bytes}, {"bytes_written", counts->written_bytes},
-      {"limit_maxbytes", limit_of(&server->options)}, {"limit_maxkeys", options_keys(&server->options)},
-      {"accepting_conns", 1}, {"threads", server->options.threads}, {"conn_yields", counts->yields},
-      {"idle_kicks", counts->idle_kicks}, {"curr_items", totals.store.items}, {"total_items", counts->stored},
-      {"bytes", totals.store.items * ROW}, {"evictions", totals.store.evicted}, {"kept_items", totals.store.kept},
-      {"refilled_segments", totals.store.segments}, {"used_rows", totals.store.rows},
-      {"overflow_buckets", totals.store.overflow}, {"busy_calls", totals.store.busy},
-      {"full_calls", totals.store.full}, {"most_key_bytes", STORE_MOST_KEY}, {"most_data_bytes", MOST_DATA}};
+  const struct {
+    const char *name;
+    uint64_t number;
+  } stats[] = {{"max_connections", server->options.most_connections},
+               {"curr_connections", server->connections},
+               {"total_connections", server->accepted},
+               {"rejected_connections", server->rejected},
+               {"connection_structures", server->connections},
+               {"response_obj_oom", counts->reply_refused},
+               {"read_buf_oom", counts->read_refused},
+               {"malloc_fails", counts->reply_refused + counts->read_refused},
+               {"cmd_get", counts->gets},
+               {"cmd_set", counts->sets},
+               {"cmd_flush", counts->flushes},
+               {"cmd_touch", counts->touches},
+               {"cmd_meta", counts->metas},
+               {"get_hits", counts->get_hits},
+               {"get_misses", counts->get_misses},
+               {"get_expired", counts->get_expired},
+               {"get_flushed", counts->get_flushed},
+               {"delete_misses", counts->delete_misses},
+               {"delete_hits", counts->delete_hits},
+               {"incr_misses", counts->incr_misses},
+               {"incr_hits", counts->incr_hits},
+               {"decr_misses", counts->decr_misses},
+               {"decr_hits", counts->decr_hits},
+               {"cas_misses", counts->cas_misses},
+               {"cas_hits", counts->cas_hits},
+               {"cas_badval", counts->cas_bad},
+               {"touch_hits", counts->touch_hits},
+               {"touch_misses", counts->touch_misses},
+               {"store_too_large", counts->too_large},
+               {"store_no_memory", counts->no_memory},
+               {"store_busy", counts->overtaken},
+               {"bytes_read", counts->read_bytes},
+               {"bytes_written", counts->written_bytes},
+               {"limit_maxbytes", limit_of(&server->options)},
+               {"limit_maxkeys", options_keys(&server->options)},
+               {"accepting_conns", 1},
+               {"threads", server->options.threads},
+               {"conn_yields", counts->yields},
+               {"idle_kicks", counts->idle_kicks},
+               {"curr_items", totals.store.items},
+               {"total_items", counts->stored},
+               {"bytes", totals.store.items * ROW},
+               {"evictions", totals.store.evicted},
+               {"kept_items", totals.store.kept},
+               {"refilled_segments", totals.store.segments},
+               {"used_rows", totals.store.rows},
+               {"overflow_buckets", totals.store.overflow},
+               {"busy_calls", totals.store.busy},
+               {"full_calls", totals.store.full},
+               {"most_key_bytes", STORE_MOST_KEY},
+               {"most_data_bytes", MOST_DATA}};
   stat_process(connection);
   for (size_t i = 0; i < sizeof stats / sizeof *stats; i++) stat_number(connection, stats[i].name, stats[i].number);
   for (size_t i = 0; i < sizeof zeros / sizeof *zeros; i++) stat_number(connection, zeros[i], 0);
@@ -138,8 +178,10 @@ static void stat_slabs(struct connection *connection) {
 }
 
 bool serve_stats(struct connection *connection, const struct request *request) {
-  static const struct { const char *name; void (*show)(struct connection *); } parts[] = {
-      {"settings", stat_settings}, {"items", stat_items}, {"slabs", stat_slabs}};
+  static const struct {
+    const char *name;
+    void (*show)(struct connection *);
+  } parts[] = {{"settings", stat_settings}, {"items", stat_items}, {"slabs", stat_slabs}};
   struct word part = request->words[1];
   if (request->count == 1) return stat_all(connection), say(connection, false, "END");
   if (word_is(part, "reset")) return reset_all(connection->worker), say(connection, false, "RESET");

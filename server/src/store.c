@@ -110,8 +110,12 @@ void store_count(struct store_client *client, struct store_counts *counts) {
   segcache_index_stats_t table = {0};
   segcache_stats(&client->client, &calls);
   segcache_index_stats(&client->client, &table);
-  *counts = (struct store_counts){
-      .evicted = calls.keys_evicted, .kept = calls.items_kept, .segments = calls.segments_refilled,
-      .busy = calls.busy, .full = calls.no_room + calls.bucket_full,
-      .items = table.named_rows, .rows = table.used_rows, .overflow = table.overflow_buckets};
+  *counts = (struct store_counts){.evicted = calls.keys_evicted,
+                                  .kept = calls.items_kept,
+                                  .segments = calls.segments_refilled,
+                                  .busy = calls.busy,
+                                  .full = calls.no_room + calls.bucket_full,
+                                  .items = table.named_rows,
+                                  .rows = table.used_rows,
+                                  .overflow = table.overflow_buckets};
 }

@@ -7,8 +7,13 @@
 
 int LLVMFuzzerTestOneInput(const uint8_t *data, size_t size);
 
-static struct server server = {.options = {.addresses = "-", .threads = 1, .keys = 64, .most_item = 1024,
-                                           .megabytes = 1, .commands_a_turn = 16, .protocol = "ascii"}};
+static struct server server = {.options = {.addresses = "-",
+                                           .threads = 1,
+                                           .keys = 64,
+                                           .most_item = 1024,
+                                           .megabytes = 1,
+                                           .commands_a_turn = 16,
+                                           .protocol = "ascii"}};
 static struct worker worker;
 
 static void begin(void) {
