@@ -64,6 +64,7 @@ class Results:
     def __init__(self, lines):
         self.figures = {(*self.place(one), one["program"]): one for one in lines if one["kind"] == "figure"}
         self.compared = [one for one in lines if one["kind"] == "comparison"]
+        self.commit = lines[0].get("crates", "")
 
     @staticmethod
     def place(cell):
@@ -156,6 +157,18 @@ def library_table(results):
         by_threads = [sorted(ones, key=lambda one: one["cell"]["keys"]) for ones in by_threads]
         found.append((mix, *(", ".join(f'{1 / one["ratio"]["median"]:.2f}' for one in ones) for ones in by_threads)))
     return found
+
+
+def release_row(version, results, instructions):
+    """The line of a release: ours and the reference, of one turn each, and the instructions of ours."""
+    cells = [version, results.commit]
+    for _, mix, threads in FRONT:
+        place = (mix, "zipf", 100_000, threads, "large", "small")
+        cells.append(", ".join(results.cost(place, name, lambda cost: f'{cost["median"]:.0f}') for name in SHOWN[:2]))
+    counts = {one["mix"]: one["count"] for one in instructions if one["kind"] == "instructions"
+              and one["program"] == "ours" and one["keys"] == 100_000}
+    cells.append(", ".join(f"{counts[mix]:.0f}" for mix in ("gets", "sets", "mixed")))
+    return tuple(cells)
 
 
 def instructions_table(lines):
