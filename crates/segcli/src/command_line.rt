@@ -132,7 +132,7 @@ fn named<'a>(alloc: Global) -> Result<Command<'a>, AllocError>
     ensures { IfOk result (Builds (alone program_rules)) }
 {
     Command::new(alloc, "segrun")
-        .version("0.2.0")
+        .version("0.4.0-dev")
         .about(ABOUT)
         .after_help(AFTER)
         .override_usage("segrun [COMMAND]")

@@ -56,7 +56,7 @@ fn a_writer_that_fails_is_told(rt: HostRuntime) {
             b"item tag=af6 freq=1 seg=2 row=3\n".as_slice(),
         ),
         (["load", "--commands", "0"].as_slice(), NO_TOTALS),
-        (["--version"].as_slice(), b"segrun 0.2.0\n".as_slice()),
+        (["--version"].as_slice(), b"segrun 0.4.0-dev\n".as_slice()),
     ] {
         for room in 0..whole.len() {
             let end = End {
@@ -124,7 +124,7 @@ fn a_flush_that_fails_is_a_fault_of_the_writer(rt: HostRuntime) {
             b"empty\n".as_slice(),
         ),
         (["load", "--commands", "0"].as_slice(), NO_TOTALS),
-        (["--version"].as_slice(), b"segrun 0.2.0\n".as_slice()),
+        (["--version"].as_slice(), b"segrun 0.4.0-dev\n".as_slice()),
     ] {
         let ended = run_with(&rt, words, SCRIPT, devices);
         check_ended(

@@ -159,6 +159,6 @@ fn help_fits_forty_lines(rt: HostRuntime) {
 #[test]
 fn the_version_is_told(rt: HostRuntime) {
     for word in ["--version", "-V"] {
-        check_program(&rt, &[word], b"", writes(b"segrun 0.2.0\n"));
+        check_program(&rt, &[word], b"", writes(b"segrun 0.4.0-dev\n"));
     }
 }

@@ -144,7 +144,7 @@ fn number_of(matches: &ArgMatches<'_>, name: &str) -> u32 {
 
 fn command_line<'a>(alloc: Global) -> Result<Command<'a>, AllocError> {
     let mut command = Command::new(alloc, "segtime")
-        .version("0.2.0")
+        .version("0.4.0-dev")
         .about(ABOUT)
         .after_help(AFTER)
         .no_binary_name(true);

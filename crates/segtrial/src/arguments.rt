@@ -116,7 +116,7 @@ fn number_of(matches: &ArgMatches<'_>, name: &str) -> u32 {
 
 fn command_line<'a>(alloc: Global) -> Result<Command<'a>, AllocError> {
     let mut command = Command::new(alloc, "segtrial")
-        .version("0.2.0")
+        .version("0.4.0-dev")
         .about(ABOUT)
         .long_about(LONG_ABOUT)
         .after_help(AFTER)
