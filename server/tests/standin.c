@@ -59,6 +59,8 @@ static void drop(struct map *map, struct entry *entry) {
   free(entry);
 }
 
+uint32_t segcache_raw_version(void) { return SEGCACHE_VERSION_NUMBER; }
+
 uint32_t segcache_raw_open(uint32_t keys, uint32_t threads, segcache_handle *cache, segcache_handle *clients,
                            size_t clients_len) {
   struct map *map = calloc(1, sizeof *map);
