@@ -223,7 +223,8 @@ static inline uint32_t segcache_hand_out(uint32_t status, segcache_handle made, 
   return status;
 }
 
-/* Makes a cache for so many keys (425,984 at most), and a client for each of so many threads (1 to 64).
+/* Makes a cache for so many keys (425,984 at most), and a client for each of so many threads (1 to 64). Each client
+   stores into its own equal share of the room. So all keys fit if the clients store about as many each.
    It takes all memory at once, but for that of notes and of a close. `cache` and `clients[threads]` are written,
    whatever they were: if they are of a cache that is still open, that one is lost. If the answer is not OK they are
    zeroed, of more than 64 clients the first 64. Answers: OK, BAD_SHAPE, OUT_OF_MEMORY; OTHER_VERSION, if the library
@@ -278,8 +279,8 @@ static inline uint32_t segcache_gets(segcache_client *client, const void *key, s
                                                  value_len, version, now));
 }
 
-/* Gets of several keys, one after another. From 8 keys on their waits for memory overlap, which takes less time than
-   single gets (measured).
+/* Gets of several keys, one after another. From 8 keys on their waits for memory overlap. That takes less time than
+   single gets where those wait for memory, and more where the table fits into the processor's caches (measured).
    Each lookup names its key by key_at and key_len, among the `len` bytes of `keys`. Afterwards it has a status of its
    own, OK, MISS, BUSY or BAD_KEY (also where its bytes aren't all in `keys`), and with OK value and value_len.
    Answers: OK, whatever the lookups have; NO_HANDLE, and they are as they were. */

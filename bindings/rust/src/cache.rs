@@ -55,7 +55,8 @@ pub struct Builder {
 }
 
 impl Builder {
-    /// How many keys the cache is to have room for: 425,984 at most. 10,000 if it isn't said.
+    /// How many keys the cache is to have room for: 425,984 at most. 10,000 if it isn't said. Each client stores
+    /// into its own equal share of the room, so all keys fit if the clients store about as many each.
     #[must_use]
     pub fn keys(mut self, keys: u32) -> Builder {
         self.keys = keys;

@@ -62,7 +62,8 @@
 //! # Ok::<(), Error>(())
 //! ```
 //!
-//! [`Client::get_many`] gets several keys. From 8 keys on their waits for memory overlap.
+//! [`Client::get_many`] gets several keys. From 8 keys on their waits for memory overlap. That takes less time than single
+//! gets where those wait for memory, and more where the table fits into the processor's caches.
 //!
 //! A value that is held reads the same until the hold is dropped, whatever becomes of its key:
 //!
