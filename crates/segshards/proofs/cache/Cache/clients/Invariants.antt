@@ -1,0 +1,13 @@
+use Rattle.std.proofs.Common.{◌≡◌, ◌≤◌, All, vec_len}
+use Rattle.std.specs.Vec.{vec_capacity}
+use Rattle.segshards.specs.Client.{IsNewClient}
+use Rattle.segshards.specs.Shards.{AreOfShards}
+use Rattle.segshards.proofs.cache.Cache.clients.Given as goal
+
+abbrev pub invariant-loop : goal.invariant-loop
+invariant-loop l = record {
+  long : vec_len l.clients ≡ l.counter;
+  room : l.threads ≤ vec_capacity l.clients;
+  are : AreOfShards l.self.shards.items l.lists.items;
+  new : All (IsNewClient l.self.shards.items) l.clients.items;
+}

@@ -1,0 +1,29 @@
+-- Several indexes, the shards of a cache: each key belongs to one of them by its hash.
+use Rattle.std.specs.Prelude.{◌≡◌, ◌≤◌, length, ℕ, ◌*◌, ◌/◌, ◌%◌, ◌^◌, List, All}
+use Rattle.std.specs.List.{AllZip}
+use Rattle.std.specs.Global.{Vec}
+use Rattle.segword.specs.Shape.{HasRoomFor}
+use Rattle.segword.specs.Words.{hash_of, Shape}
+use Rattle.segbase.specs.Words.{Pass}
+use Rattle.segindex.specs.Words.{board_of, Index, shape_of}
+use Rattle.segstore.specs.Words.{IsQuiet}
+
+-- the shard, out of so many, of the keys with this hash: by its bits 20 to 51
+abbrev pub shard_from_hash : ℕ → ℕ → ℕ
+shard_from_hash count hash = hash / 2 ^ 20 % 2 ^ 32 * count / 2 ^ 32
+
+abbrev pub shard_of : ℕ → List ℕ → ℕ
+shard_of count key = shard_from_hash count (hash_of key)
+
+-- there is a list of passes for each shard, and these are between two calls of it
+abbrev pub AreOfShards : List Index → List (Vec Pass) → Type 0
+AreOfShards = AllZip (λ i passes. All (IsQuiet (board_of i)) passes.items)
+
+-- The shards have room for so many keys together, as many each, and each has so many passes.
+pub record HaveRoomFor (keys threads : ℕ) (indexes : List Index) : Type 0 where
+  pub shape : Shape
+  pub each : ℕ
+  pub enough : keys ≤ each * length indexes
+  pub room : HasRoomFor each shape
+  pub passes : shape.passes ≡ threads
+  pub shapes : All (λ i. shape_of i ≡ shape) indexes

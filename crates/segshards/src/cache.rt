@@ -1,0 +1,130 @@
+//! A cache of several indexes, and how it is opened.
+ghost use Rattle.std.specs.Prelude.{◌≡◌, ◌≤◌, All, IfOk, IfSome, vec_len};
+ghost use Rattle.segindex.specs.Words.{shape_of};
+ghost use Rattle.segshards.specs.Shards.{AreOfShards, HaveRoomFor};
+
+use crate::client::Client;
+use crate::shard::MOST_SHARDS;
+use segclient::{Index, MakeFault, Pass, Shape, keep_back};
+use std::alloc::{AllocError, Global};
+
+// So many keys a shard has at most. Its buckets then have four keys each, and few have a chain.
+const KEYS_OF_SHARD: u32 = 262_144;
+
+/// Indexes of one shape, the shards. Each key belongs to one of them by its hash.
+#[derive(Drop)]
+pub struct Cache {
+    pub(crate) shards: Vec<Index>,
+    ghost some: { 1 ≤ vec_len shards },
+    ghost few: { vec_len shards ≤ 16384 },
+}
+
+impl Cache {
+    ghost use Rattle.segshards.specs.Client.{IsNewClient};
+
+    /// A cache in which this number of keys has room to spare, for so many threads,
+    /// and the passes of each of its shards, from which `clients` makes clients.
+    /// If a shard can't be opened, those before it are dropped.
+    pub fn for_keys(
+        alloc: Global,
+        keys: u32,
+        threads: u32,
+    ) -> Result<(Cache, Vec<Vec<Pass>>), MakeFault>
+        ensures passes { IfOk result (λ made. AreOfShards made.0.shards.items made.1.items) }
+        ensures room { IfOk result (λ made. HaveRoomFor keys threads made.0.shards.items) }
+    {
+        let count = keys.div_ceil(KEYS_OF_SHARD).max(1);
+        let shape = match Shape::for_keys(keys.div_ceil(count), threads) {
+            Ok(shape) => shape,
+            Err(fault) => return Err(MakeFault::Shape(fault)),
+        };
+        Cache::of_shards(alloc, shape, count)
+    }
+
+    /// A cache of so many shards of this shape, opened one after another, and the passes of each.
+    /// If a shard can't be opened, those before it are dropped.
+    pub fn of_shards(
+        alloc: Global,
+        shape: Shape,
+        count: u32,
+    ) -> Result<(Cache, Vec<Vec<Pass>>), MakeFault>
+        requires some { 1 ≤ count }
+        requires few { count ≤ MOST_SHARDS }
+        ensures passes { IfOk result (λ made. AreOfShards made.0.shards.items made.1.items) }
+        ensures count { IfOk result (λ made. vec_len made.0.shards ≡ count) }
+        ensures shapes { IfOk result (λ made.
+            All (λ i. shape_of i ≡ shape) made.0.shards.items) }
+    {
+        let Ok(mut shards) = Vec::with_capacity(alloc, count as usize) else {
+            return Err(MakeFault::OutOfMemory);
+        };
+        let Ok(mut lists) = Vec::with_capacity(alloc, count as usize) else {
+            return Err(MakeFault::OutOfMemory);
+        };
+        for _ in 0..count {
+            let (index, passes) = Index::new(alloc, shape)?;
+            shards.push_reserved(index);
+            lists.push_reserved(passes);
+        }
+        Ok((Cache { shards }, lists))
+    }
+
+    /// How many shards there are.
+    pub fn count(&self) -> usize
+        ensures { result ≡ vec_len self.now.shards }
+    {
+        self.shards.len()
+    }
+
+    /// A client for each thread, as long as each shard has a pass left.
+    /// Its clients of the shards are as `segclient::Client::with_queues` makes them.
+    /// If memory is refused, the passes are gone.
+    pub fn clients<'c>(
+        &'c self,
+        alloc: Global,
+        lists: Vec<Vec<Pass>>,
+    ) -> Result<Vec<Client<'c>>, AllocError>
+        requires passes { AreOfShards self.now.shards.items lists.items }
+        ensures each { IfOk result (λ clients.
+            All (IsNewClient self.now.shards.items) clients.items) }
+    {
+        let mut lists = lists;
+        let threads = lists[0].len();
+        let mut clients = Vec::with_capacity(alloc, threads)?;
+        for _ in 0..threads {
+            let Some(client) = self.client(alloc, &mut lists)? else {
+                break;
+            };
+            clients.push_reserved(client);
+        }
+        Ok(clients)
+    }
+
+    // A client of one pass of each shard, or None if a shard has no pass left.
+    fn client<'c>(
+        &'c self,
+        alloc: Global,
+        lists: &mut Vec<Vec<Pass>>,
+    ) -> Result<Option<Client<'c>>, AllocError>
+        requires passes { AreOfShards self.now.shards.items lists.old.items }
+        ensures passes { AreOfShards self.now.shards.items lists.new.items }
+        ensures client { IfOk result (λ found.
+            IfSome found (IsNewClient self.now.shards.items)) }
+    {
+        let mut shards = Vec::with_capacity(alloc, self.shards.len())?;
+        for place in 0..self.shards.len() {
+            let index = &self.shards[place];
+            let Some(pass) = keep_back(index, &mut lists[place]) else {
+                return Ok(None);
+            };
+            let shard = segclient::Client::with_queues(alloc, index, pass)?;
+            shards.push_reserved(shard);
+        }
+        Ok(Some(Client {
+            shards,
+            indexes: self.shards.as_slice(),
+            clock: 0,
+            holds: None,
+        }))
+    }
+}

@@ -1,0 +1,60 @@
+//! A client of all shards, and how it reads.
+ghost use Rattle.std.specs.Prelude.{◌≤◌, vec_len};
+
+use crate::shard::shard_of;
+use segclient::{GetAnswer, GetsAnswer, Index, Key};
+use segword::hash;
+
+/// A client of each shard of a cache, for one thread at a time, with one clock.
+///
+/// A call on a key is the call of the same name by the client of the key's shard.
+/// The clock stands still until the caller sets it.
+#[derive(Drop)]
+pub struct Client<'c> {
+    pub(crate) shards: Vec<segclient::Client<'c>>,
+    // The indexes of these, for looks ahead.
+    pub(crate) indexes: &'c [Index],
+    // The moment for which calls are made.
+    pub(crate) clock: u32,
+    // The shard in which it holds an item.
+    pub(crate) holds: Option<usize>,
+    ghost some: { 1 ≤ vec_len shards },
+    ghost few: { vec_len shards ≤ 16384 },
+}
+
+impl<'c> Client<'c> {
+    ghost use Rattle.std.specs.Prelude.{◌≡◌, ◌<◌, length};
+    ghost use Rattle.segclient.specs.Made.{Gets, GetsVersion};
+    ghost use Rattle.segshards.specs.Client.{MakesCall};
+    ghost use Rattle.segshards.specs.Shards.{shard_of};
+
+    // The place of the key's shard.
+    #[inline(always)]
+    pub(crate) fn place_of(&self, key: &Key) -> usize
+        ensures shard { result ≡ shard_of (length self.now.shards.items) key.now }
+        ensures within { result < length self.now.shards.items }
+    {
+        shard_of(hash(key), self.shards.len())
+    }
+
+    /// The value under a key.
+    #[inline(always)]
+    pub fn get(&mut self, key: &Key) -> GetAnswer
+        ensures reads { MakesCall key.now (Gets key.now result) self.old self.new }
+    {
+        let place = self.place_of(key);
+        let shard = &mut self.shards[place];
+        shard.set_now(self.clock);
+        shard.get(key)
+    }
+
+    /// The value under a key, with the version of the key's bucket, for a later compare-and-swap.
+    pub fn gets(&mut self, key: &Key) -> GetsAnswer
+        ensures reads { MakesCall key.now (GetsVersion key.now result) self.old self.new }
+    {
+        let place = self.place_of(key);
+        let shard = &mut self.shards[place];
+        shard.set_now(self.clock);
+        shard.gets(key)
+    }
+}

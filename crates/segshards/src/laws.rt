@@ -1,0 +1,11 @@
+//! What calls on keys of several shards have to do with one another.
+//! This function does nothing: its contract is the theorem.
+ghost use Rattle.segshards.specs.Locality.{CallsAreInOneOrder};
+
+/// Any calls of any passes of all shards, in any run, stand in one order: each comes at a point
+/// between its first step and its return, each answer is there what a cache of one thread answers
+/// with the history of the call's shard, and none comes before one that had returned
+/// when it began. In each shard it is the order of the shard's history.
+pub fn locality()
+    ensures { CallsAreInOneOrder }
+{}

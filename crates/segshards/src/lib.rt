@@ -1,0 +1,25 @@
+//! A cache of more keys than one index takes: several indexes, the shards, and each key belongs to
+//! one of them by its hash. A thread's client has a client of each shard, and a call on a key
+//! is one call of the client of the key's shard.
+#![tactic(auto)]
+
+mod cache;
+mod client;
+mod closing;
+mod hold;
+mod laws;
+mod many;
+mod note;
+mod settings;
+mod shard;
+mod stats;
+mod write;
+
+pub use cache::Cache;
+pub use client::Client;
+pub use laws::locality;
+pub use segclient::{
+    DeleteAnswer, GetAnswer, GetsAnswer, Hold, HoldAnswer, Index, IndexStats, Key, MakeFault, Note,
+    Pass, PutAnswer, Shape, ShapeFault, Stats, Value, WriteAnswer,
+};
+pub use shard::MOST_SHARDS;
