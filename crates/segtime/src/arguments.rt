@@ -15,6 +15,7 @@ const AFTER: &str = "Mixes:
                         and an add, a replace or a cas
   a, b, c               as in YCSB: 50, 95 and 100 of a hundred are gets, and the others sets
   f                     as in YCSB: half are gets, and half a gets and a cas of what it read
+  fetches               a get, and a put if it missed
   gets16, mixed16       gets and mixed, sixteen keys at hand at a time: by get_many, and after a
                         look ahead
   gets16apart, mixed16apart  the same keys at hand, one command after another
@@ -44,10 +45,13 @@ const WORDS: [(&str, &[&str], &str, &str); 5] = [
 ];
 
 // Options with a number: the least, the most, the default, and the help.
-const NUMBERS: [(&str, i64, i64, &str, &str); 7] = [
-    ("keys", 1, 600_000, "10000", "Keys: 1 to 600000"),
+const NUMBERS: [(&str, i64, i64, &str, &str); 10] = [
+    ("keys", 1, 4_000_000, "10000", "Keys: 1 to 4000000"),
     ("threads", 1, 64, "1", "Threads: 1 to 64"),
+    ("buckets", 0, 65_536, "0", BUCKETS),
+    ("overflow", 0, 65_536, "0", OVERFLOW),
     ("segments", 0, 1024, "0", SEGMENTS),
+    ("rows", 0, 4096, "0", ROWS),
     ("commands", 1, 100_000_000, "150000", COMMANDS),
     ("rounds", 1, MOST, "5", "How often they make them"),
     ("seed", 0, MOST, "0", "What the draws begin with"),
@@ -58,6 +62,12 @@ const SHAPE: &str = "Large: no write needs room for long; planned: as Shape::for
 
 const KEEP: &str =
     "What puts keep when they make room: by two queues, as clients begin, or nothing";
+
+const BUCKETS: &str = "A power of two; 0 for two keys each, at most 65536";
+
+const OVERFLOW: &str = "Overflow buckets; 0 for as many as buckets";
+
+const ROWS: &str = "Of a segment; 0 for 4096";
 
 const SEGMENTS: &str = "Segments of each thread; 0 for 1024 of all, at most 256 of one";
 
@@ -93,7 +103,10 @@ pub struct Options {
     pub is_planned: bool,
     /// Whether puts keep what was got again.
     pub keeps: bool,
+    pub buckets: u32,
+    pub overflow: u32,
     pub segments: u32,
+    pub rows: u32,
     /// How many commands each thread makes in a round.
     pub commands: u32,
     pub rounds: u32,
@@ -124,7 +137,10 @@ fn options_of(matches: &ArgMatches<'_>) -> Options {
         threads: number_of(matches, "threads"),
         is_planned: matches.get_str("shape") == Some("planned"),
         keeps: matches.get_str("keep") != Some("nothing"),
+        buckets: number_of(matches, "buckets"),
+        overflow: number_of(matches, "overflow"),
         segments: number_of(matches, "segments"),
+        rows: number_of(matches, "rows"),
         commands: number_of(matches, "commands"),
         rounds: number_of(matches, "rounds"),
         seed: number_of(matches, "seed"),

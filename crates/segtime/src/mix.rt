@@ -10,6 +10,7 @@ pub const MIXES: &[&str] = &[
     "b",
     "c",
     "f",
+    "fetches",
     "gets16",
     "mixed16",
     "gets16apart",
@@ -47,6 +48,7 @@ pub fn way_named(name: &str) -> Way {
 pub enum Mix {
     Sets,
     Replaces,
+    Fetches,
     Mixed,
     /// So many of a hundred commands are gets, and the others sets.
     Shared(u32),
@@ -66,6 +68,8 @@ pub enum Kind {
     Delete,
     /// A gets and, if it found its key, a cas with the version that it found.
     Modify,
+    /// A get, and a put if it missed.
+    Fetch,
 }
 
 /// The mix of one of the names.
@@ -77,6 +81,7 @@ pub fn mix_named(name: &str) -> Mix {
         "b" => Mix::Shared(95),
         "gets" | "c" | "gets16" | "gets16apart" => Mix::Shared(100),
         "f" => Mix::Modifying(50),
+        "fetches" => Mix::Fetches,
         _ => Mix::Mixed,
     }
 }
@@ -89,6 +94,7 @@ impl Mix {
             Mix::Sets | Mix::Shared(_) => Kind::Set,
             Mix::Modifying(_) => Kind::Modify,
             Mix::Replaces => Kind::Replace,
+            Mix::Fetches => Kind::Fetch,
             Mix::Mixed => mixed(draw),
         }
     }

@@ -28,6 +28,9 @@ const VALUES: u32 = 64;
 /// How many segments all threads have together, where no option sets it.
 const SEGMENTS: u32 = 1024;
 
+/// How many rows a segment has, where no option sets it.
+const ROWS: u32 = 4096;
+
 /// How often it is looked whether all threads are there. Then they begin without those that aren't.
 const LOOKS: u32 = 1 << 16;
 
@@ -39,16 +42,25 @@ fn shape_of(options: &Options) -> Result<Shape, ShapeFault> {
     if options.is_planned {
         return Shape::for_keys(options.keys, options.threads);
     }
-    let buckets = (options.keys / 2).min(65_536).next_power_of_two();
+    let buckets = match options.buckets {
+        0 => (options.keys / 2).min(65_536).next_power_of_two(),
+        buckets => buckets,
+    };
     Ok(Shape {
         buckets,
-        overflow: buckets,
+        overflow: match options.overflow {
+            0 => buckets,
+            overflow => overflow,
+        },
         passes: options.threads,
         segments_each: match options.segments {
             0 => SEGMENTS / options.threads.max(4),
             segments => segments,
         },
-        rows: 4096,
+        rows: match options.rows {
+            0 => ROWS,
+            rows => rows,
+        },
         first_version: 0,
     })
 }

@@ -180,6 +180,7 @@ impl<'i> Worker<'i> {
                 .count_write(set_answer(self.client.put(key, value))),
             Kind::Delete => self.tally.count_delete(self.client.delete(key)),
             Kind::Modify => self.modify(key, value),
+            Kind::Fetch => self.fetch(key, value),
             kind => {
                 let told = self.write(kind, key, value);
                 self.tally.count_write(told);
@@ -197,6 +198,18 @@ impl<'i> Worker<'i> {
         } else {
             self.tally.count_gets(&told);
         }
+    }
+
+    // A get, and a put if it missed. They count as one: as a miss, unless the put was refused.
+    fn fetch(&mut self, key: &Key, value: &Value) {
+        let told = self.client.get(key);
+        if let GetAnswer::Miss = &told {
+            match set_answer(self.client.put(key, value)) {
+                WriteAnswer::Stored => {}
+                refused => return self.tally.count_write(refused),
+            }
+        }
+        self.tally.count_get(&told);
     }
 
     // A gets, whose version is kept for the next cas.
