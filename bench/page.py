@@ -5,7 +5,7 @@ from collections import defaultdict
 from itertools import product
 
 # Programs, mixes, keys, threads, shapes and pages. Keys are drawn both ways.
-PEERS = ["reference", "absl_spin", "dashmap", "tbb", "libcuckoo", "urcu"]
+PEERS = ["reference", "lru_spin", "absl_spin", "dashmap", "tbb", "libcuckoo", "urcu"]
 PAGE = [
     (PEERS, ["mixed", "b"], [64, 100_000, 400_000], [1, 2, 4], ["large"], ["small"]),
     ([*PEERS, "absl_prefetch"], ["gets16", "mixed16"], [100_000, 400_000], [1, 2, 4], ["large"], ["small"]),
@@ -32,6 +32,11 @@ ROWS = [
 FRONT = [("mixed, 1", "mixed", 1), ("mixed, 4", "mixed", 4), ("16 gets, 1", "gets16", 1), ("16 gets, 4", "gets16", 4)]
 # The programs of the tables of times.
 SHOWN = ["ours", "reference", "absl_spin", "dashmap"]
+# Those of README.md, by the names that it has for them.
+FRONT_SHOWN = {"ours": "this index", "lru_spin": "LRU, spin locks", "reference": "C++, same layout",
+               "absl_spin": "Abseil, spin locks", "dashmap": "DashMap"}
+# The order of the caches in their tables. What runs in a JVM stands last.
+CACHES = ["ours", "ours_c", "lru_spin", "lru_mutex", "tbb_lru", "rust_lru", "s3fifo", "caffeine"]
 # The cells of the latencies that the page shows.
 TIMED = [("mixed", 4), ("b", 4)]
 # Beside the reference ours is to cost at most so many times as much.
@@ -89,14 +94,14 @@ class Results:
 
 def front_table(results, through_c):
     """The table of README.md: medians, told as tied where the quartiles overlap with ours."""
-    names = ("this index", "through C", "C++, same layout", "Abseil, spin locks", "DashMap")
-    found = [("Nanoseconds a command: threads", *names)]
+    names = list(FRONT_SHOWN.values())
+    found = [("Nanoseconds a command: threads", names[0], "through C", *names[1:])]
     for label, mix, threads in FRONT:
         place = (mix, "zipf", 100_000, threads, "large", "small")
         here = [one for one in results.compared if Results.place(one["cell"]) == place]
         open_beside = {one["beside"] for one in here if not one["is_claimed"]}
         ours, *others = [results.cost(place, name, lambda cost: f'{cost["median"]:.0f}')
-                         + (" (tied)" if name in open_beside else "") for name in SHOWN]
+                         + (" (tied)" if name in open_beside else "") for name in FRONT_SHOWN]
         from_c = through_c.beside("ours_c", mix=[mix], threads=[threads], keys=[100_000])
         times = f'× {1 / from_c[0]["ratio"]["median"]:.2f}' if from_c else "unmeasured"
         found.append((label, ours, times, *others))
@@ -182,6 +187,51 @@ def instructions_table(lines):
     for program, by_place in counts.items():
         found.append((program, *(by_place.get(place, "") for place in places)))
     return found
+
+
+def caches_tables(lines, is_timed=True):
+    """The index beside other caches: where each miss evicts, and with room for all keys, if that was measured."""
+    figures = [one for one in lines if one["kind"] == "figure"]
+    names = [name for name in CACHES if any(one["program"] == name for one in figures)]
+    evicting = [one for one in figures if one["room"] or one["bytes"]]
+    usual = [one for one in figures if not (one["room"] or one["bytes"])]
+    tables = [evicting_table(evicting, names, is_timed)]
+    return tables + ([usual_table(usual, names)] if usual else [])
+
+
+def evicting_table(figures, names, is_timed):
+    """By equal items and equal bytes: costs by threads, and hit rates on these threads."""
+    threads = sorted({one["threads"] for one in figures})
+    on = ", ".join(map(str, threads))
+    costs = [f"ns on {count}" for count in threads] if is_timed else []
+    found = [("Where each miss evicts", "Items", *costs, f"hits in %, on {on}", "Items in equal bytes", *costs, "hits")]
+    for name in names:
+        row = [name]
+        for equal in ("room", "bytes"):
+            ones = {one["threads"]: one for one in figures if one["program"] == name and one[equal]}
+            row.append(", ".join(f"{room:,}" for room in dict.fromkeys(one["room_had"] for one in ones.values())))
+            row += [ranged(ones[count]["process_ns"]) for count in threads if is_timed]
+            row.append(", ".join(f'{100 * ones[count]["hits"]["median"]:.1f}' for count in threads))
+        found.append(tuple(row))
+    return found
+
+
+def usual_table(figures, names):
+    """A row for each mix, keys and threads, and a column for each cache that can do them."""
+    by_cell = defaultdict(dict)
+    for one in figures:
+        by_cell[one["mix"], one["keys"], one["threads"]][one["program"]] = ranged(one["process_ns"])
+    names = [name for name in names if any(name in costs for costs in by_cell.values())]
+    found = [("With room for all", "Keys", "Threads", *names)]
+    for (mix, keys, threads), costs in by_cell.items():
+        found.append((mix, f"{keys:,}", threads, *(costs.get(name, "") for name in names)))
+    return found
+
+
+def markdown(rows):
+    """The lines of a table, whose first row is the head."""
+    lines = ["| " + " | ".join(map(str, row)) + " |" for row in rows]
+    return [lines[0].replace("  ", " "), "|---" * len(rows[0]) + "|", *(line.replace("  ", " ") for line in lines[1:])]
 
 
 def data(lines):

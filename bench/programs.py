@@ -34,9 +34,13 @@ class Cell:
     threads: int
     shape: str = "large"
     pages: str = "small"
+    # How many items a cache has room for, or how many bytes it may take. If both are 0 all keys have room.
+    room: int = 0
+    bytes: int = 0
 
     def __str__(self):
         more = [word for word, usual in ((self.shape, "large"), (self.pages, "small")) if word != usual]
+        more += [f"{number:,} {what}" for number, what in ((self.room, "items"), (self.bytes, "bytes")) if number]
         return ", ".join([self.mix, self.draw, f"{self.keys:,} keys", f"{self.threads} threads", *more])
 
 
@@ -50,6 +54,8 @@ class Sample:
     hits: float
     busy: float
     full: float
+    # What the store takes once it is filled, if the program says that.
+    bytes_taken: float | None = None
     # Latencies, if commands were timed one by one.
     p50_ns: float | None = None
     p99_ns: float | None = None
@@ -67,6 +73,8 @@ class Program:
     pkg_config: str | None = None
     # The only mixes that are made of it, if it isn't of all.
     mixes: tuple[str, ...] = ()
+    # The folder of `peers` with what it is in Rust.
+    crate: str | None = None
 
     def path(self):
         return OUT / self.name
@@ -79,8 +87,8 @@ class Program:
             libraries = list(self.libraries)
             if self.pkg_config:
                 libraries += shlex.split(output("pkg-config", "--libs", self.pkg_config))
-            if self.name == "dashmap":
-                build_dashmap()
+            if self.crate:
+                build_crate(self.crate)
             run_quietly([*COMPILER, BENCH / self.source, "-o", self.path(), *libraries])
         except (OSError, subprocess.CalledProcessError) as fault:
             needs = f"; it needs the package {self.package}" if self.package else ""
@@ -103,11 +111,50 @@ def check_reference():
     run_quietly([check])
 
 
-def build_dashmap():
-    target = OUT / "dashmap_library"
-    run_quietly(["cargo", "build", "--release", "--offline", "--jobs", "2", "--target-dir", target],
-                folder=BENCH / "peers/dashmap")
+def library_of(crate):
+    return OUT / f"{crate}_library/release/lib{crate}_peer.a"
 
+
+def build_crate(crate):
+    run_quietly(["cargo", "build", "--release", "--offline", "--jobs", "2", "--target-dir", OUT / f"{crate}_library"],
+                folder=BENCH / "peers" / crate)
+
+
+class Caffeine(Program):
+    """The programs in Java over Caffeine: the measure, and for `bench/hits` the replay of a trace."""
+
+    JAR = "/usr/share/java/caffeine.jar"
+
+    def build(self):
+        sources = sorted((BENCH / self.source).glob("*.java"))
+        classes = OUT / "caffeine_classes"
+        try:
+            if not Path(self.JAR).exists():
+                raise OSError(f"no {self.JAR}")
+            if not is_up_to_date(self.path(), self.source):
+                run_quietly(["javac", "-Xlint:all", "-cp", self.JAR, "-d", classes, *sources])
+                for program, main in (("caffeine", "Measure"), ("caffeine_replay", "Replay")):
+                    made = OUT / program
+                    made.write_text(f'#!/bin/sh\nexec java -Xmx1g -cp {self.JAR}:{shlex.quote(str(classes))} {main} "$@"\n')
+                    made.chmod(0o755)
+        except (OSError, subprocess.CalledProcessError) as fault:
+            return f"{first_line(fault)}; it needs the packages {self.package} and default-jdk-headless"
+        return None
+
+
+def build_ristretto():
+    """None, or why the replay over ristretto couldn't be built. Debian has it as a package, for builds without modules."""
+    words = ["go", "build", "-o", OUT / "ristretto_replay", "replay.go"]
+    environment = {**os.environ, "GO111MODULE": "off", "GOPATH": "/usr/share/gocode", "GOCACHE": str(OUT / "go"), "GOFLAGS": ""}
+    try:
+        run_quietly(words, folder=BENCH / "peers/ristretto", environment=environment)
+    except (OSError, subprocess.CalledProcessError) as fault:
+        return f"{first_line(fault)}; it needs the packages golang-go and golang-github-dgraph-io-ristretto-dev"
+    return None
+
+
+CAFFEINE = Caffeine("caffeine", "peers/caffeine", "libcaffeine-java",
+                    mixes=("sets", "replaces", "gets", "mixed", "a", "b", "c", "f", "fetches"))
 
 PROGRAMS = [
     Program("reference", "reference/reference.cpp"),
@@ -119,17 +166,25 @@ PROGRAMS = [
     Program("tbb", "peers/tbb.cpp", "libtbb-dev", ("-ltbb",)),
     Program("libcuckoo", "peers/libcuckoo.cpp", "libcuckoo-dev"),
     Program("urcu", "peers/urcu.cpp", "liburcu-dev", ("-lurcu", "-lurcu-cds", "-lurcu-common")),
-    Program("dashmap", "peers/dashmap.cpp", "librust-dashmap-dev",
-            (str(OUT / "dashmap_library/release/libdashmap_peer.a"), "-ldl")),
+    Program("dashmap", "peers/dashmap.cpp", "librust-dashmap-dev", (str(library_of("dashmap")), "-ldl"), crate="dashmap"),
+    Program("lru_spin", "peers/lru_spin.cpp", "libabsl-dev", pkg_config="absl_flat_hash_map"),
+    Program("lru_mutex", "peers/lru_mutex.cpp", "libabsl-dev", pkg_config="absl_flat_hash_map"),
+    Program("tbb_lru", "peers/tbb_lru.cpp", "libtbb-dev", ("-ltbb",), mixes=("fetches",)),
+    Program("rust_lru", "peers/rust_lru.cpp", "librust-lru-dev", (str(library_of("caches")), "-ldl"), crate="caches"),
+    Program("s3fifo", "peers/s3fifo.cpp", "librust-lru-dev", (str(library_of("caches")), "-ldl"), crate="caches"),
+    CAFFEINE,
 ]
+
+# Those that evict. `bench/caches` measures them.
+CACHES = ("lru_spin", "lru_mutex", "tbb_lru", "rust_lru", "s3fifo", "caffeine")
 
 
 def output(*words):
     return subprocess.run(words, check=True, capture_output=True, text=True).stdout.strip()
 
 
-def run_quietly(words, folder=None):
-    subprocess.run(words, check=True, capture_output=True, text=True, cwd=folder)
+def run_quietly(words, folder=None, environment=None):
+    subprocess.run(words, check=True, capture_output=True, text=True, cwd=folder, env=environment)
 
 
 def first_line(fault):
@@ -178,14 +233,69 @@ def planned_sizes(ours, keys, threads):
     return output(ours, "--print-shape", "--shape", "planned", "--keys", str(keys), "--threads", str(threads)).split()
 
 
+# The index where it has room for less than all keys: segments of all threads, and what its clients take for each row and
+# each segment beside the 64 and the 8 bytes of the index.
+SEGMENTS = 128
+ROW_BYTES, SEGMENT_BYTES = 3, 16
+
+
+def index_sizes(room, threads):
+    """Buckets, overflow buckets, segments of a thread and rows, of an index with so many rows or a few less."""
+    buckets = min(1 << (room // 8).bit_length(), 65_536)
+    segments = max(4, SEGMENTS // threads)
+    return buckets, min(buckets * 5 // 4, 65_536), segments, max(1, room // (threads * segments))
+
+
+def index_bytes(sizes, threads):
+    buckets, overflow, segments, rows = sizes
+    return 8 + 64 * (buckets + overflow) + threads * segments * (8 + SEGMENT_BYTES + rows * (64 + ROW_BYTES))
+
+
+def has_room(low, high, fits):
+    """The largest room for which that is so, from one that is known to do up to one that isn't, to a part in 500."""
+    while high - low > max(1, low // 500):
+        middle = (low + high) // 2
+        low, high = (middle, high) if fits(middle) else (low, middle)
+    return low
+
+
+@cache
+def room_within(path, most):
+    """The largest room with which a cache takes so many bytes, once it has evicted as many items as it holds."""
+    def fits(room):
+        words = [path, "fetches", "uniform", 2 * room, 1, 1, 0, room]
+        return rounds_of(list(map(str, words)), 1, "small")[0]["bytes"] <= most
+
+    return has_room(1, most // 16, fits)
+
+
+def room_of(name, paths, cell):
+    """How many items a program has room for; 0 for all keys."""
+    if not cell.bytes:
+        return cell.room
+    if name in CACHES:
+        return room_within(paths[name], cell.bytes)
+    return has_room(1, cell.bytes // 16, lambda room: index_bytes(index_sizes(room, cell.threads), cell.threads) <= cell.bytes)
+
+
 def words_for(name, paths, cell, effort):
     """The command line of a run. Ours has options, and the programs of `common` have places."""
+    room = room_of(name, paths, cell)
+    sizes = index_sizes(room, cell.threads) if room else ()
     if name != "ours":
-        sizes = planned_sizes(paths["ours"], cell.keys, cell.threads) if cell.shape == "planned" else []
-        return [paths[name], cell.mix, cell.draw, cell.keys, cell.threads, effort.times, effort.every, *sizes]
+        if cell.shape == "planned":
+            sizes = planned_sizes(paths["ours"], cell.keys, cell.threads)
+        places = (effort.times, effort.every, room, *(() if name in CACHES else sizes))
+        return [paths[name], cell.mix, cell.draw, cell.keys, cell.threads, *places]
+    options = zip(("--buckets", "--overflow", "--segments", "--rows"), sizes)
     return [paths[name], "--mix", cell.mix, "--draws", cell.draw, "--keys", cell.keys, "--threads", cell.threads,
-            "--shape", cell.shape, "--commands", effort.times, "--rounds", effort.rounds, "--format", "json", "--wait",
-            "--sample", effort.every]
+            "--shape", cell.shape, "--commands", effort.times, "--rounds", effort.warm + effort.rounds, "--format", "json",
+            "--wait", "--sample", effort.every, *(word for option in options for word in option)]
+
+
+def warm_rounds(name, effort):
+    """The rounds that don't count: three times as many for Java, which compiles what it has run for a while."""
+    return effort.warm * (3 if name == CAFFEINE.name else 1)
 
 
 @dataclass(frozen=True)
@@ -195,12 +305,14 @@ class Effort:
     times: int
     rounds: int
     every: int = 0
+    # Rounds before those that count.
+    warm: int = 0
 
 
 def sample(name, paths, cell, effort):
     """One run of a program: medians of its rounds, and shares of all their commands."""
     words = [str(word) for word in words_for(name, paths, cell, effort)]
-    lines = rounds_of(words, effort.rounds, cell.pages)
+    lines = rounds_of(words, warm_rounds(name, effort) + effort.rounds, cell.pages)[-effort.rounds :]
     commands = sum(line["commands"] for line in lines)
 
     def share(name):
@@ -216,6 +328,7 @@ def sample(name, paths, cell, effort):
         hits=share("hits"),
         busy=share("busy"),
         full=share("full"),
+        bytes_taken=middle("bytes"),
         p50_ns=middle("p50_ns"),
         p99_ns=middle("p99_ns"),
         p999_ns=middle("p99.9_ns"),

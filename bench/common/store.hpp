@@ -19,7 +19,7 @@ enum class Answer {
 
 enum class Write : int { Set, Add, Replace, Cas };
 
-// How large an index is. The other stores take as many keys as there are.
+// How large an index is.
 struct Sizes {
     std::uint32_t buckets;
     std::uint32_t overflow;
@@ -33,7 +33,18 @@ struct Plan {
     std::uint32_t keys;
     unsigned threads;
     Sizes sizes;
+    // How many items a cache has room for; 0 for all keys. An index goes by its sizes, and a map takes all keys.
+    std::uint32_t room = 0;
 };
+
+// The room of one of so many shards of a cache. Shards that have room for all keys together have some over, since they
+// don't get the same number of keys each.
+inline std::uint32_t room_of_shard(const Plan& plan, std::uint32_t number, std::uint32_t count) {
+    if (plan.room == 0) {
+        return count == 1 ? plan.keys : plan.keys / count * 5 / 4 + 16;
+    }
+    return std::max(1u, plan.room / count + (number < plan.room % count));
+}
 
 // Up to 65,536 buckets, with two keys for each where there are fewer, and as many overflow buckets;
 // 1,024 segments of 4,096 rows, or 256 for each of up to four threads.

@@ -60,14 +60,14 @@ private:
     std::vector<std::uint64_t> sums_;
 };
 
-enum class Kind { Get, Gets, Set, Add, Replace, Cas, Delete, Modify };
+enum class Kind { Get, Gets, Set, Add, Replace, Cas, Delete, Modify, Fetch };
 
-// What the commands of a mix are.
-enum class Mix { Sets, Replaces, Gets, Mixed, A, B, C, F, Gets16, Mixed16, Gets16Apart, Mixed16Apart };
+// What the commands of a mix are. A fetch is a get, and a put if it missed.
+enum class Mix { Sets, Replaces, Gets, Mixed, A, B, C, F, Fetches, Gets16, Mixed16, Gets16Apart, Mixed16Apart };
 
 inline std::optional<Mix> mix_named(std::string_view name) {
-    constexpr std::string_view names[] = {"sets", "replaces", "gets",   "mixed",   "a",           "b",
-                                          "c",    "f",        "gets16", "mixed16", "gets16apart", "mixed16apart"};
+    constexpr std::string_view names[] = {"sets", "replaces", "gets",   "mixed",   "a",           "b",           "c",
+                                          "f",    "fetches",  "gets16", "mixed16", "gets16apart", "mixed16apart"};
     const auto found = std::find(std::begin(names), std::end(names), name);
     return found == std::end(names) ? std::nullopt : std::optional(static_cast<Mix>(found - std::begin(names)));
 }
@@ -90,6 +90,7 @@ inline Kind kind_of(Mix mix, std::uint32_t draw) {
         case Mix::A: return draw % 100 < 50 ? Kind::Get : Kind::Set;
         case Mix::B: return draw % 100 < 95 ? Kind::Get : Kind::Set;
         case Mix::F: return draw % 100 < 50 ? Kind::Get : Kind::Modify;
+        case Mix::Fetches: return Kind::Fetch;
         case Mix::Mixed:
         case Mix::Mixed16:
         case Mix::Mixed16Apart: break;
@@ -256,6 +257,7 @@ private:
             case Kind::Replace: return client_.write(Write::Replace, key, value, 0);
             case Kind::Cas: return client_.write(Write::Cas, key, value, version_);
             case Kind::Delete: return client_.remove(key);
+            case Kind::Fetch: return fetch(key, value, draw);
             case Kind::Modify: break;
         }
         const Answer answer = gets(key, draw);
@@ -269,6 +271,25 @@ private:
             tally.add(found);
         }
         return answer;
+    }
+
+    // A get, and a put if it missed. A client that does both by one call says whether the key was found.
+    Answer fetch(const Key& key, const Value& value, std::uint32_t draw) {
+        if constexpr (requires(Value & found) { client_.fetch(key, value, found); }) {
+            Value found;
+            const Answer answer = client_.fetch(key, value, found);
+            if (answer == Answer::Hit) {
+                tally.add(found);
+            }
+            return answer;
+        } else {
+            const Answer answer = get(key, draw);
+            if (answer != Answer::Miss) {
+                return answer;
+            }
+            const Answer put = client_.write(Write::Set, key, value, 0);
+            return put == Answer::Hit ? Answer::Miss : put;
+        }
     }
 
     Answer gets(const Key& key, std::uint32_t draw) {

@@ -3,34 +3,14 @@
 #pragma once
 
 #include "../common/store.hpp"
+#include "spin_lock.hpp"
 
-#include <atomic>
 #include <cstddef>
 #include <memory>
 #include <mutex>
-#include <thread>
 #include <vector>
 
 namespace bench {
-
-// A lock that spins, and gives up the processor after a while.
-class SpinLock {
-public:
-    void lock() {
-        for (unsigned tries = 0; is_taken_.exchange(true, std::memory_order_acquire); ++tries) {
-            while (is_taken_.load(std::memory_order_relaxed)) {
-                if (++tries % 256 == 0) {
-                    std::this_thread::yield();
-                }
-            }
-        }
-    }
-
-    void unlock() { is_taken_.store(false, std::memory_order_release); }
-
-private:
-    std::atomic<bool> is_taken_ = false;
-};
 
 // One that prefetches does so without the locks. That is a race, and so the most that a user could do.
 template <class Map, class Lock, std::size_t count, bool prefetches = false>

@@ -2,66 +2,13 @@
 //! DashMap behind calls of C, so that the same driver measures it as the other stores.
 //! The types and the rules of writes are those of `bench/common`.
 
+#[path = "../../../common/bytes.rs"]
+mod bytes;
+
+use bytes::{Entry, Fnv, Key, Value, Write};
 use dashmap::mapref::entry::Entry as Slot;
 use dashmap::DashMap;
-use std::hash::{BuildHasherDefault, Hash, Hasher};
-
-#[repr(C)]
-#[derive(Clone, Copy, PartialEq, Eq)]
-pub struct Key {
-    bytes: [u8; 24],
-    length: u8,
-}
-
-#[repr(C)]
-#[derive(Clone, Copy)]
-pub struct Value {
-    bytes: [u8; 32],
-    length: u8,
-}
-
-#[repr(C)]
-#[derive(Clone, Copy)]
-pub struct Entry {
-    value: Value,
-    version: u32,
-}
-
-#[repr(C)]
-#[derive(Clone, Copy)]
-pub enum Write {
-    Set,
-    Add,
-    Replace,
-    Cas,
-}
-
-impl Hash for Key {
-    fn hash<H: Hasher>(&self, state: &mut H) {
-        state.write(&self.bytes[..usize::from(self.length)]);
-    }
-}
-
-/// 64-bit FNV-1a.
-pub struct Fnv(u64);
-
-impl Default for Fnv {
-    fn default() -> Fnv {
-        Fnv(0xcbf2_9ce4_8422_2325)
-    }
-}
-
-impl Hasher for Fnv {
-    fn write(&mut self, bytes: &[u8]) {
-        for byte in bytes {
-            self.0 = (self.0 ^ u64::from(*byte)).wrapping_mul(0x100_0000_01b3);
-        }
-    }
-
-    fn finish(&self) -> u64 {
-        self.0
-    }
-}
+use std::hash::BuildHasherDefault;
 
 pub type Map = DashMap<Key, Entry, BuildHasherDefault<Fnv>>;
 
@@ -88,21 +35,17 @@ pub extern "C" fn dashmap_get(map: &Map, key: &Key, found: &mut Entry) -> bool {
 pub extern "C" fn dashmap_write(map: &Map, write: Write, key: &Key, value: &Value, expected: u32) -> bool {
     match map.entry(*key) {
         Slot::Occupied(mut slot) => {
-            let version = slot.get().version;
-            let is_allowed = match write {
-                Write::Set | Write::Replace => true,
-                Write::Add => false,
-                Write::Cas => version == expected,
-            };
+            let is_allowed = write.is_allowed(Some(slot.get()), expected);
             if is_allowed {
-                slot.insert(Entry { value: *value, version: version.wrapping_add(1) });
+                let entry = Entry::after(Some(slot.get()), value);
+                slot.insert(entry);
             }
             is_allowed
         }
         Slot::Vacant(slot) => {
-            let is_allowed = matches!(write, Write::Set | Write::Add);
+            let is_allowed = write.is_allowed(None, expected);
             if is_allowed {
-                slot.insert(Entry { value: *value, version: 1 });
+                slot.insert(Entry::after(None, value));
             }
             is_allowed
         }
