@@ -163,11 +163,37 @@ impl Bucket {
             if state.is_done(thread) || is_cut_off {
                 add(&mut self.states, state.returned(thread))?;
             }
-            if !state.is_done(thread) {
+            if state.is_done(thread) {
+                self.take_out(&state, thread, pending)?;
+            } else {
                 self.go_on(&state, pending)?;
             }
         }
         Err(Fault::TooMany)
+    }
+
+    // Adds the states in which the thread's call took one key more out of its segment.
+    fn take_out(
+        &mut self,
+        state: &State,
+        thread: usize,
+        pending: &Pending,
+    ) -> Result<(), AllocError> {
+        let Some(Some(operation)) = pending.get(thread) else {
+            return Ok(());
+        };
+        if !operation.is_of(self.number) || operation.taken().is_none() {
+            return Ok(());
+        }
+        for key in 0..KEYS {
+            if state.is_done(thread) && !operation.clears(key) {
+                continue;
+            }
+            if let Some(next) = state.without(thread, key, operation) {
+                add(&mut self.seen, settled(next, self.number, pending))?;
+            }
+        }
+        Ok(())
     }
 
     // Adds the states that one more call leads to from this one.
@@ -176,17 +202,11 @@ impl Bucket {
             let Some(operation) = operation else {
                 continue;
             };
-            if state.is_done(thread) || !operation.is_of(self.number) {
-                continue;
-            }
-            if operation.taken().is_some() {
-                for key in 0..KEYS {
-                    if let Some(next) = state.without(thread, key, operation) {
-                        add(&mut self.seen, settled(next, self.number, pending))?;
-                    }
-                }
-            }
-            if operation.is_cut_off(self.number) {
+            self.take_out(state, thread, pending)?;
+            if state.is_done(thread)
+                || !operation.is_of(self.number)
+                || operation.is_cut_off(self.number)
+            {
                 continue;
             }
             if let Some(next) = state.after(thread, operation) {

@@ -340,6 +340,19 @@ impl Operation {
         self.taken().is_some() && self.emptied().is_none() && !self.ends_in(number)
     }
 
+    /// Whether the operation can take this key of its own bucket out after it was taken there.
+    /// A put that stored another key clears a segment then.
+    pub(crate) fn clears(&self, key: usize) -> bool {
+        match self {
+            Operation::Put {
+                key: stored,
+                ended: PutEnd::Stored(_),
+                ..
+            } => *stored != key,
+            _ => false,
+        }
+    }
+
     /// Whether the operation can set the bit of this bucket. Keys of these segments can stand there.
     pub(crate) fn sets_bit(&self, number: usize, stood: u64) -> bool {
         match self {

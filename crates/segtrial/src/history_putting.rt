@@ -88,36 +88,42 @@ macro_rules! gets {
 const PUTTER: [Line; 4] = [
     (0, 1, put!(0, 0, 0, 1, 0)),
     (2, 3, put!(0, 1, 0, 2, 0)),
-    (8, 11, put!(0, 0, 1, 3, 1)),
-    (20, 21, gets!(None, Some(3), Some(4))),
+    (8, 13, put!(0, 0, 1, 3, 1)),
+    (22, 23, gets!(None, Some(3), Some(4))),
 ];
 
 // Pass 1 puts key 2 of bucket 0.
-const OTHER: [Line; 7] = [
+const OTHER: [Line; 8] = [
     (4, 5, put!(1, 0, 2, 4, 0)),
     (6, 7, get!(0, Some(1))),
     // While pass 0 evicts and puts.
     (9, 10, get!(0, Some(1))),
-    (12, 13, get!(0, None)),
-    (14, 15, in_bucket_1!(Some(2))),
-    (16, 17, get!(1, Some(3))),
-    (18, 19, get!(2, Some(4))),
+    (11, 12, get!(0, Some(1))),
+    (14, 15, get!(0, None)),
+    (16, 17, in_bucket_1!(Some(2))),
+    (18, 19, get!(1, Some(3))),
+    (20, 21, get!(2, Some(4))),
 ];
 
-const LEGAL: [Row; 5] = [
+const LEGAL: [Row; 6] = [
     ("as it is", Ok(()), &[]),
     (
         "a key that was evicted before the put stored",
         Ok(()),
-        &[(9, get!(0, None))],
+        &[(9, get!(0, None)), (11, get!(0, None))],
+    ),
+    (
+        "a key that was evicted after the put stored",
+        Ok(()),
+        &[(9, get!(1, Some(3)))],
     ),
     (
         "a put that evicted the key of the other bucket",
         Ok(()),
         &[
-            (12, get!(0, Some(1))),
-            (14, in_bucket_1!(None)),
-            (20, gets!(Some(1), Some(3), Some(4))),
+            (14, get!(0, Some(1))),
+            (16, in_bucket_1!(None)),
+            (22, gets!(Some(1), Some(3), Some(4))),
         ],
     ),
     (
@@ -125,8 +131,8 @@ const LEGAL: [Row; 5] = [
         Ok(()),
         &[
             (8, refused!(NoRoom, 1)),
-            (16, get!(1, None)),
-            (20, gets!(None, None, Some(4))),
+            (18, get!(1, None)),
+            (22, gets!(None, None, Some(4))),
         ],
     ),
     (
@@ -139,48 +145,57 @@ const LEGAL: [Row; 5] = [
                     recycled: recycled!(0, 1),
                 },
             ),
-            (16, get!(1, None)),
-            (20, gets!(None, None, Some(4))),
+            (18, get!(1, None)),
+            (22, gets!(None, None, Some(4))),
         ],
     ),
 ];
 
 // Each has the return of the first call that can't be explained.
-const ALTERED: [Row; 10] = [
+const ALTERED: [Row; 11] = [
     (
         "a key that an evict took out of another pass's segment",
-        Err(Fault::NoOrder(19)),
-        &[(18, get!(2, None))],
+        Err(Fault::NoOrder(21)),
+        &[(20, get!(2, None))],
     ),
     (
         "the old value once a put has returned",
-        Err(Fault::NoOrder(13)),
-        &[(8, put!(0, 0, 0, 3, 0)), (12, get!(0, Some(1)))],
+        Err(Fault::NoOrder(15)),
+        &[(8, put!(0, 0, 0, 3, 0)), (14, get!(0, Some(1)))],
     ),
     (
         "a put that evicted one key more than it counted",
-        Err(Fault::NoOrder(13)),
+        Err(Fault::NoOrder(15)),
         &[(8, put!(0, 0, 1, 3, 0))],
     ),
     (
         "a put that evicted one key fewer than it counted",
-        Err(Fault::NoOrder(15)),
+        Err(Fault::NoOrder(17)),
         &[(8, put!(0, 0, 1, 3, 2))],
     ),
     (
         "a put that evicted more keys than stood",
-        Err(Fault::NoOrder(11)),
+        Err(Fault::NoOrder(13)),
         &[(8, put!(0, 0, 1, 3, 3))],
     ),
     (
         "a put that evicted a key of each bucket, and counted one",
-        Err(Fault::NoOrder(21)),
-        &[(14, in_bucket_1!(None))],
+        Err(Fault::NoOrder(23)),
+        &[(16, in_bucket_1!(None))],
+    ),
+    (
+        "a put that evicted the key that it stored",
+        Err(Fault::NoOrder(19)),
+        &[
+            (14, get!(0, Some(1))),
+            (18, get!(1, None)),
+            (22, gets!(Some(1), None, Some(4))),
+        ],
     ),
     (
         "a put that wasn't made",
-        Err(Fault::NoOrder(17)),
-        &[(16, get!(1, None))],
+        Err(Fault::NoOrder(19)),
+        &[(18, get!(1, None))],
     ),
     (
         "a put that is Busy with nobody at the bucket",
@@ -194,8 +209,8 @@ const ALTERED: [Row; 10] = [
     ),
     (
         "a Miss of a present key among several gets",
-        Err(Fault::NoOrder(21)),
-        &[(20, gets!(None, Some(3), None))],
+        Err(Fault::NoOrder(23)),
+        &[(22, gets!(None, Some(3), None))],
     ),
 ];
 
