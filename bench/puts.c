@@ -1,13 +1,15 @@
 // SPDX-License-Identifier: MIT
-/* Times each put of a full cache: what the puts that make room cost beside the others, by policy and shape.
+/* Times each put of a full cache: what puts cost that make room, by load, shape and number of threads.
  *
  *     make -C bindings/c                          (after bindings/archive)
  *     cc -O2 bench/puts.c bindings/c/out/libsegcache.a -pthread -lm -o bench/out/puts
  *     bench/out/puts [--processor] [PUTS]
  *
- * One thread gets keys by Zipf's law with the exponent 0.99, and puts each that is missed. There are six keys a row.
- * Puts are counted once each segment was refilled twice. A put made room if the client's counts then show a segment
- * that was refilled, an item that was kept or a key that was evicted. The counts are read outside the timed part.
+ * Each thread has a client of its own. By "zipf" it gets keys by Zipf's law with the exponent 0.99, six for each row,
+ * and puts each that is missed. By "read twice" it puts new keys only, and gets each twice: the most work, since all
+ * that is cleared was read. Puts are timed once each row was used twice.
+ *
+ * "Rows" is the most rows of one put that were kept or evicted, by the client's counts.
  *
  * Times are of the processor's time stamp counter, read between fences, with the cost of the reading taken off.
  * Interruptions are in them. With --processor they are of the thread's processor time, for a machine that is busy:
@@ -17,6 +19,8 @@
 #include "../bindings/c/segcache.h"
 
 #include <math.h>
+#include <pthread.h>
+#include <stdbool.h>
 #include <stdio.h>
 #include <stdlib.h>
 #include <time.h>
@@ -24,12 +28,21 @@
 
 enum { KEYS_A_ROW = 6, SEED = 42 };
 
-typedef struct policy {
+/* What the threads do. */
+typedef struct load {
     const char* name;
-    int cutoff; /* 0 keeps nothing; less leaves the client as it starts */
-} policy;
+    bool is_twice; /* new keys only, each read twice */
+    int cutoff;    /* 0 keeps nothing; less leaves the client as it starts */
+} load;
 
-static const policy policies[] = {{"as it starts", -1}, {"keep_from(3)", 3}, {"keep_nothing", 0}};
+static const load loads[] = {{"zipf", false, -1}, {"read twice", true, -1}, {"zipf, keep_nothing", false, 0}};
+
+/* A cache: of a shape, or as it is opened for so many keys. */
+typedef struct plan {
+    const char* name;
+    uint32_t keys, threads; /* as for segcache_open, if there are keys */
+    segcache_shape shape;
+} plan;
 
 typedef struct samples {
     uint64_t* ticks;
@@ -86,10 +99,8 @@ typedef struct place {
     uint32_t other;
 } place;
 
-static uint64_t state;
-
-static uint64_t next_random(void) {
-    uint64_t mixed = state += 0x9e3779b97f4a7c15u;
+static uint64_t next_random(uint64_t* state) {
+    uint64_t mixed = *state += 0x9e3779b97f4a7c15u;
     mixed = (mixed ^ mixed >> 30) * 0xbf58476d1ce4e5b9u;
     mixed = (mixed ^ mixed >> 27) * 0x94d049bb133111ebu;
     return mixed ^ mixed >> 31;
@@ -120,13 +131,11 @@ static place* zipf_table(uint32_t keys) {
     return table;
 }
 
-static uint32_t draw(const place* table, uint32_t keys) {
-    uint64_t random = next_random();
+static uint32_t draw(const place* table, uint32_t keys, uint64_t* state) {
+    uint64_t random = next_random(state);
     uint32_t at = (uint32_t)((random >> 32) * keys >> 32);
     return (double)(uint32_t)random < table[at].part * 4294967296.0 ? at : table[at].other;
 }
-
-/* --- The cells --- */
 
 static int by_size(const void* left, const void* right) {
     uint64_t a = *(const uint64_t*)left, b = *(const uint64_t*)right;
@@ -139,101 +148,138 @@ static double ns_at(const samples* of, double share) {
     return (double)(ticks > reading ? ticks - reading : 0) * ns_a_tick;
 }
 
-static void print_row(const segcache_shape* shape, const char* name, const char* puts, samples* of) {
-    double sum = 0;
-    size_t i;
-    if (of->count == 0) return;
-    qsort(of->ticks, of->count, sizeof *of->ticks, by_size);
-    for (i = 0; i < of->count; i++) sum += (double)of->ticks[i];
-    printf("| %u x %u | %s | %s | %zu | %.0f | %.0f | %.0f | %.0f | %.0f |\n", shape->segments_each, shape->rows, name,
-           puts, of->count, ns_at(of, 0.5), ns_at(of, 0.99), ns_at(of, 0.999), ns_at(of, 1),
-           (sum / (double)of->count - (double)reading) * ns_a_tick);
-}
+/* --- A thread --- */
 
-/* Counts of what the client's puts came to, for those that are timed. */
-typedef struct totals {
-    segcache_stats_t begun, ended;
-    uint64_t gets, refused;
-} totals;
+typedef struct worker {
+    segcache_client* client;
+    const load* load;
+    const place* table;
+    uint32_t keys;
+    size_t puts;
+    samples timed; /* none while the cache is filled */
+    uint64_t state, fresh, refused, rows;
+} worker;
 
-static void print_totals(const totals* of, size_t puts, size_t rooms) {
-    const segcache_stats_t *a = &of->begun, *b = &of->ended;
-    double each = rooms ? (double)rooms : 1;
-    printf("<!-- %.2f %% of %llu gets hit; %zu puts, %zu with room made, %llu refused; a put with room made: "
-           "%.2f refilled, %.1f kept, %.1f evicted -->\n",
-           100.0 * (double)(b->hits - a->hits) / (double)of->gets, (unsigned long long)of->gets, puts, rooms,
-           (unsigned long long)of->refused, (double)(b->segments_refilled - a->segments_refilled) / each,
-           (double)(b->items_kept - a->items_kept) / each, (double)(b->keys_evicted - a->keys_evicted) / each);
-}
-
-/* Gets keys and puts those that are missed, so many, and times each put if there are samples for it. */
-static void drive(segcache_client* client, const place* table, uint32_t keys, size_t puts, samples* made,
-                  samples* other, totals* total) {
-    segcache_stats_t before, after;
+/* The next key that is to be put: one that was missed, or a new one. */
+static uint64_t next_key(worker* own) {
     char value[SEGCACHE_MAX_VALUE];
-    size_t length, done = 0;
-    segcache_stats(client, &before);
-    total->begun = before;
-    while (done < puts) {
-        uint64_t key = draw(table, keys), begun, ended;
-        uint32_t status;
-        total->gets++;
-        if (segcache_get(client, &key, sizeof key, 0, value, sizeof value, &length) != SEGCACHE_MISS) continue;
-        begun = tick();
-        status = segcache_put(client, &key, sizeof key, "0123456789abcdef", 16, 0);
+    size_t length;
+    uint64_t key;
+    if (own->load->is_twice) return own->fresh++;
+    do key = draw(own->table, own->keys, &own->state);
+    while (segcache_get(own->client, &key, sizeof key, 0, value, sizeof value, &length) != SEGCACHE_MISS);
+    return key;
+}
+
+static void read_twice(worker* own, uint64_t key) {
+    char value[SEGCACHE_MAX_VALUE];
+    size_t length;
+    segcache_get(own->client, &key, sizeof key, 0, value, sizeof value, &length);
+    segcache_get(own->client, &key, sizeof key, 0, value, sizeof value, &length);
+}
+
+static uint64_t rows_of(const segcache_stats_t* stats) { return stats->items_kept + stats->keys_evicted; }
+
+static void* drive(void* given) {
+    worker* own = given;
+    segcache_stats_t before, after;
+    size_t done;
+    segcache_stats(own->client, &before);
+    for (done = 0; done < own->puts; done++) {
+        uint64_t key = next_key(own), begun = tick(), ended;
+        uint32_t status = segcache_put(own->client, &key, sizeof key, "0123456789abcdef", 16, 0);
         ended = tick();
-        done++;
-        total->refused += status != SEGCACHE_OK;
-        if (!made) continue;
-        segcache_stats(client, &after);
-        samples* of = after.segments_refilled != before.segments_refilled || after.items_kept != before.items_kept ||
-                              after.keys_evicted != before.keys_evicted
-                          ? made
-                          : other;
-        of->ticks[of->count++] = ended - begun;
+        if (own->load->is_twice) read_twice(own, key);
+        if (!own->timed.ticks) continue;
+        own->refused += status != SEGCACHE_OK;
+        own->timed.ticks[own->timed.count++] = ended - begun;
+        segcache_stats(own->client, &after);
+        if (rows_of(&after) - rows_of(&before) > own->rows) own->rows = rows_of(&after) - rows_of(&before);
         before = after;
     }
-    segcache_stats(client, &total->ended);
+    return NULL;
 }
 
-static void measure(const segcache_shape* shape, const policy* by, size_t puts) {
-    segcache cache;
-    segcache_client client;
-    samples made = {malloc(puts * sizeof(uint64_t)), 0}, other = {malloc(puts * sizeof(uint64_t)), 0};
-    uint32_t rows = shape->segments_each * shape->rows, keys = KEYS_A_ROW * rows;
-    place* table = zipf_table(keys);
-    totals warm = {0}, total = {0};
-    if (!made.ticks || !other.ticks) fail("no memory");
-    state = SEED;
-    if (segcache_open_shape(shape, &cache, &client) != SEGCACHE_OK) fail("the cache can't be opened");
-    if (by->cutoff >= 0) segcache_keep_from(&client, (uint32_t)by->cutoff);
-    drive(&client, table, keys, 2 * (size_t)rows, NULL, NULL, &warm);
-    drive(&client, table, keys, puts, &made, &other, &total);
-    print_row(shape, by->name, "made room", &made);
-    print_row(shape, by->name, "others", &other);
-    print_totals(&total, puts, made.count);
+/* --- The cells --- */
+
+enum { MOST_THREADS = 4 };
+
+static void run_all(worker* workers, uint32_t count) {
+    pthread_t threads[MOST_THREADS];
+    uint32_t i;
+    for (i = 0; i < count; i++)
+        if (pthread_create(&threads[i], NULL, drive, &workers[i]) != 0) fail("no thread");
+    for (i = 0; i < count; i++) pthread_join(threads[i], NULL);
+}
+
+static void print_row(const plan* of, const load* by, const worker* workers, samples* all) {
+    segcache_stats_t stats;
+    uint64_t refused = 0, rows = 0, hits = 0, gets = 0;
+    double sum = 0;
+    size_t i;
+    qsort(all->ticks, all->count, sizeof *all->ticks, by_size);
+    for (i = 0; i < all->count; i++) sum += (double)all->ticks[i];
+    for (i = 0; i < of->threads; i++) {
+        segcache_stats(workers[i].client, &stats);
+        hits += stats.hits, gets += stats.hits + stats.misses, refused += workers[i].refused;
+        if (workers[i].rows > rows) rows = workers[i].rows;
+    }
+    printf("| %s | %u | %s | %.0f | %.0f | %.0f | %.0f | %.0f | %llu | %.2f | %llu |\n", of->name, of->threads,
+           by->name, ns_at(all, 0.5), ns_at(all, 0.999), ns_at(all, 0.9999), ns_at(all, 1),
+           (sum / (double)all->count - (double)reading) * ns_a_tick, (unsigned long long)rows,
+           100.0 * (double)hits / (double)(gets ? gets : 1), (unsigned long long)refused);
     fflush(stdout);
-    segcache_give_back(&cache, &client);
+}
+
+static void measure(const plan* of, const load* by, size_t puts) {
+    segcache cache;
+    segcache_client clients[MOST_THREADS];
+    worker workers[MOST_THREADS] = {{0}};
+    uint32_t each = of->keys ? 2 * of->keys / of->threads : of->shape.segments_each * of->shape.rows;
+    uint32_t keys = KEYS_A_ROW * each * of->threads, i;
+    size_t share = puts / of->threads;
+    place* table = by->is_twice ? NULL : zipf_table(keys);
+    samples all = {malloc(share * of->threads * sizeof(uint64_t)), 0};
+    uint32_t status = of->keys ? segcache_open(of->keys, of->threads, &cache, clients)
+                               : segcache_open_shape(&of->shape, &cache, clients);
+    if (!all.ticks) fail("no memory");
+    if (status != SEGCACHE_OK) fail("the cache can't be opened");
+    for (i = 0; i < of->threads; i++) {
+        workers[i] =
+            (worker){.client = &clients[i], .load = by, .table = table, .keys = keys, .puts = 2 * (size_t)each};
+        workers[i].state = SEED + i, workers[i].fresh = (uint64_t)i << 40;
+        if (by->cutoff >= 0) segcache_keep_from(&clients[i], (uint32_t)by->cutoff);
+    }
+    run_all(workers, of->threads);
+    for (i = 0; i < of->threads; i++) workers[i].puts = share, workers[i].timed.ticks = all.ticks + i * share;
+    run_all(workers, of->threads);
+    all.count = share * of->threads;
+    print_row(of, by, workers, &all);
+    for (i = 0; i < of->threads; i++) segcache_give_back(&cache, &clients[i]);
     segcache_free(&cache);
-    free(table), free(made.ticks), free(other.ticks);
+    free(table), free(all.ticks);
 }
 
 int main(int count, char** words) {
-    /* The second is as segcache_open(100000, 1) plans it, but for twice the overflow buckets: no bucket is full then, and
-     room is made for rows alone. */
-    static const segcache_shape small = {16384, 16384, 1, 128, 448, 0}, planned = {32768, 65536, 1, 64, 3125, 0};
-    size_t puts = 1000000, i;
+    /* Of shapes there are overflow buckets enough that no bucket is full, so that room is made for rows alone. */
+    static const plan plans[] = {
+        {"128 x 448", 0, 1, {16384, 16384, 1, 128, 448, 0}},
+        {"128 x 448", 0, 4, {65536, 65536, 4, 128, 448, 0}},
+        {"64 x 3125", 0, 1, {32768, 65536, 1, 64, 3125, 0}},
+        {"for 100,000 keys", 100000, 1, {0}},
+        {"for 400,000 keys", 400000, 4, {0}},
+    };
+    size_t puts = 3000000, i, j;
     int at = 1;
     if (at < count && strcmp(words[at], "--processor") == 0) by_processor = 1, at++;
     if (at < count && (puts = strtoul(words[at], NULL, 10)) == 0) fail("usage: puts [--processor] [PUTS]");
     calibrate();
     printf("Nanoseconds a put, by %s; a reading took %.0f.\n\n",
            by_processor ? "processor time" : "the time stamp counter", (double)reading * ns_a_tick);
-    printf("| Segments x rows | Policy | Puts that | Count | Median | 99 %% | 99.9 %% | Largest | Mean |\n"
-           "|---|---|---|---|---|---|---|---|---|\n");
-    for (i = 0; i < sizeof policies / sizeof *policies; i++) {
-        measure(&small, &policies[i], puts);
-        measure(&planned, &policies[i], puts);
-    }
+    printf("| Segments x rows | Threads | Load | Median | 99.9 %% | 99.99 %% | Largest | Mean | Rows | Hits in %% | "
+           "Refused |\n"
+           "|---|---|---|---|---|---|---|---|---|---|---|\n");
+    for (i = 0; i < sizeof loads / sizeof *loads; i++)
+        for (j = 0; j < sizeof plans / sizeof *plans; j++) measure(&plans[j], &loads[i], puts);
     return 0;
 }
