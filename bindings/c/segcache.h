@@ -113,7 +113,7 @@ typedef struct segcache_note_t {
 
 /* The size of a cache. segcache_open makes one up from a number of keys. Each bucket, overflow bucket and row takes
    64 bytes, and each segment 8: 512 MiB at most, and twice that for a moment while it is opened. Clients take 3 bytes
-   more for each row, and 16 for each segment. */
+   more for each row, and 12 for each segment. */
 typedef struct segcache_shape {
   uint32_t buckets;       /* a power of two, 65536 at most; a bucket has words for 7 keys */
   uint32_t overflow;      /* overflow buckets, 65536 at most, each for 6 keys more of one bucket */
