@@ -33,6 +33,24 @@ impl Seekers {
     }
 }
 
+/// A key that is looked for: its tag, and the bucket of its chain that comes next.
+#[derive(Clone, Copy, Debug)]
+pub struct Seeker {
+    tag: u16,
+    bucket: u32,
+}
+
+/// What the words of a seeker's bucket lead to.
+#[derive(Clone, Copy, Debug)]
+pub enum Lead {
+    /// The item of a word with the key's tag.
+    Item(Item),
+    /// The next bucket of the chain.
+    Bucket(Seeker),
+    /// The chain ends here.
+    Nothing,
+}
+
 impl Board {
     /// Loads the words that commands on these keys will read: of each key the buckets of its
     /// chain, up to a word with the key's tag, and the row that this word names.
@@ -90,22 +108,49 @@ impl Board {
         }
     }
 
-    /// Whether the chain of a hash's bucket has a word with the hash's tag. As of a look ahead,
-    /// nothing follows from it.
-    pub fn may_have(&self, hash: u64) -> bool {
-        let tag = tag_of(hash);
-        let mut bucket = self.bucket_at(hash);
+    /// The item of a word with the hash's tag in the chain of the hash's bucket. As of a look
+    /// ahead, nothing follows from it.
+    pub fn item_like(&self, hash: u64) -> Option<Item> {
+        let mut seeker = self.seeker(hash);
         for _ in 0..CHAIN_BUCKETS {
-            let (found, last) = self.words_of(bucket, tag);
-            if found != 0 {
-                return true;
-            }
-            match self.chained_to(last) {
-                Some(next) => bucket = next,
-                None => return false,
+            match self.follow_one(seeker) {
+                Lead::Item(item) => return Some(item),
+                Lead::Bucket(next) => seeker = next,
+                Lead::Nothing => return None,
             }
         }
-        false
+        None
+    }
+
+    /// A key of this hash, at the first bucket of its chain.
+    #[inline(always)]
+    pub fn seeker(&self, hash: u64) -> Seeker {
+        Seeker {
+            tag: tag_of(hash),
+            bucket: self.bucket_at(hash),
+        }
+    }
+
+    /// Loads the ends of the seeker's bucket.
+    #[inline(always)]
+    pub fn load(&self, seeker: Seeker) {
+        self.load_bucket(seeker.bucket);
+    }
+
+    /// Where the words of the seeker's bucket lead to.
+    #[inline(always)]
+    pub fn follow_one(&self, seeker: Seeker) -> Lead {
+        let (found, last) = self.words_of(seeker.bucket, seeker.tag);
+        if let Some(item) = Item::unpack(found) {
+            return Lead::Item(item);
+        }
+        match self.chained_to(last) {
+            Some(bucket) => Lead::Bucket(Seeker {
+                tag: seeker.tag,
+                bucket,
+            }),
+            None => Lead::Nothing,
+        }
     }
 
     // No board lacks buckets, but nothing here needs that.
@@ -126,9 +171,14 @@ impl Board {
     // So do those of a row, which this word names.
     #[inline(always)]
     fn load_row(&self, word: u64) {
-        let Some(item) = Item::unpack(word) else {
-            return;
-        };
+        if let Some(item) = Item::unpack(word) {
+            self.load_item(item);
+        }
+    }
+
+    /// Loads the ends of the item's row.
+    #[inline(always)]
+    pub fn load_item(&self, item: Item) {
         if self.has_row(item.seg, item.row) {
             self.table
                 .shared

@@ -20,6 +20,7 @@ mod raw;
 mod running;
 mod segment;
 
+pub use ahead::{Lead, Seeker};
 pub use board::Board;
 pub use closing::Words;
 pub use fault::MakeFault;

@@ -28,6 +28,10 @@ module _ (shape : Shape) (world : ℕ → World) (key : List ℕ) (now : ℕ) (r
   late : ¬ (IsPlaced shape world (call_at (gets_value key now read) 6))
   late is = let until = is.until in omega (arith, until)
 
+  -- a write isn't a step before the call began
+  early_write : ¬ (IsPlaced shape world (call_at (writes request said) 2))
+  early_write is = let since = is.since in omega (arith, since)
+
   -- a write is one of the steps before its return
   after_return : ¬ (IsPlaced shape world (call_at (writes request said) 5))
   after_return is = let until = is.until in omega (arith, until)

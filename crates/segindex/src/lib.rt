@@ -28,7 +28,7 @@ pub use laws::{
     keep_of_all, one_pass, quiet_pass, readers_take_a_step, replies_at_a_moment, unnamed_rows_stay,
     what_stood_is_read,
 };
-pub use segbase::{MakeFault, Note, Pass};
+pub use segbase::{Lead, MakeFault, Note, Pass, Seeker};
 pub use segevict::{EvictRowAnswer, KeepRowAnswer};
 pub use segmodel::{
     Answer, Command, DeleteAnswer, EvictAnswer, GetAnswer, GetsAnswer, KeepAnswer, RefillAnswer,

@@ -4,6 +4,7 @@ ghost use Rattle.segmodel.specs.declared.request.Request.TheVariants.{Set, Add, 
 use crate::index::Index;
 use segbase::Pass;
 use segmodel::{DeleteAnswer, WriteAnswer};
+use segstore::RowRef;
 use segword::{Key, Value};
 
 impl Index {
@@ -21,7 +22,7 @@ impl Index {
         segwrite::set(&self.board, pass, key, value, now)
     }
 
-    /// Stores the value under the key, and tells whether the key stood before.
+    /// Stores the value under the key, and tells which row the key had before.
     /// No contract says what the second part is.
     #[inline(always)]
     pub fn set_and_tell(
@@ -30,7 +31,7 @@ impl Index {
         key: &Key,
         value: &Value,
         now: u32,
-    ) -> (WriteAnswer, bool)
+    ) -> (WriteAnswer, Option<RowRef>)
         requires quiet { IsQuiet (board_of self.now) pass.old }
         ensures writes { Writes (board_of self.now) (Set key.now value.now now) result.0
             pass.old pass.new }

@@ -89,6 +89,7 @@ fn ends<const N: usize>(bytes: &[u8]) -> ([u8; N], [u8; N])
 }
 
 // The bytes of these words.
+#[inline(always)]
 pub(crate) fn bytes_of<const N: usize>(words: &[u64]) -> [u8; N]
     requires { 8 * length words.now ≡ N }
     ensures { result ≡ bytes_of words.now N }

@@ -59,7 +59,7 @@ pub fn set(board: &Board, pass: &mut Pass, key: &Key, value: &Value, now: u32) -
     write(board, pass, &set).0
 }
 
-/// Stores the value under the key as `set` does, and tells whether the key stood before.
+/// Stores the value under the key as `set` does, and tells which row the key had before.
 /// No contract says what the second part is.
 #[inline(always)]
 pub fn set_and_tell(
@@ -68,7 +68,7 @@ pub fn set_and_tell(
     key: &Key,
     value: &Value,
     now: u32,
-) -> (WriteAnswer, bool)
+) -> (WriteAnswer, Option<RowRef>)
     requires quiet { IsQuiet board.now pass.old }
     ensures writes { Writes board.now (Set key.now value.now now) result.0 pass.old pass.new }
     ensures set { IsSetAnswer result.0 }
@@ -134,9 +134,9 @@ pub fn cas(
 }
 
 // Stores the value under the key if the cache doesn't refuse it,
-// and tells whether it was stored over a word of the key.
+// and tells which row the key had before.
 #[inline(always)]
-fn write(board: &Board, pass: &mut Pass, write: &WriteCall<'_>) -> (WriteAnswer, bool)
+fn write(board: &Board, pass: &mut Pass, write: &WriteCall<'_>) -> (WriteAnswer, Option<RowRef>)
     ghost request: { Request }
     requires quiet { IsQuiet board.now pass.old }
     requires sought { IsSought board.now.shape write.now.sought }
@@ -147,24 +147,34 @@ fn write(board: &Board, pass: &mut Pass, write: &WriteCall<'_>) -> (WriteAnswer,
     ensures writes { Writes board.now request result.0 pass.old pass.new }
 {
     let Ok(row) = next_row(board, pass) else {
-        return (WriteAnswer::NoRoom, false);
+        return (WriteAnswer::NoRoom, None);
     };
     let bucket = write.sought.bucket;
     if !take_to_write(board, pass, bucket) {
-        return (WriteAnswer::Busy, false);
+        return (WriteAnswer::Busy, None);
     }
     let found = search(board, pass, &write.sought);
     if let Some(refusal) = refusal(board, pass, found.target(), write) {
         refuse(board, pass, bucket);
-        return (refusal, false);
+        return (refusal, None);
     }
     let Some(target) = make_room(board, pass, bucket, found) else {
         board.release(pass, bucket, false);
-        return (WriteAnswer::BucketFull, false);
+        return (WriteAnswer::BucketFull, None);
     };
     store(board, pass, target, row, write);
     board.release(pass, bucket, true);
-    (WriteAnswer::Stored, target.word != 0)
+    (WriteAnswer::Stored, row_of(target))
+}
+
+// The row that the item of a word has, if the word isn't empty.
+#[inline(always)]
+fn row_of(target: Target) -> Option<RowRef> {
+    let item = Item::unpack(target.word)?;
+    Some(RowRef {
+        segment: item.seg,
+        row: item.row,
+    })
 }
 
 // What the cache answers in place of storing.
