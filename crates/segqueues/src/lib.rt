@@ -3,8 +3,10 @@
 #![tactic(auto)]
 
 mod lists;
+mod live;
 mod needs;
 mod queues;
+mod source;
 
 pub use lists::Queue;
-pub use queues::{Queues, Round};
+pub use queues::{Place, Queues, Round};

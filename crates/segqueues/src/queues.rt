@@ -5,14 +5,13 @@
 ghost use Rattle.std.specs.Prelude.{◌≤◌};
 
 use crate::lists::{Lists, Queue};
+use crate::live::Live;
 use crate::needs::Needs;
+use crate::source::Clearing;
 use std::alloc::{AllocError, Global};
 
 // So many free segments are held ready, so that a put finds one.
 const RESERVE: u32 = 2;
-
-// One segment of so many is on probation. From there on the oldest of these is cleared.
-const PROBATION_SHARE: u32 = 12;
 
 /// How many segments were free and on probation when a round over all of them began.
 #[derive(Clone, Copy)]
@@ -35,14 +34,28 @@ impl Round {
     }
 }
 
+/// A row of a segment.
+#[derive(Clone, Copy, Debug)]
+pub struct Place {
+    pub segment: u32,
+    pub row: u32,
+}
+
 /// The segments of a pass in three queues, what the item of each row needs to move on,
 /// and marks of keys that were put lately.
 #[derive(Drop)]
 pub struct Queues {
-    segments: u32,
-    rows: u32,
+    pub(crate) segments: u32,
+    pub(crate) rows: u32,
     lists: Lists,
     needs: Needs,
+    pub(crate) live: Live,
+    // The source, while one is being cleared.
+    pub(crate) clearing: Clearing,
+    // Whether a segment may be tried of which nothing is known.
+    pub(crate) may_try: bool,
+    // Where the next look over the segments begins.
+    pub(crate) first_look: u32,
     // Whether items of the segment that is cleared now were left behind
     // since no main segment was open.
     leaves_some: bool,
@@ -58,6 +71,10 @@ impl Queues {
             rows,
             lists: Lists::new(alloc, segments)?,
             needs: Needs::new(alloc, segments, rows)?,
+            live: Live::new(alloc, segments)?,
+            clearing: Clearing::none(),
+            may_try: true,
+            first_look: 0,
             leaves_some: false,
             is_strict: false,
         })
@@ -99,14 +116,21 @@ impl Queues {
         round
     }
 
-    /// The segment was refilled, for puts or as a main one.
-    pub fn was_refilled(&mut self, segment: u32, is_main: bool) {
+    /// The queue of a segment.
+    pub fn queue_of(&self, segment: u32) -> Queue {
+        self.lists.queue_of(segment)
+    }
+
+    /// The segment was refilled up to a deadline, for puts or as a main one.
+    /// So many rows of it were used since.
+    pub fn was_refilled(&mut self, segment: u32, is_main: bool, deadline: u32, used: u32) {
         let queue = if is_main {
             Queue::Main
         } else {
             Queue::Probation
         };
         self.lists.move_to(segment, queue);
+        self.live.was_refilled(segment, deadline, used);
     }
 
     /// The segment is free, and comes last among those that are.
@@ -119,20 +143,27 @@ impl Queues {
         self.lists.move_to(segment, self.lists.queue_of(segment));
     }
 
-    /// What the item of a row needs to move on, in halves of a frequency.
-    pub fn need_of(&self, segment: u32, row: u32) -> u8 {
-        self.needs.of(segment, row)
+    /// The item of a row of the source moved into a row of another segment. It needs more
+    /// to move on again, unless all moves on.
+    pub fn was_moved(&mut self, from: Place, into: Place) {
+        let need = self.needs.of(from.segment, from.row);
+        let more = u8::from(!self.clearing.moves_all);
+        self.needs
+            .set(into.segment, into.row, need.saturating_add(more));
+        self.live.was_used(into.segment, false);
+        self.was_done(true);
     }
 
-    /// From now on the item of the row needs so much.
-    pub fn set_need(&mut self, segment: u32, row: u32, need: u8) {
-        self.needs.set(segment, row, need);
-    }
-
-    /// A key of this hash was put into the row.
-    pub fn was_put(&mut self, segment: u32, row: u32, hash: u64, is_update: bool) {
+    /// A key of this hash was stored into the row.
+    pub fn was_stored(&mut self, at: Place, hash: u64, is_update: bool) {
         let need = self.needs.of_put(hash, is_update);
-        self.needs.set(segment, row, need);
+        self.needs.set(at.segment, at.row, need);
+        self.live.was_used(at.segment, true);
+    }
+
+    /// The item of a row of the segment was replaced or deleted by the pass.
+    pub fn has_died(&mut self, segment: u32) {
+        self.live.has_died(segment);
     }
 
     // How many free segments are held ready. Of segments of one row it is one more,
@@ -146,43 +177,33 @@ impl Queues {
         self.lists.count(Queue::Free) < self.reserve()
     }
 
-    /// The segment that is cleared next, the current one left out: the oldest on probation while
-    /// there are more than their share, and else the oldest main one.
-    /// A lone main segment takes what moves.
-    pub fn next_source(&self, current: Option<u32>) -> Option<u32> {
-        let share = (self.segments / PROBATION_SHARE).max(1);
-        let main = if self.lists.count(Queue::Main) > 1 {
-            self.lists.oldest(Queue::Main, current)
-        } else {
-            None
-        };
-        if main.is_some() && self.lists.count(Queue::Probation) <= share {
-            return main;
-        }
-        let on_probation = self.lists.oldest(Queue::Probation, current);
-        if on_probation.is_some() {
-            return on_probation;
-        }
-        main
-    }
-
     /// The main segment that was opened last, which takes what moves.
     pub fn target(&self) -> Option<u32> {
         self.lists.newest(Queue::Main)
     }
 
     /// Whether a free segment can become a main one: another is left for puts then,
-    /// or will be before they need it, since half of the rows of theirs are left.
-    pub fn can_open(&self, rows_left: u32) -> bool {
+    /// or will be before they need it. That is so if half of the rows of theirs are left;
+    /// or where all moves on, if so many turns do that are left until then.
+    pub fn can_open(&self, rows_left: u32, turns_left: u32, rows_to_go: u32) -> bool {
         let free = self.lists.count(Queue::Free);
-        free > 1 || free == 1 && rows_left >= self.rows.div_ceil(2)
+        let is_in_time = if self.moves_all() {
+            turns_left > rows_to_go
+        } else {
+            rows_left >= self.rows.div_ceil(2)
+        };
+        free > 1 || free == 1 && is_in_time
     }
 
     /// The least frequency with which the item of a row moves on: half of its need,
     /// one more if items of the last source were left behind, and at least this.
+    /// Where all moves on, it is this.
     pub fn cutoff_of(&self, segment: u32, row: u32, least: u8) -> u8
         ensures enough { least ≤ result }
     {
+        if self.moves_all() {
+            return least;
+        }
         (self.needs.of(segment, row) / 2)
             .saturating_add(u8::from(self.is_strict))
             .max(least)
@@ -195,6 +216,7 @@ impl Queues {
 
     /// The clearing of a segment has ended.
     pub fn was_cleared(&mut self) {
+        self.learn();
         self.is_strict = self.leaves_some;
         self.leaves_some = false;
     }
