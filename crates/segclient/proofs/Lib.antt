@@ -16,3 +16,4 @@ pub mod Trying
 pub mod Turns
 pub mod Ways
 pub mod Whole
+pub mod Written

@@ -1,8 +1,10 @@
 -- What each call of a client is, in one record: over the index's board and what it has
 -- beside the index.
-use Rattle.std.specs.Prelude.{◌≡◌, ℕ, List, Option, Some, None, IsSomeAnd}
+use Rattle.std.specs.Prelude.{◌≡◌, ◌≢◌, ℕ, ◌≤◌, false, is_some, List, [], length, Option, Some, None, IsSomeAnd}
+use Rattle.segmodel.specs.declared.answer.WriteAnswer.TheVariants as write
 use Rattle.segmodel.specs.Words.{DeleteAnswer, GetAnswer, GetsAnswer, Request, WriteAnswer}
-use Rattle.segbase.specs.Words.{Board}
+use Rattle.segbase.specs.Words.{Board, Pass}
+use Rattle.segstore.specs.Words.{memo}
 use Rattle.segread.specs.declared.held.HoldAnswer.{HoldAnswer}
 use Rattle.segread.specs.Words.{HeldRow, Hold, HoldsItem, HoldsRow, ReadsKey, ReadsRow}
 use Rattle.segread.specs.Words.{ReadsVersion, ReleasesHold, RowAnswer}
@@ -10,8 +12,11 @@ use Rattle.segwrite.specs.Words.{Deletes, Writes}
 use Rattle.segindex.specs.Words.{LearnsNote, MakesNote, MeetsPass, Note, ReturnsStats}
 use Rattle.segindex.specs.declared.table_stats.IndexStats.{IndexStats}
 use Rattle.segclient.specs.declared.member.Member.{Member}
-use Rattle.segclient.specs.Counting.{counted}
-use Rattle.segclient.specs.Member.{draw_of, DrawsOnce, Keeps, KeepsDraws}
+use Rattle.segclient.specs.declared.room.Effort.{Effort}
+use Rattle.segclient.specs.Clearing.{Clears, ClearsSome, Step}
+use Rattle.segclient.specs.Counting.{cleared_too, counted}
+use Rattle.segclient.specs.Member.{draw_of, DrawsOnce, Keeps, KeepsDraws, KeepsSettings}
+use Rattle.segclient.specs.Puts.{deadline_of}
 use Rattle.segclient.specs.Tallies.{delete_tally, get_tally, gets_tally, write_tally}
 
 -- it counts nothing, draws nothing, and keeps its settings and its segments
@@ -39,21 +44,56 @@ pub record GetsVersion (key : List ℕ) (told : GetsAnswer) (b : Board) (old new
 
 -- ---- calls that write
 
--- what is asked at this moment had this answer
+-- no step was made, and the segments are as they were
+abbrev pub ClearsNothing : List Step → Member → Member → Type 0
+ClearsNothing steps old new = (steps ≡ []) × (new.segments ≡ old.segments)
+
+-- After a write that had this answer: once it is Stored, a client with queues clears rows of
+-- another segment, by steps that came to these numbers.
+pub record ClearsThen (told : WriteAnswer) (b : Board) (effort : Effort) (old new : Member)
+    : Type 0 where
+  pub some : ClearsSome b old.cutoff (deadline_of old) effort old.pass new.pass
+  pub unasked : told ≢ write.Stored → ClearsNothing some.steps old new
+  pub unqueued : is_some old.segments.queues ≡ false → ClearsNothing some.steps old new
+  pub stats : new.stats ≡ old.stats
+  pub draws : KeepsDraws old new
+  pub settings : KeepsSettings old new
+
+-- So it is, and write and steps are counted.
+pub record EndsWrite (told : WriteAnswer) (b : Board) (old new : Member) : Type 0 where
+  pub steps : List Step
+  pub clears : Clears b old.cutoff (deadline_of old) steps old.pass new.pass
+  pub few_steps : length steps ≤ 16
+  pub unasked : told ≢ write.Stored → ClearsNothing steps old new
+  pub unqueued : is_some old.segments.queues ≡ false → ClearsNothing steps old new
+  pub stats : new.stats ≡ cleared_too steps (counted (write_tally told) old.stats)
+  pub draws : KeepsDraws old new
+  pub settings : KeepsSettings old new
+
+-- What is asked at this moment had this answer.
+-- Once it is Stored, a client with queues clears rows of another segment, as after a put.
 pub record MakesWrite (request : ℕ → Request) (told : WriteAnswer) (b : Board)
     (old new : Member) : Type 0 where
-  pub writes : Writes b (request old.clock) told old.pass new.pass
-  pub counts : new.stats ≡ counted (write_tally told) old.stats
+  pub between : Pass
+  pub writes : Writes b (request old.clock) told old.pass between
+  pub steps : List Step
+  pub clears : Clears b old.cutoff (deadline_of old) steps between new.pass
+  pub few_steps : length steps ≤ 16
+  pub unasked : told ≢ write.Stored → ClearsNothing steps old new
+  pub unqueued : is_some old.segments.queues ≡ false → ClearsNothing steps old new
+  pub memo : memo new.pass ≡ memo old.pass
+  pub counts : new.stats ≡ cleared_too steps (counted (write_tally told) old.stats)
   pub draws : KeepsDraws old new
-  pub keeps : Keeps old new
+  pub settings : KeepsSettings old new
 
--- a delete of the key had this answer
+-- A delete of the key had this answer. Queues are told of it.
 pub record DeletesKey (key : List ℕ) (told : DeleteAnswer) (b : Board) (old new : Member)
     : Type 0 where
   pub deletes : Deletes b key old.clock told old.pass new.pass
   pub counts : new.stats ≡ counted (delete_tally told) old.stats
   pub draws : KeepsDraws old new
-  pub keeps : Keeps old new
+  pub settings : KeepsSettings old new
+  pub unqueued : is_some old.segments.queues ≡ false → new.segments ≡ old.segments
 
 -- ---- holds
 

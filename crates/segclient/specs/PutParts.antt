@@ -5,7 +5,7 @@ use Rattle.segmodel.specs.declared.answer.EvictAnswer.TheVariants as evict
 use Rattle.segmodel.specs.declared.answer.RefillAnswer.TheVariants as refill
 use Rattle.segmodel.specs.declared.answer.WriteAnswer.TheVariants as write
 use Rattle.segmodel.specs.declared.request.Request.TheVariants.{Set}
-use Rattle.segmodel.specs.Words.{EvictAnswer, owner}
+use Rattle.segmodel.specs.Words.{EvictAnswer, owner, Request}
 use Rattle.segbase.specs.Words.{Board, current_of, deadline_of, number, Pass}
 use Rattle.segstore.specs.Words.{has_room}
 use Rattle.segevict.specs.Words.{EvictsSegment}
@@ -123,9 +123,12 @@ is_stale now p = is_over now (current_deadline p)
 
 -- ---- sets
 
+abbrev pub request_of : Order → Request
+request_of order = Set order.key.now order.value.now order.policy.moment
+
 abbrev pub plan_of : Order → Plan
 plan_of order = record {
-  request = Some (Set order.key.now order.value.now order.policy.moment);
+  request = Some (request_of order);
   cutoff = order.policy.cutoff;
   deadline = order.policy.deadline;
 }

@@ -8,7 +8,9 @@ ghost use Rattle.segclient.specs.Clearing.{came_to_step, evicts_row, IsClearing,
 ghost use Rattle.segclient.specs.PutCalls.{evicted_keys, kept_items};
 ghost use Rattle.segclient.specs.Rings.{IsOwnRing};
 
-use crate::queues::{next_source, oldest, place_of, set_last_need, target_of, was_given_up};
+use crate::queues::{
+    current_for, next_source, note_moved, oldest, place_of, target_of, was_given_up, was_refilled,
+};
 use crate::room::{Effort, Policy, Segments};
 use crate::tally::{evicted_by, refilled_by};
 use segindex::{EvictRowAnswer, Index, KeepRowAnswer, Pass, RowRef};
@@ -22,12 +24,13 @@ pub(crate) struct Source {
 }
 
 // How a segment is cleared: the least frequency of what is kept, the deadline of what is
-// refilled, and the moment.
+// refilled, the moment, and how many turns are left.
 #[derive(Clone, Copy)]
 struct Terms {
     least: u8,
     deadline: u32,
     moment: u32,
+    turns: u32,
 }
 
 // What a turn came to: where the clearing is then, whether the put has done its part,
@@ -128,6 +131,7 @@ fn evict_one(index: &Index, pass: &mut Pass, queues: &mut Queues, source: Source
 {
     let told = index.evict_row(pass, source.segment, source.row);
     let effort = Effort::evicting(u64::from(row_evicted_by(told)));
+    queues.was_done(told == EvictRowAnswer::Evicted);
     match told {
         EvictRowAnswer::Evicted | EvictRowAnswer::Left => next_row(source, effort),
         EvictRowAnswer::NotYours | EvictRowAnswer::NotUsed | EvictRowAnswer::Busy => {
@@ -172,7 +176,6 @@ fn move_one(index: &Index, pass: &mut Pass, queues: &mut Queues, source: Source,
         result.effort pass.old pass.new }
 {
     let at = place_of(index, source.segment);
-    let need = queues.need_of(at, source.row);
     let cutoff = queues.cutoff_of(at, source.row, to.least);
     let row = RowRef {
         segment: source.segment,
@@ -186,7 +189,7 @@ fn move_one(index: &Index, pass: &mut Pass, queues: &mut Queues, source: Source,
     };
     match told {
         KeepRowAnswer::Moved => {
-            set_last_need(index, pass, queues, to.into, need.saturating_add(1));
+            note_moved(index, pass, queues, row, to.into);
             next_row(source, effort)
         }
         KeepRowAnswer::Left => evict_one(index, pass, queues, source),
@@ -227,7 +230,7 @@ fn open_main(
     }
     let refilled = refilled_by(index.refill_aside(pass, segment, deadline));
     if refilled > 0 {
-        queues.was_refilled(place_of(index, segment), true);
+        was_refilled(index, pass, queues, segment, true);
     } else {
         was_given_up(index, pass, queues, segment);
     }
@@ -257,6 +260,14 @@ fn rows_left(index: &Index, pass: &Pass) -> u32 {
     };
     let used = pass.used(segment).unwrap_or(0);
     index.shape().rows.saturating_sub(used)
+}
+
+// Whether a free segment can become a main one.
+fn can_open(index: &Index, pass: &Pass, queues: &Queues, source: Source, turns: u32) -> bool {
+    let rows = rows_left(index, pass);
+    let turns = rows.saturating_mul(TURNS).saturating_add(turns);
+    let used = pass.used(source.segment).unwrap_or(0);
+    queues.can_open(rows, turns, used.saturating_sub(source.row))
 }
 
 // Goes over one row of the source, or opens a main segment for what moves from it.
@@ -293,15 +304,28 @@ fn clear_row(
     if pass.deadline(source.segment) != Some(terms.deadline) {
         return evict_one(index, pass, queues, source);
     }
-    if queues.can_open(rows_left(index, pass)) {
+    if can_open(index, pass, queues, source, terms.turns) {
         return open_main(index, pass, queues, source, terms.deadline);
+    }
+    if let Some(into) = current_for(index, pass, queues, source.segment) {
+        let to = Move {
+            into,
+            least: terms.least,
+        };
+        return move_one(index, pass, queues, source, to);
     }
     queues.was_left_behind();
     evict_one(index, pass, queues, source)
 }
 
 // Where the clearing goes on, or where another begins if few segments are free.
-fn source_of(index: &Index, pass: &Pass, queues: &Queues, was: Option<Source>) -> Option<Source>
+fn source_of(
+    index: &Index,
+    pass: &Pass,
+    queues: &mut Queues,
+    was: Option<Source>,
+    terms: Terms,
+) -> Option<Source>
     requires quiet { IsQuiet (board_of index.now) pass.now }
     requires cleared { IsCleared (shape_of index.now) was pass.now }
     ensures clearing { IfSome result (λ source. IsClearing (shape_of index.now) source pass.now) }
@@ -315,7 +339,7 @@ fn source_of(index: &Index, pass: &Pass, queues: &Queues, was: Option<Source>) -
         return None;
     }
     Some(Source {
-        segment: next_source(index, pass, queues)?,
+        segment: next_source(index, pass, queues, terms.moment, terms.deadline)?,
         row: 0,
     })
 }
@@ -340,12 +364,16 @@ fn clear_rows(
     let mut source = was;
     let mut effort = Effort::none();
     for tried in 0..TURNS {
-        let Some(next) = source_of(index, pass, queues, source) else {
+        let Some(next) = source_of(index, pass, queues, source, terms) else {
             return Turn {
                 source: None,
                 is_over: true,
                 effort,
             };
+        };
+        let terms = Terms {
+            turns: TURNS - tried,
+            ..terms
         };
         let turn = clear_row(index, pass, queues, next, terms);
         source = turn.source;
@@ -393,6 +421,7 @@ pub(crate) fn clear_some(
         least,
         deadline: policy.deadline,
         moment: policy.moment,
+        turns: TURNS,
     };
     let turn = clear_rows(index, pass, queues, segments.source, terms);
     segments.source = turn.source;

@@ -4,15 +4,16 @@ ghost use Rattle.segindex.specs.Words.{board_of, shape_of};
 ghost use Rattle.segstore.specs.Words.{IsQuiet};
 ghost use Rattle.segclient.specs.Member.{next_draws};
 
+use crate::clearing::clear_some;
 use crate::put::{Order, PutAnswer, clear_after, put_by};
-use crate::queues::queues_of;
+use crate::queues::{queues_of, tell_deleted, tell_stored};
 use crate::ring::own_ring;
-use crate::room::{Policy, Segments, make_room_by};
+use crate::room::{Effort, Policy, Segments, make_room_by};
 use crate::stats::Stats;
 use crate::tally::Tally;
-use segindex::{Index, IndexStats, Pass};
+use segindex::{Index, IndexStats, Pass, RowRef};
 use segmodel::{DeleteAnswer, GetAnswer, GetsAnswer, WriteAnswer};
-use segword::{Key, Value};
+use segword::{Key, Value, hash};
 use std::alloc::{AllocError, Global};
 
 /// What a client has beside its index: a pass of it, the segments of the pass, its draws,
@@ -42,7 +43,8 @@ impl Member {
     ghost use Rattle.segbase.specs.Words.{number_of};
     ghost use Rattle.segmodel.specs.declared.request.Request.TheVariants.{Set, Add, Replace, Cas};
     ghost use Rattle.segwrite.specs.Words.{IsSetAnswer};
-    ghost use Rattle.segclient.specs.Made.{DeletesKey, Gets, GetsVersion, MakesWrite, ReturnsTable};
+    ghost use Rattle.segclient.specs.Made.{ClearsThen, DeletesKey, EndsWrite, Gets};
+    ghost use Rattle.segclient.specs.Made.{GetsVersion, MakesWrite, ReturnsTable};
     ghost use Rattle.segclient.specs.Member.{Begins, IsMember, SetsCutoff, SetsNow, SetsTimeToLive};
     ghost use Rattle.segclient.specs.Policies.{policy_of};
     ghost use Rattle.segclient.specs.Puts.{MakesRoomFor, Puts};
@@ -61,6 +63,7 @@ impl Member {
                 ring,
                 queues: None,
                 source: None,
+                replaced: None,
             },
             draws: number,
             clock: 0,
@@ -161,6 +164,52 @@ impl Member {
         told
     }
 
+    // The row that the key has, as it seems. Only queues need to know.
+    #[inline(always)]
+    fn row_of(&self, index: &Index, key: &Key) -> Option<RowRef> {
+        if self.segments.queues.is_none() {
+            return None;
+        }
+        index.row_of(hash(key))
+    }
+
+    // After a write that was answered so: once it is stored, the queues are told of it,
+    // and clear some rows.
+    #[inline(always)]
+    fn clear_then(
+        &mut self,
+        index: &Index,
+        key: &Key,
+        told: WriteAnswer,
+        replaced: Option<RowRef>,
+    ) -> Effort
+        requires member { IsMember index.now self.old }
+        ensures member { IsMember index.now self.new }
+        ensures clears { ClearsThen told (board_of index.now) result self.old self.new }
+    {
+        let WriteAnswer::Stored = told else {
+            return Effort::none();
+        };
+        if self.segments.queues.is_none() {
+            return Effort::none();
+        }
+        tell_stored(index, &self.pass, &mut self.segments, key, replaced);
+        let policy = self.policy();
+        clear_some(index, &mut self.pass, &mut self.segments, policy)
+    }
+
+    // Counts a write that was answered so, and what is cleared then.
+    #[inline(always)]
+    fn end_write(&mut self, index: &Index, key: &Key, told: WriteAnswer, replaced: Option<RowRef>)
+        requires member { IsMember index.now self.old }
+        ensures member { IsMember index.now self.new }
+        ensures ends { EndsWrite told (board_of index.now) self.old self.new }
+    {
+        self.stats.count(Tally::of_write(told));
+        let rows = self.clear_then(index, key, told, replaced);
+        self.stats.count_effort(rows);
+    }
+
     /// As `Client::set`.
     pub fn set(&mut self, index: &Index, key: &Key, value: &Value) -> WriteAnswer
         requires member { IsMember index.now self.old }
@@ -169,8 +218,8 @@ impl Member {
             (board_of index.now) self.old self.new }
         ensures set { IsSetAnswer result }
     {
-        let told = index.set(&mut self.pass, key, value, self.clock);
-        self.stats.count(Tally::of_write(told));
+        let (told, replaced) = index.set_and_tell(&mut self.pass, key, value, self.clock);
+        self.end_write(index, key, told, replaced);
         told
     }
 
@@ -181,8 +230,9 @@ impl Member {
         ensures writes { MakesWrite (Add key.now value.now) result
             (board_of index.now) self.old self.new }
     {
+        let replaced = self.row_of(index, key);
         let told = index.add(&mut self.pass, key, value, self.clock);
-        self.stats.count(Tally::of_write(told));
+        self.end_write(index, key, told, replaced);
         told
     }
 
@@ -193,8 +243,9 @@ impl Member {
         ensures writes { MakesWrite (Replace key.now value.now) result
             (board_of index.now) self.old self.new }
     {
+        let replaced = self.row_of(index, key);
         let told = index.replace(&mut self.pass, key, value, self.clock);
-        self.stats.count(Tally::of_write(told));
+        self.end_write(index, key, told, replaced);
         told
     }
 
@@ -205,8 +256,9 @@ impl Member {
         ensures writes { MakesWrite (Cas key.now value.now expected) result
             (board_of index.now) self.old self.new }
     {
+        let replaced = self.row_of(index, key);
         let told = index.cas(&mut self.pass, key, value, expected, self.clock);
-        self.stats.count(Tally::of_write(told));
+        self.end_write(index, key, told, replaced);
         told
     }
 
@@ -216,8 +268,10 @@ impl Member {
         ensures member { IsMember index.now self.new }
         ensures deletes { DeletesKey key.now result (board_of index.now) self.old self.new }
     {
+        let row = self.row_of(index, key);
         let told = index.delete(&mut self.pass, key, self.clock);
         self.stats.count(Tally::of_delete(told));
+        tell_deleted(index, &self.pass, &mut self.segments, row, told);
         told
     }
 

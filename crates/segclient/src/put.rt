@@ -3,17 +3,18 @@ ghost use Rattle.std.specs.Prelude.{◌≡◌, ◌<◌, ◌^◌, is_some, true};
 ghost use Rattle.segbase.specs.Words.{number, Pass as BasePass};
 ghost use Rattle.segindex.specs.Words.{board_of, shape_of};
 ghost use Rattle.segstore.specs.Words.{GoesOn, IsQuiet};
+ghost use Rattle.segwrite.specs.Words.{IsSetAnswer, Writes};
 ghost use Rattle.segclient.specs.Clearing.{IsCleared};
 ghost use Rattle.segclient.specs.PutParts.{ClearsAfter, current_deadline, is_stale, MakesPut, most_for_put};
-ghost use Rattle.segclient.specs.PutParts.{most_for_set, plan_of, PutsAtLast, PutsWhole, Sets};
-ghost use Rattle.segclient.specs.PutParts.{SetsIfFresh};
+ghost use Rattle.segclient.specs.PutParts.{most_for_set, plan_of, PutsAtLast, PutsWhole};
+ghost use Rattle.segclient.specs.PutParts.{request_of, Sets, SetsIfFresh};
 ghost use Rattle.segclient.specs.Putting.{most_calls};
 ghost use Rattle.segclient.specs.Rings.{IsOwnRing};
 
 use crate::clearing::clear_some;
-use crate::queues::note_put;
+use crate::queues::note_stored;
 use crate::room::{Effort, Policy, Segments, evict_oldest, make_room_by};
-use segindex::{Index, Pass};
+use segindex::{Index, Pass, RowRef};
 use segmodel::WriteAnswer;
 use segword::{Key, Value, hash};
 
@@ -43,9 +44,31 @@ pub(crate) struct Order<'p> {
 // How often a set is made again while it is busy.
 const TRIES: u32 = 16;
 
-// A set, made again while it is busy.
+// A set. It leaves the row that the key had before.
 #[inline(always)]
-fn set_while_busy(index: &Index, pass: &mut Pass, order: Order<'_>) -> PutAnswer
+fn set_once(
+    index: &Index,
+    pass: &mut Pass,
+    order: Order<'_>,
+    replaced: &mut Option<RowRef>,
+) -> WriteAnswer
+    requires quiet { IsQuiet (board_of index.now) pass.old }
+    ensures writes { Writes (board_of index.now) (request_of order.entry) result pass.old pass.new }
+    ensures set { IsSetAnswer result }
+{
+    let (told, before) = index.set_and_tell(pass, order.key, order.value, order.policy.moment);
+    *replaced = before;
+    told
+}
+
+// A set, made again while it is busy. It leaves the row that the key had before.
+#[inline(always)]
+fn set_while_busy(
+    index: &Index,
+    pass: &mut Pass,
+    order: Order<'_>,
+    replaced: &mut Option<RowRef>,
+) -> PutAnswer
     requires quiet { IsQuiet (board_of index.now) pass.old }
     requires fresh { is_stale order.policy.moment pass.old ≡ true
         → current_deadline pass.old ≡ Some order.policy.deadline }
@@ -53,7 +76,7 @@ fn set_while_busy(index: &Index, pass: &mut Pass, order: Order<'_>) -> PutAnswer
     ensures sets { Sets (board_of index.now) (plan_of order.entry) result pass.old pass.new }
 {
     for tries in 0..TRIES {
-        match index.set(pass, order.key, order.value, order.policy.moment) {
+        match set_once(index, pass, order, replaced) {
             WriteAnswer::Stored => return PutAnswer::Stored,
             WriteAnswer::NoRoom => return PutAnswer::NoRoom,
             WriteAnswer::BucketFull => return PutAnswer::BucketFull,
@@ -79,7 +102,12 @@ fn is_stale(pass: &Pass, now: u32) -> bool
 
 // A set, unless the segment that the pass stores into has expired: then there is no room.
 #[inline(always)]
-pub(crate) fn set_if_fresh(index: &Index, pass: &mut Pass, order: Order<'_>) -> PutAnswer
+pub(crate) fn set_if_fresh(
+    index: &Index,
+    pass: &mut Pass,
+    order: Order<'_>,
+    replaced: &mut Option<RowRef>,
+) -> PutAnswer
     requires quiet { IsQuiet (board_of index.now) pass.old }
     ensures on { GoesOn (board_of index.now) pass.old pass.new }
     ensures sets { SetsIfFresh (board_of index.now) (plan_of order.entry)
@@ -88,7 +116,7 @@ pub(crate) fn set_if_fresh(index: &Index, pass: &mut Pass, order: Order<'_>) -> 
     if is_stale(pass, order.policy.moment) {
         return PutAnswer::NoRoom;
     }
-    set_while_busy(index, pass, order)
+    set_while_busy(index, pass, order, replaced)
 }
 
 // What becomes of a set that was answered so.
@@ -122,7 +150,10 @@ fn set_in_room(
     if !is_made {
         return (PutAnswer::NoRoom, effort);
     }
-    (set_while_busy(index, pass, order), effort)
+    (
+        set_while_busy(index, pass, order, &mut segments.replaced),
+        effort,
+    )
 }
 
 // What becomes of a put whose first set was answered so. It makes room for its row,
@@ -154,7 +185,7 @@ fn put_at_last(
         return (told, first);
     };
     let emptied = first.plus(evict_oldest(index, pass, segments));
-    let told = set_if_fresh(index, pass, order);
+    let told = set_if_fresh(index, pass, order, &mut segments.replaced);
     let (told, last) = set_in_room(index, pass, segments, order, told);
     (told, emptied.plus(last))
 }
@@ -177,14 +208,14 @@ fn put_once(
     ensures puts { PutsWhole (board_of index.now) (plan_of order.entry) order.entry.policy.moment
         (most_calls (shape_of index.now)) result.0 result.1 pass.old pass.new }
 {
-    let first = set_if_fresh(index, pass, order);
+    let first = set_if_fresh(index, pass, order, &mut segments.replaced);
     if let PutAnswer::Stored = first {
         return (first, Effort::none());
     }
     put_at_last(index, pass, segments, order, first)
 }
 
-// A put of a client that keeps by queues. They note whether it is an update, as far as can be seen.
+// A put of a client that keeps by queues. They note it, and which row it replaced.
 fn put_in_queues(
     index: &Index,
     pass: &mut Pass,
@@ -201,8 +232,6 @@ fn put_in_queues(
     ensures puts { PutsWhole (board_of index.now) (plan_of order.entry) order.entry.policy.moment
         (most_calls (shape_of index.now)) result.0 result.1 pass.old pass.new }
 {
-    let hash = hash(order.key);
-    let is_update = index.may_have(hash);
     let (told, effort) = put_once(index, pass, segments, order);
     let PutAnswer::Stored = told else {
         return (told, effort);
@@ -210,7 +239,7 @@ fn put_in_queues(
     let Some(queues) = segments.queues.as_mut() else {
         return (told, effort);
     };
-    note_put(index, pass, queues, hash, is_update);
+    note_stored(index, pass, queues, hash(order.key), segments.replaced);
     (told, effort)
 }
 

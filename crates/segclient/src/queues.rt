@@ -1,13 +1,15 @@
 //! The segments of a pass in its queues, which count them from 0 on.
-ghost use Rattle.std.specs.Prelude.{◌≡◌, ◌≢◌, IfSome, Some};
+ghost use Rattle.std.specs.Prelude.{◌≡◌, ◌≢◌, false, is_some, IfSome, Some};
 ghost use Rattle.segmodel.specs.Words.{owner};
 ghost use Rattle.segbase.specs.Words.{current_of, number};
 ghost use Rattle.segindex.specs.Words.{board_of, shape_of};
 ghost use Rattle.segstore.specs.Words.{IsQuiet};
 
-use segindex::{Index, Pass};
-use segmodel::SegState;
-use segqueues::{Queue, Queues, Round};
+use crate::room::Segments;
+use segindex::{Index, Pass, RowRef};
+use segmodel::{DeleteAnswer, SegState};
+use segqueues::{Place, Queue, Queues, Round};
+use segword::{Key, hash};
 use std::alloc::{AllocError, Global};
 
 // The queues of a pass. What is in use is on probation, the current segment the newest.
@@ -19,11 +21,11 @@ pub(crate) fn queues_of(alloc: Global, index: &Index, pass: &Pass) -> Result<Que
     let first = pass.number() * shape.segments_each;
     for at in 0..shape.segments_each {
         if pass.state(first + at) == Some(SegState::InUse) {
-            queues.was_refilled(at, false);
+            was_refilled(index, pass, &mut queues, first + at, false);
         }
     }
     if let Some(current) = pass.current() {
-        queues.was_refilled(place_of(index, current), false);
+        was_refilled(index, pass, &mut queues, current, false);
     }
     Ok(queues)
 }
@@ -89,23 +91,26 @@ pub(crate) fn oldest_in_use(index: &Index, pass: &Pass, queues: &Queues) -> Opti
     other_at(index, pass, at)
 }
 
-// The segment that is cleared next, the current one left out.
-pub(crate) fn next_source(index: &Index, pass: &Pass, queues: &Queues) -> Option<u32>
+// The segment that is cleared next, the current one left out. What moves from it is moved
+// into one that is refilled up to this deadline.
+pub(crate) fn next_source(
+    index: &Index,
+    pass: &Pass,
+    queues: &mut Queues,
+    moment: u32,
+    deadline: u32,
+) -> Option<u32>
     requires quiet { IsQuiet (board_of index.now) pass.now }
     ensures own { IfSome result (λ segment.
         (owner (shape_of index.now) segment ≡ number pass.now)
         × (current_of pass.now ≢ Some segment)) }
 {
-    let at = queues.next_source(current_place(index, pass))?;
+    let at = queues.next_source(current_place(index, pass), moment, deadline)?;
     other_at(index, pass, at)
 }
 
-// The main segment that takes what moves from this one, if it has a row left
-// and the same deadline.
-pub(crate) fn target_of(index: &Index, pass: &Pass, queues: &Queues, source: u32) -> Option<u32>
-    requires quiet { IsQuiet (board_of index.now) pass.now }
-{
-    let into = segment_at(index, pass, queues.target()?)?;
+// The segment, if items of this one can move there: it has a row left and the same deadline.
+fn if_open(index: &Index, pass: &Pass, into: u32, source: u32) -> Option<u32> {
     let is_open = pass.state(into) == Some(SegState::InUse)
         && pass.used(into)? < index.shape().rows
         && pass.deadline(into) == pass.deadline(source);
@@ -114,6 +119,26 @@ pub(crate) fn target_of(index: &Index, pass: &Pass, queues: &Queues, source: u32
     } else {
         None
     }
+}
+
+// The main segment that takes what moves from this one.
+pub(crate) fn target_of(index: &Index, pass: &Pass, queues: &Queues, source: u32) -> Option<u32>
+    requires quiet { IsQuiet (board_of index.now) pass.now }
+{
+    if_open(
+        index,
+        pass,
+        segment_at(index, pass, queues.target()?)?,
+        source,
+    )
+}
+
+// The current segment, if it takes what moves from this one. It does where all moves on.
+pub(crate) fn current_for(index: &Index, pass: &Pass, queues: &Queues, source: u32) -> Option<u32> {
+    if !queues.moves_all() {
+        return None;
+    }
+    if_open(index, pass, pass.current()?, source)
 }
 
 // A round over the segments, the current one left out.
@@ -132,29 +157,101 @@ pub(crate) fn was_given_up(index: &Index, pass: &Pass, queues: &mut Queues, segm
     }
 }
 
-// The item of the row of this segment that was used last needs so much.
-pub(crate) fn set_last_need(
+// The segment was refilled, for puts or as a main one.
+pub(crate) fn was_refilled(
     index: &Index,
     pass: &Pass,
     queues: &mut Queues,
     segment: u32,
-    need: u8,
+    is_main: bool,
 ) {
+    let deadline = pass.deadline(segment).unwrap_or(0);
     let used = pass.used(segment).unwrap_or(0);
-    queues.set_need(place_of(index, segment), used.saturating_sub(1), need);
+    queues.was_refilled(place_of(index, segment), is_main, deadline, used);
 }
 
-// A key of this hash was put into the row that was used last.
-pub(crate) fn note_put(
+// The row of a segment that was used last.
+fn last_row(index: &Index, pass: &Pass, segment: u32) -> Place {
+    Place {
+        segment: place_of(index, segment),
+        row: pass.used(segment).unwrap_or(0).saturating_sub(1),
+    }
+}
+
+// The item of a row of the source moved into this segment.
+pub(crate) fn note_moved(index: &Index, pass: &Pass, queues: &mut Queues, from: RowRef, into: u32) {
+    let place = Place {
+        segment: place_of(index, from.segment),
+        row: from.row,
+    };
+    queues.was_moved(place, last_row(index, pass, into));
+}
+
+// The item of this row was replaced or deleted.
+pub(crate) fn note_dead(index: &Index, pass: &Pass, queues: &mut Queues, row: RowRef) {
+    let owner = row.segment.checked_div(index.shape().segments_each);
+    if owner == Some(pass.number()) {
+        queues.has_died(place_of(index, row.segment));
+    }
+}
+
+// A key of this hash was stored into the row that was used last, in place of this one.
+pub(crate) fn note_stored(
     index: &Index,
     pass: &Pass,
     queues: &mut Queues,
     hash: u64,
-    is_update: bool,
+    replaced: Option<RowRef>,
 ) {
+    if let Some(row) = replaced {
+        note_dead(index, pass, queues, row);
+    }
     if let Some(segment) = pass.current() {
-        let used = pass.used(segment).unwrap_or(0);
-        let at = place_of(index, segment);
-        queues.was_put(at, used.saturating_sub(1), hash, is_update);
+        let at = last_row(index, pass, segment);
+        queues.was_stored(at, hash, replaced.is_some());
+    }
+}
+
+// The queues are told that the key was stored into the row that was used last,
+// in place of this one.
+pub(crate) fn tell_stored(
+    index: &Index,
+    pass: &Pass,
+    segments: &mut Segments,
+    key: &Key,
+    replaced: Option<RowRef>,
+)
+    ensures ring { segments.new.ring ≡ segments.old.ring }
+    ensures source { segments.new.source ≡ segments.old.source }
+    ensures queues { is_some segments.new.queues ≡ is_some segments.old.queues }
+{
+    let Some(queues) = segments.queues.as_mut() else {
+        return;
+    };
+    note_stored(index, pass, queues, hash(key), replaced);
+}
+
+// The queues are told that the item of this row was deleted, if there was one,
+// by a delete that was answered so.
+pub(crate) fn tell_deleted(
+    index: &Index,
+    pass: &Pass,
+    segments: &mut Segments,
+    row: Option<RowRef>,
+    told: DeleteAnswer,
+)
+    ensures ring { segments.new.ring ≡ segments.old.ring }
+    ensures source { segments.new.source ≡ segments.old.source }
+    ensures queues { is_some segments.new.queues ≡ is_some segments.old.queues }
+    ensures unqueued { is_some segments.old.queues ≡ false → segments.new ≡ segments.old }
+{
+    let DeleteAnswer::Deleted = told else {
+        return;
+    };
+    let Some(queues) = segments.queues.as_mut() else {
+        return;
+    };
+    if let Some(row) = row {
+        note_dead(index, pass, queues, row);
     }
 }

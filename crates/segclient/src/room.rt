@@ -13,9 +13,9 @@ ghost use Rattle.segclient.specs.PutParts.{StoresAsBefore, TakesFree};
 ghost use Rattle.segclient.specs.Rings.{IsOwnRing};
 
 use crate::clearing::Source;
-use crate::queues::{oldest as oldest_in, oldest_in_use, place_of, round, was_given_up};
+use crate::queues::{oldest as oldest_in, oldest_in_use, round, was_given_up, was_refilled};
 use crate::tally::evicted_by;
-use segindex::{Index, KeepRowAnswer, Pass};
+use segindex::{Index, KeepRowAnswer, Pass, RowRef};
 use segmodel::{EvictAnswer, RefillAnswer, SegState};
 use segpolicy::Ring;
 use segqueues::{Queue, Queues};
@@ -28,6 +28,8 @@ pub(crate) struct Segments {
     pub(crate) ring: Ring,
     pub(crate) queues: Option<Queues>,
     pub(crate) source: Option<Source>,
+    // The row that the key of the last put had before it, as it seems.
+    pub(crate) replaced: Option<RowRef>,
 }
 
 // How room is made: the least frequency of what is kept, if anything is, the deadline of what is
@@ -308,7 +310,7 @@ fn make_room_in_order(
         let (is_refilled, more) = give_up(index, pass, segment, deadline);
         keys += u64::from(more);
         if is_refilled {
-            queues.was_refilled(place_of(index, segment), false);
+            was_refilled(index, pass, queues, segment, false);
             let refilled = Effort {
                 refilled: 1,
                 kept: 0,
@@ -347,7 +349,7 @@ fn make_room_in_queues(
     }
     let (is_made, last) = make_room(index, pass, ring, deadline);
     if let Some(segment) = pass.current() {
-        queues.was_refilled(place_of(index, segment), false);
+        was_refilled(index, pass, queues, segment, false);
     }
     (is_made, first.plus(last))
 }
@@ -415,7 +417,7 @@ fn take_free(index: &Index, pass: &mut Pass, segments: &mut Segments, deadline: 
         was_given_up(index, pass, queues, segment);
         return false;
     };
-    queues.was_refilled(place_of(index, segment), false);
+    was_refilled(index, pass, queues, segment, false);
     true
 }
 

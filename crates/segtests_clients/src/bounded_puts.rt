@@ -106,5 +106,6 @@ fn what_fits_stays(rt: HostRuntime) {
     let counted = client.stats();
     same(&rt, &(counted.items_kept, counted.keys_evicted), &(0, 0));
     put(&rt, &mut client, 112);
+    put(&rt, &mut client, 113);
     check_that(&rt, client.stats().keys_evicted > 0);
 }

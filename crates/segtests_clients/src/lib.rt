@@ -25,6 +25,8 @@ mod keeping;
 #[cfg(test)]
 mod keeping_at_once;
 #[cfg(test)]
+mod limiting;
+#[cfg(test)]
 mod many_keys;
 #[cfg(test)]
 mod only_client;
@@ -38,3 +40,7 @@ mod readme_lines;
 mod same;
 #[cfg(test)]
 mod session_store;
+#[cfg(test)]
+mod several_shards;
+#[cfg(test)]
+mod updates;
