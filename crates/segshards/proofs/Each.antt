@@ -14,7 +14,7 @@ same_head : {A : Type 0} (x y : A) (xs ys : List A) → x ∷ xs ≡ y ∷ ys �
 same_head x y xs ys e = cc
 
 -- where the rest is as it was, so is the first of the rest
-same_there : {X : Type 0} (xs ys : List X) (n : ℕ) (d : X) → n < length xs → length ys ≡ length xs → drop n ys ≡ drop n xs → get_or ys n d ≡ get_or xs n d
+pub same_there : {X : Type 0} (xs ys : List X) (n : ℕ) (d : X) → n < length xs → length ys ≡ length xs → drop n ys ≡ drop n xs → get_or ys n d ≡ get_or xs n d
 same_there xs ys n d below long same =
     same_head (get_or ys n d) (get_or xs n d) (drop (n + 1) ys) (drop (n + 1) xs) (sym (drop_more ys n d (omega (arith, below, long))) ∙ (same ∙ drop_more xs n d below))
 
@@ -22,7 +22,7 @@ same_there xs ys n d below long same =
 pub same_rest : {X : Type 0} (xs ys : List X) (n : ℕ) (y : X) → drop n ys ≡ drop n xs → drop (n + 1) (set ys n y) ≡ drop (n + 1) xs
 same_rest xs ys n y same = drop-set-lt (n + 1) ys n y (omega arith) ∙ drop_more_same ys xs n same
 
-one_longer : {X : Type 0} (xs ys : List X) (n : ℕ) (x : X) → n < length xs → length ys ≡ length xs → drop n ys ≡ drop n xs → x ≡ get_or ys n x → take (n + 1) xs ≡ take n xs ++ x ∷ []
+pub one_longer : {X : Type 0} (xs ys : List X) (n : ℕ) (x : X) → n < length xs → length ys ≡ length xs → drop n ys ≡ drop n xs → x ≡ get_or ys n x → take (n + 1) xs ≡ take n xs ++ x ∷ []
 one_longer xs ys n x below long same is = take_more xs n x below ∙ ap (λ k. take n xs ++ k ∷ []) (sym (is ∙ same_there xs ys n x below long same))
 
 -- two lists, the second made of the first in place
@@ -53,6 +53,11 @@ three_next R each xs ys n a x y below long same is were one =
     (three_push R each (take n xs) (take n ys) a x y were one))
 
 -- at the end of the lists it is so of all
+pub all_three : {A X : Type 0} (R : A → X → X → Type 0) (each : List A) (xs ys : List X) (n : ℕ) → n ≡ length xs → length ys ≡ length xs → AllThree R each (take n xs) (take n ys) → AllThree R each xs ys
+all_three R each xs ys n end long made =
+    subst (λ l. AllThree R each l ys) (ap (λ m. take m xs) end ∙ take-length xs)
+    (subst (λ l. AllThree R each (take n xs) l) (ap (λ m. take m ys) (end ∙ sym long) ∙ take-length ys) made)
+
 pub all_zipped : {X : Type 0} (R : X → X → Type 0) (xs ys : List X) (n : ℕ) → n ≡ length xs → length ys ≡ length xs → AllZip R (take n xs) (take n ys) → AllZip R xs ys
 all_zipped R xs ys n end long made =
     subst (λ l. AllZip R l ys) (ap (λ m. take m xs) end ∙ take-length xs)

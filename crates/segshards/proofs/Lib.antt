@@ -1,8 +1,13 @@
 pub mod Calls
 pub mod Clock
+pub mod Dealt
 pub mod Each
+pub mod Ended
 pub mod Held
 pub mod InTurn
+pub mod Noted
 pub mod OneOrder
 pub mod Opened
+pub mod Places
 pub mod ShardOrder
+pub mod Whole

@@ -33,7 +33,7 @@ set_at (j ∷ indexes) (l ∷ lists) (suc n) i passes are below is_i quiet = (ar
 pub as_long : (indexes : List Index) (lists : List (Vec Pass)) → AreOfShards indexes lists → length lists ≡ length indexes
 as_long indexes lists are = zip_long QuietIn indexes lists are
 
-abbrev IsNewOf : Index → Client → Type 0
+abbrev pub IsNewOf : Index → Client → Type 0
 IsNewOf i client = (p : Pass) × Starts i (Some 0) p client
 
 -- one client more, of the index at this place

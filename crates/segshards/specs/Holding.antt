@@ -35,3 +35,13 @@ pub record IsHoldOf (hold : read.Hold) (client : Client) : Type 0 where
   pub holder : one.Client
   pub there : slice_get client.shards.items shard ≡ Some holder
   pub is : read.IsHoldOf (shape_of holder.index.now) hold holder.member.pass
+
+-- the hold has the row of the item that is held, and that is an item of this key
+pub record IsHoldOfKey (key : List ℕ) (hold : read.Hold) (client : Client) : Type 0 where
+  pub of : IsHoldOf hold client
+  pub item : of.is.held.key ≡ key
+
+-- what a hold of the key has that had this answer
+abbrev pub HasHold : List ℕ → read.HoldAnswer → Client → Type 0
+HasHold key (hold_answer.Holding hold) client = IsHoldOfKey key hold client
+HasHold key _ client = Unit {0}

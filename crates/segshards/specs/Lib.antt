@@ -1,8 +1,12 @@
 pub mod Client
+pub mod Clients
+pub mod Closing
 pub mod Each
 pub mod Holding
 pub mod Locality
 pub mod Many
 pub mod Noting
+pub mod Plan
 pub mod Shards
 pub mod Sums
+pub mod Whole

@@ -5,7 +5,7 @@ use Rattle.std.specs.Global.{Vec}
 use Rattle.segword.specs.Shape.{HasRoomFor}
 use Rattle.segword.specs.Words.{hash_of, Shape}
 use Rattle.segbase.specs.Words.{Pass}
-use Rattle.segindex.specs.Words.{board_of, Index, shape_of}
+use Rattle.segindex.specs.Words.{AreAllQuiet, board_of, Index, IsNew, shape_of}
 use Rattle.segstore.specs.Words.{IsQuiet}
 
 -- the shard, out of so many, of the keys with this hash: by its bits 20 to 51
@@ -18,6 +18,14 @@ shard_of count key = shard_from_hash count (hash_of key)
 -- there is a list of passes for each shard, and these are between two calls of it
 abbrev pub AreOfShards : List Index → List (Vec Pass) → Type 0
 AreOfShards = AllZip (λ i passes. All (IsQuiet (board_of i)) passes.items)
+
+-- each shard is new and of this shape, with its passes in the order of their numbers
+abbrev pub AreNew : Shape → List Index → List (Vec Pass) → Type 0
+AreNew shape = AllZip (λ i passes. IsNew shape i passes.items)
+
+-- there are all passes of each shard, in any order, and these are between two calls of it
+abbrev pub AreAllOfShards : List Index → List (Vec Pass) → Type 0
+AreAllOfShards = AllZip (λ i passes. AreAllQuiet (board_of i) passes.items)
 
 -- The shards have room for so many keys together, as many each, and each has so many passes.
 pub record HaveRoomFor (keys threads : ℕ) (indexes : List Index) : Type 0 where

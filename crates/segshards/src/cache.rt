@@ -1,15 +1,14 @@
 //! A cache of several indexes, and how it is opened.
-ghost use Rattle.std.specs.Prelude.{◌≡◌, ◌≤◌, All, IfOk, IfSome, vec_len};
+ghost use Rattle.std.specs.Prelude.{◌≡◌, ◌≤◌, [], All, Any, IfNone, IfOk, IfSome, vec_len};
+ghost use Rattle.segword.specs.Words.{Shape};
 ghost use Rattle.segindex.specs.Words.{shape_of};
-ghost use Rattle.segshards.specs.Shards.{AreOfShards, HaveRoomFor};
+ghost use Rattle.segshards.specs.Shards.{AreNew, AreOfShards, HaveRoomFor};
 
 use crate::client::Client;
+use crate::plan::ShardPlan;
 use crate::shard::MOST_SHARDS;
 use segclient::{Index, MakeFault, Pass, Shape, keep_back};
 use std::alloc::{AllocError, Global};
-
-// So many keys a shard has at most. Its buckets then have four keys each, and few have a chain.
-const KEYS_OF_SHARD: u32 = 262_144;
 
 /// Indexes of one shape, the shards. Each key belongs to one of them by its hash.
 #[derive(Drop)]
@@ -21,6 +20,8 @@ pub struct Cache {
 
 impl Cache {
     ghost use Rattle.segshards.specs.Client.{IsNewClient};
+    ghost use Rattle.segshards.specs.Clients.{AreAllClients};
+    ghost use Rattle.segshards.specs.Closing.{AreTaken};
 
     /// A cache in which this number of keys has room to spare, for so many threads,
     /// and the passes of each of its shards, from which `clients` makes clients.
@@ -31,14 +32,14 @@ impl Cache {
         threads: u32,
     ) -> Result<(Cache, Vec<Vec<Pass>>), MakeFault>
         ensures passes { IfOk result (λ made. AreOfShards made.0.shards.items made.1.items) }
+        ensures new { IfOk result (λ made.
+            (shape : Shape) × AreNew shape made.0.shards.items made.1.items) }
         ensures room { IfOk result (λ made. HaveRoomFor keys threads made.0.shards.items) }
     {
-        let count = keys.div_ceil(KEYS_OF_SHARD).max(1);
-        let shape = match Shape::for_keys(keys.div_ceil(count), threads) {
-            Ok(shape) => shape,
-            Err(fault) => return Err(MakeFault::Shape(fault)),
-        };
-        Cache::of_shards(alloc, shape, count)
+        match ShardPlan::for_keys(keys, threads) {
+            Ok(plan) => Cache::of_shards(alloc, plan.shape, plan.count),
+            Err(fault) => Err(MakeFault::Shape(fault)),
+        }
     }
 
     /// A cache of so many shards of this shape, opened one after another, and the passes of each.
@@ -51,6 +52,8 @@ impl Cache {
         requires some { 1 ≤ count }
         requires few { count ≤ MOST_SHARDS }
         ensures passes { IfOk result (λ made. AreOfShards made.0.shards.items made.1.items) }
+        ensures new { IfOk result (λ made.
+            AreNew shape made.0.shards.items made.1.items) }
         ensures count { IfOk result (λ made. vec_len made.0.shards ≡ count) }
         ensures shapes { IfOk result (λ made.
             All (λ i. shape_of i ≡ shape) made.0.shards.items) }
@@ -87,6 +90,8 @@ impl Cache {
         requires passes { AreOfShards self.now.shards.items lists.items }
         ensures each { IfOk result (λ clients.
             All (IsNewClient self.now.shards.items) clients.items) }
+        ensures all { (shape : Shape) → AreNew shape self.now.shards.items lists.items
+            → IfOk result (λ clients. AreAllClients self.now.shards.items clients.items) }
     {
         let mut lists = lists;
         let threads = lists[0].len();
@@ -110,6 +115,10 @@ impl Cache {
         ensures passes { AreOfShards self.now.shards.items lists.new.items }
         ensures client { IfOk result (λ found.
             IfSome found (IsNewClient self.now.shards.items)) }
+        ensures taken { IfOk result (λ found. IfSome found (λ client.
+            AreTaken client.shards.items lists.old.items lists.new.items)) }
+        ensures none { IfOk result (λ found.
+            IfNone found (Any (λ passes. passes.items ≡ []) lists.old.items)) }
     {
         let mut shards = Vec::with_capacity(alloc, self.shards.len())?;
         for place in 0..self.shards.len() {

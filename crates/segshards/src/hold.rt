@@ -7,13 +7,14 @@ use segclient::{Hold, HoldAnswer, Key, Value};
 impl<'c> Client<'c> {
     ghost use Rattle.segclient.specs.Made.{EndsHold, ReadsHold};
     ghost use Rattle.segshards.specs.Client.{CallsShard};
-    ghost use Rattle.segshards.specs.Holding.{HoldsKey, IsHoldOf};
+    ghost use Rattle.segshards.specs.Holding.{HasHold, HoldsKey, IsHoldOf};
 
     /// Holds the item of a key. Its value can be read until the hold is spent by `release`,
     /// whatever becomes of the key, and up to then its segment isn't refilled.
     /// A client holds one item at most, in whatever shard.
     pub fn hold(&mut self, key: &Key) -> HoldAnswer<'c>
         ensures holds { HoldsKey key.now result self.old self.new }
+        ensures held { HasHold key.now result self.new }
     {
         if self.holds.is_some() {
             return HoldAnswer::AlreadyHolding;
@@ -38,6 +39,7 @@ impl<'c> Client<'c> {
         ensures reads { IfSome self.old.holds (λ shard.
             CallsShard shard (ReadsHold hold.now result) self.old self.new) }
         ensures holds { self.new.holds ≡ self.old.holds }
+        ensures held { IsHoldOf hold.now self.new }
     {
         let Some(place) = self.holds else {
             unreachable!()

@@ -10,6 +10,7 @@ mod hold;
 mod laws;
 mod many;
 mod note;
+mod plan;
 mod settings;
 mod shard;
 mod stats;
@@ -17,9 +18,13 @@ mod write;
 
 pub use cache::Cache;
 pub use client::Client;
+pub use closing::WholeShard;
 pub use laws::locality;
+pub use note::Notes;
+pub use plan::ShardPlan;
 pub use segclient::{
     DeleteAnswer, GetAnswer, GetsAnswer, Hold, HoldAnswer, Index, IndexStats, Key, MakeFault, Note,
-    Pass, PutAnswer, Shape, ShapeFault, Stats, Value, WriteAnswer,
+    OutOfMemory, Pass, PutAnswer, Shape, ShapeFault, Stats, Value, WriteAnswer,
 };
-pub use shard::MOST_SHARDS;
+pub use shard::{MOST_SHARDS, shard_of};
+pub use stats::{no_stats, stats_sum, table_sum};

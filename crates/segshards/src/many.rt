@@ -3,14 +3,70 @@ ghost use Rattle.std.specs.Prelude.{◌≡◌, ◌<◌, length};
 ghost use Rattle.segshards.specs.Many.{GetsKey, GetsKeyVersion, InTurn};
 
 use crate::client::Client;
-use segclient::{GetAnswer, GetsAnswer, Key};
-use segword::hash;
+use segbase::CHAIN_BUCKETS;
+use segclient::{GetAnswer, GetsAnswer, Index, Key};
+use segindex::{Lead, Seeker};
 
 // So many keys are looked ahead for at a time.
 const PIECE: usize = 16;
 
 // For fewer keys a look ahead costs more than it spares.
 const LEAST: usize = 8;
+
+// Keys that are looked for: of each the place of its shard, and where in it.
+#[derive(Drop)]
+struct Round {
+    steps: [Option<(usize, Seeker)>; PIECE],
+    count: usize,
+}
+
+impl Round {
+    // No keys.
+    fn new() -> Round {
+        Round {
+            steps: [None; PIECE],
+            count: 0,
+        }
+    }
+
+    // One more, if there is room.
+    #[inline(always)]
+    fn push(&mut self, place: usize, seeker: Seeker) {
+        if self.count < PIECE {
+            self.steps[self.count] = Some((place, seeker));
+            self.count += 1;
+        }
+    }
+}
+
+// Loads the ends of the buckets of these keys, and then those of the rows that words of these
+// buckets name. What is left are the keys whose chains go on.
+fn load(indexes: &[Index], round: &Round) -> Round {
+    for (place, seeker) in round.steps.iter().flatten() {
+        if let Some(index) = indexes.get(*place) {
+            index.load(*seeker);
+        }
+    }
+    let mut next = Round::new();
+    let mut items = [None; PIECE];
+    for (item, step) in items.iter_mut().zip(round.steps.iter()) {
+        if let Some((place, seeker)) = step {
+            if let Some(index) = indexes.get(*place) {
+                match index.follow(*seeker) {
+                    Lead::Item(found) => *item = Some((*place, found)),
+                    Lead::Bucket(seeker) => next.push(*place, seeker),
+                    Lead::Nothing => {}
+                }
+            }
+        }
+    }
+    for (place, item) in items.iter().flatten() {
+        if let Some(index) = indexes.get(*place) {
+            index.load_item(*item);
+        }
+    }
+    next
+}
 
 impl<'c> Client<'c> {
     /// The value under each key: one get after another, each with the answer at its key's place.
@@ -45,13 +101,32 @@ impl<'c> Client<'c> {
         }
     }
 
-    /// Loads the ends of the buckets of these keys, so that waits for memory overlap.
+    /// Loads what calls on these keys will read, in all shards, so that waits for memory overlap.
     /// No answer depends on it, and it changes nothing.
     pub fn look_ahead(&self, keys: &[Key]) {
+        if let [index] = self.indexes {
+            index.look_ahead(keys);
+            return;
+        }
+        for piece in keys.chunks(PIECE) {
+            self.look_ahead_piece(piece);
+        }
+    }
+
+    // In each round all places are known before the first load begins, whatever their shards.
+    fn look_ahead_piece(&self, keys: &[Key]) {
+        let mut round = Round::new();
         for key in keys {
-            if let Some(index) = self.indexes.get(self.place_of(key)) {
-                index.may_have(hash(key));
+            let place = self.place_of(key);
+            if let Some(index) = self.indexes.get(place) {
+                round.push(place, index.seeker(key));
             }
+        }
+        for _ in 0..CHAIN_BUCKETS {
+            if round.count == 0 {
+                return;
+            }
+            round = load(self.indexes, &round);
         }
     }
 }

@@ -8,7 +8,7 @@ pub const MOST_SHARDS: usize = 16_384;
 /// The shard of a hash, out of this many. It goes by bits 20 to 51 of the hash,
 /// by which neither the bucket nor the tag goes.
 #[inline(always)]
-pub(crate) fn shard_of(hash: u64, count: usize) -> usize
+pub fn shard_of(hash: u64, count: usize) -> usize
     requires some { 1 ≤ count }
     requires few { count ≤ MOST_SHARDS }
     ensures shard { result ≡ shard_from_hash count hash }

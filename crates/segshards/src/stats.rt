@@ -37,8 +37,8 @@ impl<'c> Client<'c> {
     }
 }
 
-// Nothing is counted yet.
-fn no_stats() -> Stats
+/// Counts of nothing yet.
+pub fn no_stats() -> Stats
     ensures { result ≡ no_stats }
 {
     Stats {
@@ -58,8 +58,8 @@ fn no_stats() -> Stats
     }
 }
 
-// The sum of each number, or the largest one.
-fn stats_sum(sum: Stats, more: Stats) -> Stats
+/// The sum of each number, or the largest one.
+pub fn stats_sum(sum: Stats, more: Stats) -> Stats
     ensures { result ≡ stats_sum sum more }
 {
     Stats {
@@ -79,8 +79,8 @@ fn stats_sum(sum: Stats, more: Stats) -> Stats
     }
 }
 
-// The sum of each number, or the largest one.
-fn table_sum(sum: IndexStats, more: IndexStats) -> IndexStats
+/// The sum of each number, or the largest one.
+pub fn table_sum(sum: IndexStats, more: IndexStats) -> IndexStats
     ensures { result ≡ table_sum sum more }
 {
     IndexStats {

@@ -33,6 +33,8 @@ mod memory_program;
 #[cfg(test)]
 mod memory_scripts;
 #[cfg(test)]
+mod memory_shards;
+#[cfg(test)]
 mod memory_solo;
 #[cfg(test)]
 mod memory_tables;

@@ -1,6 +1,6 @@
 use Rattle.std.proofs.Common.{◌≡◌, false, refl, rules}
 use Rattle.std.specs.Prelude.{is_some}
-use Rattle.segshards.proofs.Held.{none_held, takes_hold}
+use Rattle.segshards.proofs.Held.{has_hold, none_held, takes_hold}
 use Rattle.segshards.proofs.client.Client.hold.Goals as goal
 
 pub returns-in-Holding : goal.returns-in-Holding
@@ -8,6 +8,7 @@ returns-in-Holding c =
     let none : is_some c.args.self.now.holds ≡ false = search rules in record {
       holds = takes_hold c.args.key.now _ c.hold.result c.args.self.now _ c.place_of-place.result c.index_mut-shard.result.now c.set_now.new.self c.hold.new.self none c.in-Holding.is
           (c.place_of-place.ensures.shard, c.place_of-place.ensures.within) c.index_mut-shard.ensures.value c.set_now.ensures.sets c.hold.ensures.holds refl refl refl;
+      held = has_hold c.args.key.now c.in-Holding.hold c.hold.result c.args.self.now.shards.items _ c.place_of-place.result c.set_now.new.self c.hold.new.self c.in-Holding.is c.place_of-place.ensures.within c.hold.ensures.holds refl refl;
     }
 
 pub returns-in-Miss : goal.returns-in-Miss
@@ -15,6 +16,7 @@ returns-in-Miss c =
     let none : is_some c.args.self.now.holds ≡ false = search rules in record {
       holds = takes_hold c.args.key.now _ c.hold.result c.args.self.now _ c.place_of-place.result c.index_mut-shard.result.now c.set_now.new.self c.hold.new.self none c.in-Miss.is
           (c.place_of-place.ensures.shard, c.place_of-place.ensures.within) c.index_mut-shard.ensures.value c.set_now.ensures.sets c.hold.ensures.holds refl refl (none_held c.args.self.now.holds none);
+      held = tt;
     }
 
 pub returns-in-Busy : goal.returns-in-Busy
@@ -22,6 +24,7 @@ returns-in-Busy c =
     let none : is_some c.args.self.now.holds ≡ false = search rules in record {
       holds = takes_hold c.args.key.now _ c.hold.result c.args.self.now _ c.place_of-place.result c.index_mut-shard.result.now c.set_now.new.self c.hold.new.self none c.in-Busy.is
           (c.place_of-place.ensures.shard, c.place_of-place.ensures.within) c.index_mut-shard.ensures.value c.set_now.ensures.sets c.hold.ensures.holds refl refl (none_held c.args.self.now.holds none);
+      held = tt;
     }
 
 pub returns-in-AlreadyHolding : goal.returns-in-AlreadyHolding
@@ -29,4 +32,5 @@ returns-in-AlreadyHolding c =
     let none : is_some c.args.self.now.holds ≡ false = search rules in record {
       holds = takes_hold c.args.key.now _ c.hold.result c.args.self.now _ c.place_of-place.result c.index_mut-shard.result.now c.set_now.new.self c.hold.new.self none c.in-AlreadyHolding.is
           (c.place_of-place.ensures.shard, c.place_of-place.ensures.within) c.index_mut-shard.ensures.value c.set_now.ensures.sets c.hold.ensures.holds refl refl (none_held c.args.self.now.holds none);
+      held = tt;
     }

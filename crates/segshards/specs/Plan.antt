@@ -1,0 +1,21 @@
+-- How many shards a cache has for a number of keys, and of which shape.
+use Rattle.std.specs.Prelude.{◌≡◌, ℕ, ◌*◌, ◌≤◌}
+use Rattle.segword.specs.Shape.{HasRoomFor, IsFaultOfKeys, IsValid}
+use Rattle.segword.specs.declared.shape.ShapeFault.{ShapeFault}
+use Rattle.segshards.specs.declared.plan.ShardPlan.{ShardPlan}
+use Rattle.segshards.specs.declared.shard.TheConstants.{MOST_SHARDS}
+
+-- The shards have room for so many keys together, as many each, and each has so many passes.
+pub record IsPlanFor (keys threads : ℕ) (plan : ShardPlan) : Type 0 where
+  pub valid : IsValid plan.shape
+  pub passes : plan.shape.passes ≡ threads
+  pub each : ℕ
+  pub enough : keys ≤ each * plan.count
+  pub room : HasRoomFor each plan.shape
+  pub some : 1 ≤ plan.count
+  pub few : plan.count ≤ MOST_SHARDS
+
+-- What is in the way of a plan is the number of threads alone, whatever the number of keys.
+pub record IsFaultOfPlan (threads : ℕ) (fault : ShapeFault) : Type 0 where
+  pub is : fault ≡ BadPasses
+  pub threads : ¬ (IsInRange 1 64 threads)
