@@ -2,22 +2,19 @@
 use Rattle.std.proofs.Common.{◌≡◌, is_none, true, false, Option, Some, None, refl, sym, subst}
 use Rattle.std.proofs.lemmas.Bool.{false≢true}
 use Rattle.segcache.specs.declared.cache.Cache.{Cache}
-use Rattle.segcache.specs.declared.cursor.Cursor.{Cursor}
+use Rattle.segcache.specs.declared.closing.Closing.{Closing}
+use Rattle.segcache.specs.declared.closing.Closing.TheVariants as closing
 use Rattle.segcache.specs.declared.kept.Kept.{Kept}
 use Rattle.segcache.specs.declared.kept.Kept.TheVariants as kept
 use Rattle.segcache.specs.declared.status.Status.{Status}
 use Rattle.segcache.specs.declared.status.Status.TheVariants as status
-use Rattle.segcache.specs.Closing.{Closed, Closes, ClosesFrom, IsListOf, IsLost, IsRefusal, IsRefused, IsSameCache, ListsContent, LosesContent}
+use Rattle.segcache.specs.Closing.{Closed, Closes, ClosesAs, ClosesCache, ClosesFrom, IsListOf, IsLost, IsRefused}
 
 -- a cache stood there
-pub listed : (was now : Kept) (home : Cache) (list : Cursor) → was ≡ kept.Cache home → now ≡ kept.Cursor list → list.next ≡ 0 → ListsContent home list.pairs.items → IsListOf was now
-listed was now home list from into first lists = subst (λ (k : Kept). IsListOf k now) (sym from) (list, into, first, lists)
-
-pub refused : (was now : Kept) (home cache : Cache) (why : Status) → was ≡ kept.Cache home → now ≡ kept.Cache cache → IsSameCache home cache → IsRefusal home why → IsRefused was now why
-refused was now home cache why from into same is = subst (λ (k : Kept). IsRefused k now why) (sym from) (cache, into, same, is)
-
-pub lost : (was : Kept) (home : Cache) → was ≡ kept.Cache home → LosesContent home → IsLost was
-lost was home from loses = subst IsLost (sym from) loses
+pub closes : (was now : Kept) (cache : Cache) (how : Closing) → was ≡ kept.Cache cache → ClosesCache cache now how → ClosesAs was now how
+closes was now cache closing.Listed from is = subst (λ (k : Kept). IsListOf k now) (sym from) is
+closes was now cache (closing.Refused why) from is = subst (λ (k : Kept). IsRefused k now why) (sym from) is
+closes was now cache closing.Gone from is = subst IsLost (sym from) is
 
 -- what a handle had, and an empty handle for the cursor
 pub closed : (before after cursor next : Option Kept) (was : Kept) (returned : Status) → before ≡ Some was → is_none cursor ≡ true → Closes was after next returned → Closed before after cursor next returned

@@ -1,7 +1,11 @@
+pub mod Along
 pub mod Answering
 pub mod Closed
+pub mod Dealt
 pub mod Ended
+pub mod Held
 pub mod InTurn
+pub mod Keyed
 pub mod Made
 pub mod Members
 pub mod Noted
@@ -9,5 +13,7 @@ pub mod Opened
 pub mod Placed
 pub mod Released
 pub mod Returned
+pub mod Roomy
 pub mod Rows
+pub mod Turned
 pub mod Values

@@ -6,18 +6,18 @@ use Rattle.segbase.specs.Words.{holding, number_of, Pass}
 use Rattle.segindex.specs.Words.{Index, IsNew}
 use Rattle.segread.specs.Words.{HeldRow}
 use Rattle.segclient.specs.declared.member.Member.{Member}
-use Rattle.segcache.specs.declared.client.SharedClient.{SharedClient}
-use Rattle.segcache.specs.Calls.{EndsItsHold, IsPassOfGuest}
+use Rattle.segcache.specs.declared.guest.Guest.{Guest}
+use Rattle.segcache.specs.Guest.{EndsItsHold, IsPassOfGuest}
 
-ended_number : (guest next : SharedClient) (row : Option HeldRow) → EndsItsHold row guest next → number_of next.member.pass ≡ number_of guest.member.pass
+ended_number : (guest next : Guest) (row : Option HeldRow) → EndsItsHold row guest next → number_of next.member.pass ≡ number_of guest.member.pass
 ended_number guest next None ends = ap (λ (m : Member). number_of m.pass) ends.1
 ended_number guest next (Some row) ends = next.is_member.0.pass.numbered ∙ ends.0.made.releases.on.same ∙ sym guest.is_member.0.pass.numbered
 
 -- its pass has its number, also once its hold has ended
-pub same_number : (guest : SharedClient) (n : ℕ) (p : Pass) → n ≡ number_of guest.member.pass → IsPassOfGuest guest p → number_of p ≡ n
+pub same_number : (guest : Guest) (n : ℕ) (p : Pass) → n ≡ number_of guest.member.pass → IsPassOfGuest guest p → number_of p ≡ n
 same_number guest n p is of = ap number_of of.pass ∙ ended_number guest of.next guest.share.held of.ends ∙ sym is
 
-all_from : {A : Type 0} (P : A → Type 0) (xs : List A) → ((n : ℕ) (x : A) → slice_get xs n ≡ Some x → P x) → All P xs
+pub all_from : {A : Type 0} (P : A → Type 0) (xs : List A) → ((n : ℕ) (x : A) → slice_get xs n ≡ Some x → P x) → All P xs
 all_from P [] each = All-nil P
 all_from P (x ∷ xs) each = All-cons P x xs (each zero x refl) (all_from P xs (λ n y at. each (suc n) y at))
 

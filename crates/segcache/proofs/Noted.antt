@@ -1,15 +1,16 @@
 -- A handle with a note, and one with anything else.
-use Rattle.std.proofs.Common.{◌≡◌, is_none, true, false, Option, Some, None, refl, sym, subst}
+use Rattle.std.proofs.Common.{◌≡◌, is_none, true, false, Option, Some, None, refl, sym, subst, inl, inr}
 use Rattle.std.proofs.lemmas.Bool.{false≢true}
+use Rattle.std.specs.Global.{Vec}
 use Rattle.segindex.specs.Words.{Note}
 use Rattle.segcache.specs.declared.client.SharedClient.{SharedClient}
 use Rattle.segcache.specs.declared.kept.Kept.{Kept}
 use Rattle.segcache.specs.declared.kept.Kept.TheVariants as kept
 use Rattle.segcache.specs.declared.status.Status.TheVariants as status
-use Rattle.segcache.specs.Calls.{MakesCall}
+use Rattle.segcache.specs.All.{EachAnswers}
 use Rattle.segcache.specs.declared.status.Status.{Status}
 use Rattle.segclient.specs.Made.{Learns, Notes}
-use Rattle.segcache.specs.Noting.{FreesNote, is_note, KeepsNote, LearnsFrom, NotesInto}
+use Rattle.segcache.specs.Noting.{FreesNote, is_note, KeepsNotes, LearnsFrom, NotesInto}
 
 frees : (was : Kept) → is_note was ≡ true → FreesNote (Some was) None status.Ok
 frees (kept.Note note) is = (refl, refl)
@@ -47,14 +48,18 @@ pub nothing_learned : (before after : Option Kept) (guest : SharedClient) → be
 nothing_learned before after guest from into =
     subst (λ (b : Option Kept). LearnsFrom b after status.NoHandle guest guest) (sym from) (refl, into, refl)
 
-pub learned : (before after : Option Kept) (was : Kept) (note : Note) (old new : SharedClient) → before ≡ Some was → was ≡ kept.Note note → after ≡ None → MakesCall (Learns note) old new → LearnsFrom before after status.Ok old new
-learned before after was note old new from is into learns =
+pub learned : (before after : Option Kept) (was : Kept) (notes : Vec Note) (old new : SharedClient) → before ≡ Some was → was ≡ kept.Note notes → after ≡ None → EachAnswers Learns notes.items old new → LearnsFrom before after status.Ok old new
+learned before after was notes old new from is into learns =
     subst (λ (b : Option Kept). LearnsFrom b after status.Ok old new) (sym from) (subst (λ (k : Kept). LearnsFrom (Some k) after status.Ok old new) (sym is) (refl, into, learns))
 
--- a note that was made for an empty handle, or wasn't for one in use
-pub noted : (before after : Option Kept) (returned : Status) (made : Note) (old new : SharedClient) → is_none before ≡ true → MakesCall (Notes made) old new → KeepsNote made returned after → NotesInto before after returned old new
-noted None after returned made old new is makes keeps = (made, makes, keeps)
-noted (Some used) after returned made old new is makes keeps = absurd (false≢true is)
+-- notes that were made for an empty handle, or weren't for one in use, or for want of memory
+pub noted : (before after : Option Kept) (returned : Status) (notes : Vec Note) (old new : SharedClient) → is_none before ≡ true → EachAnswers Notes notes.items old new → KeepsNotes notes returned after → NotesInto before after returned old new
+noted None after returned notes old new is makes keeps = inl (notes, makes, keeps)
+noted (Some used) after returned notes old new is makes keeps = absurd (false≢true is)
+
+pub not_made : (before after : Option Kept) (guest new : SharedClient) → is_none before ≡ true → after ≡ before → new ≡ guest → NotesInto before after status.OutOfMemory guest new
+not_made None after guest new is same still = inr (refl, same, still)
+not_made (Some used) after guest new is same still = absurd (false≢true is)
 
 pub not_noted : (before after : Option Kept) (guest : SharedClient) → is_none before ≡ false → after ≡ before → NotesInto before after status.NoHandle guest guest
 not_noted None after guest is same = absurd (false≢true (sym is))

@@ -1,25 +1,13 @@
 -- A cache and its clients, as they begin, in boxes and in handles.
-use Rattle.std.proofs.Common.{◌≡◌, ◌<◌, ℕ, suc, List, [], ◌∷◌, ◌++◌, length, map, take, set, Option, Some, refl, sym, ap, ◌∙◌, subst, arith, zero, true, false, is_none, drop, get_or, None}
+use Rattle.std.proofs.Common.{◌≡◌, ◌<◌, ℕ, suc, List, [], ◌∷◌, ◌++◌, length, map, take, set, Option, Some, refl, sym, ap, ◌∙◌, arith, zero, true, false, is_none, drop, get_or, None}
 use Rattle.std.proofs.lemmas.Bool.{false≢true}
 use lib.Seq.{take-suc-set}
 use Rattle.std.specs.Global.{Box}
 use Rattle.std.proofs.lemmas.List.{length-map, map-append}
-use Rattle.segword.specs.Words.{Shape}
-use Rattle.segbase.specs.Words.{Pass}
-use Rattle.segindex.specs.Words.{Index}
-use Rattle.segclient.proofs.Places.{zip_long}
-use Rattle.segcache.specs.declared.cache.Cache.{Cache}
-use Rattle.segcache.specs.declared.client.SharedClient.{SharedClient}
+use Rattle.segshards.specs.declared.plan.ShardPlan.{ShardPlan}
 use Rattle.segcache.specs.declared.handle.Handle.{Handle}
 use Rattle.segcache.specs.declared.kept.Kept.{Kept}
-use Rattle.segcache.specs.declared.kept.Kept.TheVariants as kept
-use Rattle.segcache.specs.Opening.{are_empty, in_box, IsGuest, IsHome, IsNewGuest, IsNewHome, IsOpened, put_in, value_of, values_of}
-
-pub is_guest : (i : Index) (p : Pass) (k : Kept) (guest : SharedClient) → k ≡ kept.Client guest → IsNewGuest i p guest → IsGuest i p k
-is_guest i p k guest from is = subst (IsGuest i p) (sym from) is
-
-pub is_home : (i : Index) (k : Kept) (home : Cache) → k ≡ kept.Cache home → IsNewHome i home → IsHome i k
-is_home i k home from is = subst (IsHome i) (sym from) is
+use Rattle.segcache.specs.Opening.{are_empty, in_box, IsOpened, put_in, value_of, values_of}
 
 -- what the boxes have is what the handles have
 pub same_values : (boxes : List (Box Kept)) → map put_in boxes ≡ map Some (map in_box boxes)
@@ -27,8 +15,8 @@ same_values [] = refl
 same_values (b ∷ boxes) = ap (λ (l : List (Option Kept)). Some b.value ∷ l) (same_values boxes)
 
 -- there is one for each pass
-pub opened_long : (shape : Shape) (home : Kept) (boxes : List (Box Kept)) → IsOpened shape home (map in_box boxes) → length boxes ≡ shape.passes
-opened_long shape home boxes is = sym (length-map boxes in_box) ∙ zip_long (IsGuest is.index) is.passes (map in_box boxes) is.clients ∙ is.new.made.dealt.long
+pub opened_long : (plan : ShardPlan) (home : Kept) (boxes : List (Box Kept)) → IsOpened plan home (map in_box boxes) → length boxes ≡ plan.shape.passes
+opened_long plan home boxes is = sym (length-map boxes in_box) ∙ is.long
 
 -- as many handles have as many values
 pub same_long : (handles others : List Handle) → values_of handles ≡ values_of others → length handles ≡ length others

@@ -1,71 +1,33 @@
--- What a client that shares its index did: a call of the index, and what it holds from then on.
-use Rattle.std.specs.Prelude.{◌≡◌, ℕ, List, Option, Some, None, IsSomeAnd}
-use Rattle.segbase.specs.Words.{Board, holding, Pass}
-use Rattle.segindex.specs.Words.{board_of}
-use Rattle.segread.specs.declared.held.RowAnswer.TheVariants as row_answer
-use Rattle.segread.specs.Words.{HeldRow, RowAnswer}
+-- What a client of all shards did by one of them.
+use Rattle.std.specs.Prelude.{◌≡◌, ℕ, List, length, slice_get, slice_set, Some}
+use Rattle.segbase.specs.Words.{Board}
 use Rattle.segclient.specs.declared.member.Member.{Member}
-use Rattle.segclient.specs.Made.{EndsHold, HoldsInto, ReadsHeldRow}
-use Rattle.segclient.specs.Member.{SetsNow}
+use Rattle.segshards.specs.Shards.{shard_of}
 use Rattle.segcache.specs.declared.client.SharedClient.{SharedClient}
-use Rattle.segcache.specs.declared.status.Status.{Status}
-use Rattle.segcache.specs.declared.status.Status.TheVariants as status
+use Rattle.segcache.specs.declared.guest.Guest.{Guest}
+use Rattle.segcache.specs.Guest as of_guest
 
--- the client made this call of its index
-pub record Calls (Made : Board → Member → Member → Type 0) (old new : SharedClient) : Type 0 where
-  pub index : new.share.index.value ≡ old.share.index.value
-  pub made : Made (board_of old.share.index.value) old.member new.member
-
--- the client made this call, and holds what it held
-pub record MakesCall (Made : Board → Member → Member → Type 0) (old new : SharedClient)
+-- its guest of this shard did this, and the guests of the others are as they were
+pub record ByShard (shard : ℕ) (Does : Guest → Guest → Type 0) (old new : SharedClient)
     : Type 0 where
-  pub calls : Calls Made old new
-  pub held : new.share.held ≡ old.share.held
+  pub was : Guest
+  pub is : Guest
+  pub there : slice_get old.guests.items shard ≡ Some was
+  pub does : Does was is
+  pub guests : new.guests.items ≡ slice_set old.guests.items shard is
 
--- the clock was set to this moment, and then the call was made
-pub record At (now : ℕ) (Made : Board → Member → Member → Type 0) (b : Board)
-    (old new : Member) : Type 0 where
-  pub before : Member
-  pub sets : SetsNow now old before
-  pub made : Made b before new
+-- the guest of the key's shard did this
+abbrev pub ByShardOf : List ℕ → (Guest → Guest → Type 0) → SharedClient → SharedClient → Type 0
+ByShardOf key Does old new = ByShard (shard_of (length old.guests.items) key) Does old new
 
--- ---- holds
+-- The guest of the key's shard made this call of its index, and what is held is as it was.
+pub record CallsKey (key : List ℕ) (Made : Board → Member → Member → Type 0)
+    (old new : SharedClient) : Type 0 where
+  pub calls : ByShardOf key (of_guest.MakesCall Made) old new
+  pub holds : new.holds ≡ old.holds
 
-abbrev pub hold_status : RowAnswer → Status
-hold_status row_answer.Holding = status.Ok
-hold_status row_answer.Miss = status.Miss
-hold_status row_answer.Busy = status.Busy
-hold_status row_answer.AlreadyHolding = status.AlreadyHolding
-
--- a hold of the key had this status, and the client holds this row from then on
-pub record TakesHold (key : List ℕ) (returned : Status) (row next : Option HeldRow) (b : Board)
-    (old new : Member) : Type 0 where
-  pub answer : RowAnswer
-  pub holds : HoldsInto key answer row next b old new
-  pub returns : returned ≡ hold_status answer
-
-abbrev pub HoldsAt : List ℕ → ℕ → Status → SharedClient → SharedClient → Type 0
-HoldsAt key now returned old new =
-    Calls (At now (TakesHold key returned old.share.held new.share.held)) old new
-
--- nothing was done
-abbrev pub DoesNothing : SharedClient → SharedClient → Type 0
-DoesNothing old new = (new.share ≡ old.share) × (new.member ≡ old.member)
-
--- the value that is held was read, if there is one; without one nothing was done
-abbrev pub ReadsHeld : Option (List ℕ) → SharedClient → SharedClient → Type 0
-ReadsHeld (Some value) old new =
-    IsSomeAnd old.share.held (λ row. MakesCall (ReadsHeldRow row value) old new)
-ReadsHeld None old new = (old.share.held ≡ None) × DoesNothing old new
-
--- the hold of this row ended; without one nothing was done
-abbrev pub EndsItsHold : Option HeldRow → SharedClient → SharedClient → Type 0
-EndsItsHold (Some row) old new = Calls EndsHold old new × (new.share.held ≡ None)
-EndsItsHold None old new = DoesNothing old new
-
--- the pass of a client whose hold has ended
-pub record IsPassOfGuest (guest : SharedClient) (left : Pass) : Type 0 where
-  pub next : SharedClient
-  pub ends : EndsItsHold guest.share.held guest next
-  pub pass : left ≡ next.member.pass
-  pub free : holding left ≡ None
+-- and so is the shard that wants room
+pub record MakesCall (key : List ℕ) (Made : Board → Member → Member → Type 0)
+    (old new : SharedClient) : Type 0 where
+  pub calls : CallsKey key Made old new
+  pub wants : new.wants ≡ old.wants

@@ -1,11 +1,7 @@
--- How a cache closes: with its content listed, refused, or gone.
-use Rattle.std.specs.Prelude.{◌≡◌, ◌⊎◌, ℕ, List, map, All, IsSome, Option, Some, None}
-use Rattle.segbase.specs.Words.{Pass}
-use Rattle.segindex.specs.Closing.{WantsMemoryOfAll}
-use Rattle.segindex.specs.Words.{IsContentOfAll, shape_of}
+-- How a cache closes: with the content of its last shard listed, refused, or gone.
+use Rattle.std.specs.Prelude.{◌≡◌, ◌⊎◌, Option, Some, None}
+use Rattle.std.specs.List.{AllZip}
 use Rattle.segcache.specs.declared.cache.Cache.{Cache}
-use Rattle.segcache.specs.declared.cache.End.{End}
-use Rattle.segcache.specs.declared.cache.End.TheVariants as end
 use Rattle.segcache.specs.declared.closing.Closing.{Closing}
 use Rattle.segcache.specs.declared.closing.Closing.TheVariants as closing
 use Rattle.segcache.specs.declared.cursor.Cursor.{Cursor}
@@ -13,53 +9,59 @@ use Rattle.segcache.specs.declared.kept.Kept.{Kept}
 use Rattle.segcache.specs.declared.kept.Kept.TheVariants as kept
 use Rattle.segcache.specs.declared.status.Status.{Status}
 use Rattle.segcache.specs.declared.status.Status.TheVariants as status
+use Rattle.segcache.specs.Ending.{AreAllHome, LosesShard, Turns}
+use Rattle.segcache.specs.Home.{IsSameHome}
 
--- each client is back, and this is the content of the index that its passes close
-pub record ListsContent (home : Cache) (pairs : List (List ℕ × List ℕ)) : Type 0 where
-  pub passes : List Pass
-  pub all : map Some passes ≡ home.places.items
-  pub content : IsContentOfAll (shape_of home.index.value) passes pairs
+-- the shards of a cache, none of which is closed
+abbrev pub IsBefore : Cache → Cursor → Type 0
+IsBefore cache cursor = cursor.homes ≡ cache.homes
 
--- each client is back, and some key stands, for which memory was refused
-pub record LosesContent (home : Cache) : Type 0 where
-  pub passes : List Pass
-  pub all : map Some passes ≡ home.places.items
-  pub wanted : WantsMemoryOfAll (shape_of home.index.value) passes
+-- the last shard was closed, and its content is listed
+pub record ListsLast (cache : Cache) (list : Cursor) : Type 0 where
+  pub before : Cursor
+  pub begins : IsBefore cache before
+  pub turns : Turns before list
 
--- it is the cache that it was
-pub record IsSameCache (old new : Cache) : Type 0 where
-  pub index : new.index ≡ old.index
-  pub places : new.places ≡ old.places
+-- the last shard was closed, and memory for the list of its content was refused
+pub record LosesLast (cache : Cache) : Type 0 where
+  pub before : Cursor
+  pub after : Cursor
+  pub begins : IsBefore cache before
+  pub loses : LosesShard before after
 
--- ClientOut: a client isn't back. Else each is: memory was refused, or, Busy, the index is shared
+-- each shard is as it was
+abbrev pub IsSameCache : Cache → Cache → Type 0
+IsSameCache old new = AllZip IsSameHome old.homes.items new.homes.items
+
+-- ClientOut: a client isn't back. Else each is: memory was refused, or, Busy, an index is shared
 -- with somebody else.
 abbrev pub IsRefusal : Cache → Status → Type 0
-IsRefusal home status.ClientOut = ¬ (All IsSome home.places.items)
-IsRefusal home status.OutOfMemory = All IsSome home.places.items
-IsRefusal home status.Busy = All IsSome home.places.items
-IsRefusal home _ = ⊥
+IsRefusal cache status.ClientOut = ¬ (AreAllHome cache)
+IsRefusal cache status.OutOfMemory = AreAllHome cache
+IsRefusal cache status.Busy = AreAllHome cache
+IsRefusal cache _ = ⊥
 
-abbrev pub EndsAs : Cache → End → Type 0
-EndsAs home (end.Content pairs) = ListsContent home pairs.items
-EndsAs home (end.Refused cache why) = IsSameCache home cache × IsRefusal home why
-EndsAs home end.Gone = LosesContent home
+abbrev pub ClosesCache : Cache → Kept → Closing → Type 0
+ClosesCache cache now closing.Listed =
+    (list : Cursor) × (now ≡ kept.Cursor list) × AreAllHome cache × ListsLast cache list
+ClosesCache cache now (closing.Refused why) =
+    (same : Cache) × (now ≡ kept.Cache same) × IsSameCache cache same × IsRefusal cache why
+ClosesCache cache now closing.Gone = AreAllHome cache × LosesLast cache
 
 -- ---- by what a handle keeps
 
--- the cache became a cursor before the first pair of its content
+-- the cache became a cursor before the first pair of the content of its last shard
 abbrev pub IsListOf : Kept → Kept → Type 0
-IsListOf (kept.Cache home) now =
-    (list : Cursor) × (now ≡ kept.Cursor list) × (list.next ≡ 0) × ListsContent home list.pairs.items
+IsListOf (kept.Cache cache) now = ClosesCache cache now closing.Listed
 IsListOf was now = ⊥
 
 -- the cache is as it was, and so is what is none
 abbrev pub IsRefused : Kept → Kept → Status → Type 0
-IsRefused (kept.Cache home) now why =
-    (cache : Cache) × (now ≡ kept.Cache cache) × IsSameCache home cache × IsRefusal home why
+IsRefused (kept.Cache cache) now why = ClosesCache cache now (closing.Refused why)
 IsRefused was now why = (why ≡ status.NoHandle) × (now ≡ was)
 
 abbrev pub IsLost : Kept → Type 0
-IsLost (kept.Cache home) = LosesContent home
+IsLost (kept.Cache cache) = AreAllHome cache × LosesLast cache
 IsLost was = ⊥
 
 abbrev pub ClosesAs : Kept → Kept → Closing → Type 0

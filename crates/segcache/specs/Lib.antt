@@ -1,8 +1,13 @@
+pub mod All
 pub mod Calls
 pub mod Closing
 pub mod Ending
 pub mod Exports
+pub mod Guest
+pub mod Holding
+pub mod Home
 pub mod Made
+pub mod Making
 pub mod Many
 pub mod Noting
 pub mod Opening
@@ -10,8 +15,10 @@ pub mod Owned
 pub mod Places
 pub mod Reading
 pub mod Returning
+pub mod Room
 pub mod Setting
 pub mod Sharing
 pub mod Status
 pub mod Token
+pub mod Wants
 pub mod Writing

@@ -1,26 +1,33 @@
 -- What the exports of notes do.
 use Rattle.std.specs.Prelude.{◌≡◌, ◌⊎◌, Bool, true, false, Option, Some, None}
-use Rattle.segindex.specs.Words.{board_of, IsNoteOf, Note}
+use Rattle.std.specs.Global.{Vec}
+use Rattle.segindex.specs.Words.{Note}
 use Rattle.segclient.specs.Made.{Learns, Notes}
 use Rattle.segcache.specs.declared.client.SharedClient.{SharedClient}
 use Rattle.segcache.specs.declared.kept.Kept.{Kept}
 use Rattle.segcache.specs.declared.kept.Kept.TheVariants as kept
 use Rattle.segcache.specs.declared.status.Status.{Status}
 use Rattle.segcache.specs.declared.status.Status.TheVariants as status
-use Rattle.segcache.specs.Calls.{MakesCall}
+use Rattle.segcache.specs.All.{AreNotesFor, EachAnswers}
 use Rattle.segcache.specs.Exports.{ByClient, Returns}
 
--- the note stands in its handle, unless the memory for it was refused
-abbrev pub KeepsNote : Note → Status → Option Kept → Type 0
-KeepsNote note returned next =
-    ((returned ≡ status.Ok) × (next ≡ Some (kept.Note note)))
+-- the notes stand in their handle, unless the memory for it was refused
+abbrev pub KeepsNotes : Vec Note → Status → Option Kept → Type 0
+KeepsNotes notes returned next =
+    ((returned ≡ status.Ok) × (next ≡ Some (kept.Note notes)))
     ⊎ ((returned ≡ status.OutOfMemory) × (next ≡ None))
 
--- The client made a note for an empty handle. A handle in use is as it was,
+-- memory for the list of notes was refused, and nothing was done
+abbrev pub WritesNoNotes : Option Kept → Status → SharedClient → SharedClient → Type 0
+WritesNoNotes next returned old new =
+    (returned ≡ status.OutOfMemory) × (next ≡ None) × (new ≡ old)
+
+-- The client made a note of each shard for an empty handle. A handle in use is as it was,
 -- and nothing was done.
 abbrev pub NotesInto : Option Kept → Option Kept → Status → SharedClient → SharedClient → Type 0
 NotesInto None next returned old new =
-    (made : Note) × MakesCall (Notes made) old new × KeepsNote made returned next
+    ((notes : Vec Note) × EachAnswers Notes notes.items old new × KeepsNotes notes returned next)
+    ⊎ WritesNoNotes next returned old new
 NotesInto (Some used) next returned old new =
     (returned ≡ status.NoHandle) × (next ≡ Some used) × (new ≡ old)
 
@@ -29,16 +36,15 @@ Noted before after note next returned =
     ByClient (λ why. Returns returned why × (next ≡ note)) (NotesInto note next returned)
     before after
 
--- if these are a client and a note, the note was made by a client of the same index
+-- if these are a client and notes, the notes were made by a client of the same cache
 abbrev pub IsNoteFor : Option Kept → Option Kept → Type 0
-IsNoteFor (Some (kept.Client client)) (Some (kept.Note note)) =
-    IsNoteOf (board_of client.share.index.value) note
+IsNoteFor (Some (kept.Client client)) (Some (kept.Note notes)) = AreNotesFor client notes.items
 IsNoteFor _ _ = Unit {0}
 
--- the client learned the note of the handle, which is empty then; without one nothing was done
+-- the client learned the notes of the handle, which is empty then; without one nothing was done
 abbrev pub LearnsFrom : Option Kept → Option Kept → Status → SharedClient → SharedClient → Type 0
-LearnsFrom (Some (kept.Note note)) next returned old new =
-    (returned ≡ status.Ok) × (next ≡ None) × MakesCall (Learns note) old new
+LearnsFrom (Some (kept.Note notes)) next returned old new =
+    (returned ≡ status.Ok) × (next ≡ None) × EachAnswers Learns notes.items old new
 LearnsFrom note next returned old new = (returned ≡ status.NoHandle) × (next ≡ note) × (new ≡ old)
 
 abbrev pub Learned : Option Kept → Option Kept → Option Kept → Option Kept → Status → Type 0

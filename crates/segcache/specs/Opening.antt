@@ -1,15 +1,12 @@
 -- What the exports do that open a cache.
-use Rattle.std.specs.Prelude.{◌≡◌, ◌⊎◌, ℕ, Bool, true, false, List, [], ◌∷◌, length, map}
-use Rattle.std.specs.Prelude.{replicate, Option, Some, None, is_none}
+use Rattle.std.specs.Prelude.{◌≡◌, ◌⊎◌, ℕ, Bool, true, false, List, [], ◌∷◌, All, length, map}
+use Rattle.std.specs.Prelude.{Option, Some, None, is_none, slice_get}
 use Rattle.std.specs.Global.{Box}
 use Rattle.std.specs.List.{AllZip}
-use Rattle.segword.specs.Shape.{HasRoomFor, IsFaultOfKeys}
 use Rattle.segword.specs.Words.{IsFirstFault, IsValid, Shape}
 use Rattle.segword.specs.declared.shape.ShapeFault.{ShapeFault}
-use Rattle.segbase.specs.Words.{Pass}
-use Rattle.segindex.specs.Words.{Index, IsNew, shape_of}
-use Rattle.segclient.specs.Member.{Begins}
-use Rattle.segcache.specs.declared.cache.Cache.{Cache}
+use Rattle.segshards.specs.declared.plan.ShardPlan.{ShardPlan}
+use Rattle.segshards.specs.Plan.{IsFaultOfPlan, IsPlanFor}
 use Rattle.segcache.specs.declared.client.SharedClient.{SharedClient}
 use Rattle.segcache.specs.declared.handle.Handle.{Handle}
 use Rattle.segcache.specs.declared.kept.Kept.{Kept}
@@ -17,35 +14,36 @@ use Rattle.segcache.specs.declared.kept.Kept.TheVariants as kept
 use Rattle.segcache.specs.declared.opening.CacheShape.{CacheShape}
 use Rattle.segcache.specs.declared.status.Status.{Status}
 use Rattle.segcache.specs.declared.status.Status.TheVariants as status
+use Rattle.segcache.specs.Making.{IsGuestAt, IsHomeOf, IsNewShard, Shard}
 
 -- ---- a new cache
 
--- it shares this index, and no pass is in its places
-pub record IsNewHome (i : Index) (home : Cache) : Type 0 where
-  pub index : home.index.value ≡ i
-  pub places : home.places.items ≡ replicate (shape_of i).passes None
+-- it has these shards, and no pass is in its places
+abbrev pub IsCache : List Shard → Kept → Type 0
+IsCache shards (kept.Cache cache) = AllZip IsHomeOf shards cache.homes.items
+IsCache shards _ = ⊥
 
--- it shares this index, is new, of this pass, may keep any item, and holds nothing
-pub record IsNewGuest (i : Index) (p : Pass) (guest : SharedClient) : Type 0 where
-  pub index : guest.share.index.value ≡ i
-  pub member : Begins (shape_of i) (Some 0) p guest.member
-  pub held : guest.share.held ≡ None
+-- it has a new guest of each shard, of the pass of this number, holds nothing,
+-- and wants no room
+pub record IsNewClient (n : ℕ) (shards : List Shard) (client : SharedClient) : Type 0 where
+  pub guests : AllZip (IsGuestAt n) shards client.guests.items
+  pub holds : client.holds ≡ None
+  pub wants : client.wants ≡ None
 
-abbrev pub IsHome : Index → Kept → Type 0
-IsHome i (kept.Cache home) = IsNewHome i home
-IsHome i _ = ⊥
+abbrev pub IsClient : ℕ → List Shard → Kept → Type 0
+IsClient n shards (kept.Client client) = IsNewClient n shards client
+IsClient n shards _ = ⊥
 
-abbrev pub IsGuest : Index → Pass → Kept → Type 0
-IsGuest i p (kept.Client guest) = IsNewGuest i p guest
-IsGuest i p _ = ⊥
-
--- a cache over a new index of this shape, and a client of each pass, in the order of their numbers
-pub record IsOpened (shape : Shape) (home : Kept) (guests : List Kept) : Type 0 where
-  pub index : Index
-  pub passes : List Pass
-  pub new : IsNew shape index passes
-  pub cache : IsHome index home
-  pub clients : AllZip (IsGuest index) passes guests
+-- A cache over new shards of this plan, and a client of each pass, in the order of their numbers.
+pub record IsOpened (plan : ShardPlan) (home : Kept) (clients : List Kept) : Type 0 where
+  pub shards : List Shard
+  pub count : length shards ≡ plan.count
+  pub new : All (IsNewShard plan.shape) shards
+  pub cache : IsCache shards home
+  pub long : length clients ≡ plan.shape.passes
+  pub each : (n : ℕ) (client : Kept)
+      → slice_get clients n ≡ Some client
+      → IsClient n shards client
 
 -- ---- in handles
 
@@ -63,12 +61,12 @@ abbrev pub in_box : Box Kept → Kept
 in_box boxed = boxed.value
 
 -- the cache is in its handle, and each client in one of the others, in their order
-pub record Opens (shape : Shape) (cache : Option Kept) (clients : List Handle) : Type 0 where
+pub record AreOpen (plan : ShardPlan) (cache : Option Kept) (handles : List Handle) : Type 0 where
   pub home : Kept
-  pub guests : List Kept
-  pub opened : IsOpened shape home guests
+  pub clients : List Kept
+  pub opened : IsOpened plan home clients
   pub cache_in : cache ≡ Some home
-  pub clients_in : values_of clients ≡ map Some guests
+  pub clients_in : values_of handles ≡ map Some clients
 
 -- each handle has what it had
 abbrev pub LeavesAll : Option Kept → Option Kept → List Handle → List Handle → Type 0
@@ -96,20 +94,22 @@ IsInUse before clients =
 -- Ok: the handles were empty, and have a new cache and its clients. BadShape: the number of handles
 -- is not that of the passes, or the shape has a fault. NoHandle: a handle is in use.
 -- OutOfMemory comes only for a shape that can be. Then each handle has what it had.
-abbrev pub OpensShape : Shape → Option Kept → Option Kept → List Handle → List Handle → Status
+abbrev pub Opens : ShardPlan → Option Kept → Option Kept → List Handle → List Handle → Status
     → Type 0
-OpensShape shape before after clients next status.Ok =
-    AreHandlesFor shape before clients × Opens shape after next
-OpensShape shape before after clients next status.BadShape =
-    (¬ (length clients ≡ shape.passes)
-    ⊎ (AreHandlesFor shape before clients × ((fault : ShapeFault) × IsFirstFault shape fault)))
+Opens plan before after clients next status.Ok =
+    AreHandlesFor plan.shape before clients × AreOpen plan after next
+Opens plan before after clients next status.BadShape =
+    (¬ (length clients ≡ plan.shape.passes)
+    ⊎ (AreHandlesFor plan.shape before clients
+    × ((fault : ShapeFault) × IsFirstFault plan.shape fault)))
     × LeavesAll before after clients next
-OpensShape shape before after clients next status.NoHandle =
-    (length clients ≡ shape.passes) × IsInUse before clients
+Opens plan before after clients next status.NoHandle =
+    (length clients ≡ plan.shape.passes) × IsInUse before clients
     × LeavesAll before after clients next
-OpensShape shape before after clients next status.OutOfMemory =
-    AreHandlesFor shape before clients × IsValid shape × LeavesAll before after clients next
-OpensShape shape before after clients next _ = ⊥
+Opens plan before after clients next status.OutOfMemory =
+    AreHandlesFor plan.shape before clients × IsValid plan.shape
+    × LeavesAll before after clients next
+Opens plan before after clients next _ = ⊥
 
 abbrev pub shape_from : CacheShape → Shape
 shape_from shape = record {
@@ -121,17 +121,15 @@ shape_from shape = record {
   first_version = shape.first_version;
 }
 
--- a shape with room for so many keys, and so many passes
-pub record IsShapeFor (keys threads : ℕ) (shape : Shape) : Type 0 where
-  pub valid : IsValid shape
-  pub passes : shape.passes ≡ threads
-  pub room : HasRoomFor keys shape
+-- one shard of this shape
+abbrev pub one_of : Shape → ShardPlan
+one_of shape = record { shape = shape; count = 1 }
 
--- By such a shape, as above. BadShape comes also if there is none: then each handle is as it was.
+-- By such a plan, as above. BadShape comes also if there is none: then each handle is as it was.
 abbrev pub OpensKeys : ℕ → ℕ → Option Kept → Option Kept → List Handle → List Handle → Status
     → Type 0
 OpensKeys keys threads before after clients next returned =
-    ((shape : Shape) × IsShapeFor keys threads shape
-    × OpensShape shape before after clients next returned)
-    ⊎ ((fault : ShapeFault) × IsFaultOfKeys keys threads fault × (returned ≡ status.BadShape)
+    ((plan : ShardPlan) × IsPlanFor keys threads plan
+    × Opens plan before after clients next returned)
+    ⊎ ((fault : ShapeFault) × IsFaultOfPlan threads fault × (returned ≡ status.BadShape)
     × LeavesAll before after clients next)

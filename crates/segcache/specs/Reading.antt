@@ -1,16 +1,17 @@
 -- What the exports that read do.
-use Rattle.std.specs.Prelude.{◌≡◌, ℕ, List, Option, Some, None}
+use Rattle.std.specs.Prelude.{◌≡◌, ℕ, List, Bool, true, false, Option, Some, None}
 use Rattle.segmodel.specs.Words.{GetAnswer, GetsAnswer}
 use Rattle.segmodel.specs.declared.answer.GetAnswer.TheVariants as get
 use Rattle.segmodel.specs.declared.answer.GetsAnswer.TheVariants as gets
-use Rattle.segread.specs.Words.{HeldRow}
 use Rattle.segclient.specs.Made.{Gets, GetsVersion}
 use Rattle.segcache.specs.declared.client.SharedClient.{SharedClient}
 use Rattle.segcache.specs.declared.kept.Kept.{Kept}
 use Rattle.segcache.specs.declared.status.Status.{Status}
 use Rattle.segcache.specs.declared.status.Status.TheVariants as status
-use Rattle.segcache.specs.Calls.{At, EndsItsHold, HoldsAt, MakesCall, ReadsHeld}
+use Rattle.segcache.specs.Calls.{MakesCall}
 use Rattle.segcache.specs.Exports.{ByClient, ByKey, CopiesOut, Out, Returns, WritesNothing}
+use Rattle.segcache.specs.Guest.{At}
+use Rattle.segcache.specs.Holding.{HoldsAt, ReadsHeld, Releases}
 
 -- a value that was found is copied out
 abbrev pub ReturnsGet : GetAnswer → Status → Out → Out → Type 0
@@ -22,7 +23,7 @@ ReturnsGet get.Busy returned out next = WritesNothing out next returned status.B
 pub record MakesGet (key : List ℕ) (now : ℕ) (out next : Out) (returned : Status)
     (old new : SharedClient) : Type 0 where
   pub answer : GetAnswer
-  pub calls : MakesCall (At now (Gets key answer)) old new
+  pub calls : MakesCall key (At now (Gets key answer)) old new
   pub returns : ReturnsGet answer returned out next
 
 -- the same of any key: one of a bad length is refused
@@ -51,7 +52,7 @@ ReturnsGets gets.Busy returned out next version next_version =
 pub record MakesGets (key : List ℕ) (now : ℕ) (out next : Out) (version next_version : ℕ)
     (returned : Status) (old new : SharedClient) : Type 0 where
   pub answer : GetsAnswer
-  pub calls : MakesCall (At now (GetsVersion key answer)) old new
+  pub calls : MakesCall key (At now (GetsVersion key answer)) old new
   pub returns : ReturnsGets answer returned out next version next_version
 
 abbrev pub GotKeyVersion : List ℕ → ℕ → Out → Out → ℕ → ℕ → Status
@@ -86,11 +87,11 @@ abbrev pub GotHeld : Option Kept → Option Kept → Out → Out → Status → 
 GotHeld before after out next returned =
     ByClient (WritesNothing out next returned) (MakesHeldRead out next returned) before after
 
-abbrev pub release_status : Option HeldRow → Status
-release_status (Some row) = status.Ok
-release_status None = status.NotHolding
+abbrev pub release_status : Bool → Status
+release_status true = status.Ok
+release_status false = status.NotHolding
 
 abbrev pub Released : Option Kept → Option Kept → Status → Type 0
 Released before after returned =
     ByClient (Returns returned)
-    (λ old new. EndsItsHold old.share.held old new × (returned ≡ release_status old.share.held)) before after
+    (λ old new. (ended : Bool) × Releases ended old new × (returned ≡ release_status ended)) before after

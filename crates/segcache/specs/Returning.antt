@@ -1,28 +1,23 @@
--- What the exports do that give a client back, and close a cache.
-use Rattle.std.specs.Prelude.{◌≡◌, slice_get, slice_set, Option, Some, None}
-use Rattle.segbase.specs.Words.{number_of, Pass}
+-- What the exports do that give a client back.
+use Rattle.std.specs.Prelude.{◌≡◌, Option, Some, None}
+use Rattle.std.specs.List.{AllZip}
+use Rattle.segshards.specs.Each.{AllThree}
 use Rattle.segcache.specs.declared.cache.Cache.{Cache}
 use Rattle.segcache.specs.declared.client.SharedClient.{SharedClient}
 use Rattle.segcache.specs.declared.kept.Kept.{Kept}
 use Rattle.segcache.specs.declared.kept.Kept.TheVariants as kept
 use Rattle.segcache.specs.declared.status.Status.{Status}
 use Rattle.segcache.specs.declared.status.Status.TheVariants as status
-use Rattle.segcache.specs.Calls.{IsPassOfGuest}
+use Rattle.segcache.specs.Home as of_home
 
--- ---- a client that goes back
-
--- the place of the client is free
+-- each shard has a free place for the client's guest of it
 abbrev pub HasPlaceFor : Cache → SharedClient → Type 0
-HasPlaceFor home guest =
-    slice_get home.places.items (number_of guest.member.pass) ≡ Some None
+HasPlaceFor cache client = AllZip of_home.HasPlaceFor cache.homes.items client.guests.items
 
--- the pass of the client, whose hold has ended, stands in its place
-pub record TakesBack (guest : SharedClient) (old new : Cache) : Type 0 where
-  pub left : Pass
-  pub of : IsPassOfGuest guest left
-  pub index : new.index ≡ old.index
-  pub places : new.places.items
-      ≡ slice_set old.places.items (number_of guest.member.pass) (Some left)
+-- each guest of the client went back to its shard
+abbrev pub TakesBack : SharedClient → Cache → Cache → Type 0
+TakesBack client old new =
+    AllThree of_home.TakesBack client.guests.items old.homes.items new.homes.items
 
 -- whether the cache has a place for what a handle keeps
 abbrev pub IsWelcome : Cache → Kept → Status → Type 0

@@ -3,21 +3,20 @@ use Rattle.std.specs.Prelude.{◌≡◌, ◌==◌, ℕ, min, if◌then◌else◌
 use Rattle.std.specs.Prelude.{Option, Some, None}
 use Rattle.segindex.specs.declared.table_stats.IndexStats.{IndexStats}
 use Rattle.segclient.specs.declared.stats.Stats.{Stats}
-use Rattle.segclient.specs.Made.{ReturnsTable}
 use Rattle.segclient.specs.Member.{SetsCutoff, SetsTimeToLive}
-use Rattle.segclient.specs.Puts.{MakesRoomFor}
 use Rattle.segcache.specs.declared.kept.Kept.{Kept}
 use Rattle.segcache.specs.declared.settings.ClientStats.{ClientStats}
 use Rattle.segcache.specs.declared.settings.TableStats.{TableStats}
 use Rattle.segcache.specs.declared.status.Status.{Status}
 use Rattle.segcache.specs.declared.status.Status.TheVariants as status
-use Rattle.segcache.specs.Calls.{At, MakesCall}
+use Rattle.segcache.specs.All.{EachMakes, ReturnsTables, stats_of}
+use Rattle.segcache.specs.Room.{MakesRoom}
 use Rattle.segcache.specs.Exports.{ByClient, Returns}
 
 abbrev pub SetTimeToLive : ℕ → Option Kept → Option Kept → Status → Type 0
 SetTimeToLive seconds before after returned =
     ByClient (Returns returned)
-    (λ old new. (returned ≡ status.Ok) × MakesCall (λ b. SetsTimeToLive seconds) old new) before after
+    (λ old new. (returned ≡ status.Ok) × EachMakes (λ b. SetsTimeToLive seconds) old new) before after
 
 -- a number of C's as a cutoff: 0 keeps nothing, and what has no 8 bits counts as 255
 abbrev pub cutoff_of : ℕ → Option ℕ
@@ -26,7 +25,7 @@ cutoff_of number = if number == 0 then None else Some (min number 255)
 abbrev pub KeptFrom : ℕ → Option Kept → Option Kept → Status → Type 0
 KeptFrom number before after returned =
     ByClient (Returns returned)
-    (λ old new. (returned ≡ status.Ok) × MakesCall (λ b. SetsCutoff (cutoff_of number)) old new)
+    (λ old new. (returned ≡ status.Ok) × EachMakes (λ b. SetsCutoff (cutoff_of number)) old new)
     before after
 
 abbrev pub room_status : Bool → Status
@@ -36,7 +35,7 @@ room_status false = status.NoRoom
 abbrev pub MadeRoom : ℕ → Option Kept → Option Kept → Status → Type 0
 MadeRoom now before after returned =
     ByClient (Returns returned)
-    (λ old new. (made : Bool) × MakesCall (At now (MakesRoomFor made)) old new
+    (λ old new. (made : Bool) × MakesRoom now made old new
     × (returned ≡ room_status made)) before after
 
 -- the counts as C has them
@@ -60,7 +59,7 @@ counts_of stats = record {
 abbrev pub Counted : Option Kept → Option Kept → ClientStats → ClientStats → Status → Type 0
 Counted before after counts next returned =
     ByClient (λ why. Returns returned why × (next ≡ counts))
-    (λ old new. (next ≡ counts_of old.member.stats) × (new ≡ old) × (returned ≡ status.Ok))
+    (λ old new. (next ≡ counts_of (stats_of old.guests.items)) × (new ≡ old) × (returned ≡ status.Ok))
     before after
 
 abbrev pub table_of : IndexStats → TableStats
@@ -73,5 +72,5 @@ table_of stats = record {
 abbrev pub CountedTable : Option Kept → Option Kept → TableStats → TableStats → Status → Type 0
 CountedTable before after counts next returned =
     ByClient (λ why. Returns returned why × (next ≡ counts))
-    (λ old new. (stats : IndexStats) × MakesCall (ReturnsTable stats) old new
+    (λ old new. (stats : IndexStats) × ReturnsTables stats old new
     × (next ≡ table_of stats) × (returned ≡ status.Ok)) before after

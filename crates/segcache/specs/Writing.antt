@@ -1,5 +1,5 @@
 -- What the exports that write do.
-use Rattle.std.specs.Prelude.{◌≡◌, ℕ, List, Option}
+use Rattle.std.specs.Prelude.{◌≡◌, ℕ, List, length, Option}
 use Rattle.segmodel.specs.Words.{DeleteAnswer, WriteAnswer}
 use Rattle.segmodel.specs.declared.answer.DeleteAnswer.TheVariants as delete
 use Rattle.segmodel.specs.declared.answer.WriteAnswer.TheVariants as write
@@ -12,9 +12,12 @@ use Rattle.segcache.specs.declared.kept.Kept.{Kept}
 use Rattle.segcache.specs.declared.status.Status.{Status}
 use Rattle.segcache.specs.declared.status.Status.TheVariants as status
 use Rattle.segcache.specs.declared.when.When.{When}
-use Rattle.segcache.specs.Calls.{At, MakesCall}
+use Rattle.segcache.specs.Calls.{CallsKey, MakesCall}
 use Rattle.segcache.specs.Exports.{ByClient, ByKey, ByValue, Returns}
+use Rattle.segcache.specs.Guest.{At}
 use Rattle.segcache.specs.Made.{WritesWhen}
+use Rattle.segcache.specs.Wants.{put_wants, write_wants}
+use Rattle.segshards.specs.Shards.{shard_of}
 
 -- the status of each answer
 abbrev pub put_status : PutAnswer → Status
@@ -41,7 +44,8 @@ delete_status delete.Busy = status.Busy
 pub record MakesPut (key value : List ℕ) (now : ℕ) (returned : Status) (old new : SharedClient)
     : Type 0 where
   pub answer : PutAnswer
-  pub calls : MakesCall (At now (Puts key value answer)) old new
+  pub calls : CallsKey key (At now (Puts key value answer)) old new
+  pub wants : new.wants ≡ put_wants answer (shard_of (length old.guests.items) key)
   pub returns : returned ≡ put_status answer
 
 abbrev pub Put : List ℕ → List ℕ → ℕ → Option Kept → Option Kept → Status → Type 0
@@ -54,7 +58,8 @@ Put key value now before after returned =
 pub record MakesWrite (when : When) (key value : List ℕ) (now : ℕ) (returned : Status)
     (old new : SharedClient) : Type 0 where
   pub answer : WriteAnswer
-  pub calls : MakesCall (At now (WritesWhen when key value answer)) old new
+  pub calls : CallsKey key (At now (WritesWhen when key value answer)) old new
+  pub wants : new.wants ≡ write_wants answer (shard_of (length old.guests.items) key)
   pub returns : returned ≡ write_status answer
 
 abbrev pub Wrote : When → List ℕ → List ℕ → ℕ → Option Kept → Option Kept → Status → Type 0
@@ -67,7 +72,7 @@ Wrote when key value now before after returned =
 pub record MakesDelete (key : List ℕ) (now : ℕ) (returned : Status) (old new : SharedClient)
     : Type 0 where
   pub answer : DeleteAnswer
-  pub calls : MakesCall (At now (DeletesKey key answer)) old new
+  pub calls : MakesCall key (At now (DeletesKey key answer)) old new
   pub returns : returned ≡ delete_status answer
 
 abbrev pub Deleted : List ℕ → ℕ → Option Kept → Option Kept → Status → Type 0

@@ -1,125 +1,71 @@
-//! The cache that C has, with a place for each of its passes.
-ghost use Rattle.std.specs.Prelude.{◌≡◌, ◌↔◌, ◌≤◌, ◌+◌, true, All, IsSome, Some, None};
-ghost use Rattle.std.specs.Prelude.{replicate, map, vec_len, IfOk, []};
-ghost use Rattle.std.specs.Vec.{vec_capacity};
-ghost use Rattle.segcache.specs.Places.{AreItsPlaces, AreItsPlaces-prop};
+//! The cache that C has: all shards, each with places for its passes.
+ghost use Rattle.std.specs.Prelude.{◌≡◌, ◌≤◌, vec_len};
 
 use crate::client::SharedClient;
-use crate::status::Status;
-use segclient::{Index, Key, Pass, Value};
-use std::alloc::{AllocError, Global};
-use std::sync::Arc;
+use crate::home::Home;
 
-/// An index that is shared with clients, and the passes of those that came back.
+/// The shards of a cache, in their order.
 #[derive(Drop)]
 pub struct Cache {
-    index: Arc<Index, Global>,
-    places: Vec<Option<Pass>>,
-    ghost places_are: { AreItsPlaces index.value
-        places.items } by { AreItsPlaces-prop index.value places.items },
-}
-
-/// How the end of a cache went.
-pub(crate) enum End {
-    /// Its content.
-    Content { pairs: Vec<(Key, Value)> },
-    /// It didn't come about, and the cache is as it was.
-    Refused { cache: Cache, why: Status },
-    /// The memory for the list was refused, and the cache is gone.
-    Gone,
+    homes: Vec<Home>,
+    ghost some: { 1 ≤ vec_len homes },
 }
 
 impl Cache {
-    ghost use Rattle.segcache.specs.Closing.{EndsAs};
-    ghost use Rattle.segcache.specs.Opening.{IsNewHome};
+    ghost use Rattle.std.specs.Prelude.{◌↔◌, true};
     ghost use Rattle.segcache.specs.Returning.{HasPlaceFor, TakesBack};
+    ghost use Rattle.segcache.specs.Ending.{AreAllHome};
+    ghost use Rattle.segcache.specs.Sharing.{ShareShards};
 
-    /// A cache with no pass in its places.
-    pub(crate) fn new(alloc: Global, index: Arc<Index, Global>) -> Result<Cache, AllocError>
-        ensures { IfOk result (IsNewHome index.value) }
+    /// A cache of these shards.
+    pub(crate) fn new(homes: Vec<Home>) -> Cache
+        requires some { 1 ≤ vec_len homes }
+        ensures homes { result.homes ≡ homes }
     {
-        let places = no_passes(alloc, index.shape().passes)?;
-        Ok(Cache { index, places })
+        Cache { homes }
     }
 
-    /// Whether the pass of each client is back.
+    /// Its shards.
+    pub(crate) fn into_homes(self) -> Vec<Home>
+        ensures homes { result ≡ self.homes }
+    {
+        let Cache { homes } = self;
+        homes
+    }
+
+    /// Whether the passes of each client are back.
     pub(crate) fn has_all(&self) -> bool
-        ensures { result ≡ true ↔ All IsSome self.now.places.items }
+        ensures { result ≡ true ↔ AreAllHome self.now }
     {
-        self.places.iter().all(|place| place.is_some())
+        self.homes.iter().all(|home| home.has_all())
     }
 
-    /// Whether the place of the client is free.
+    /// Whether each shard has a free place for the client.
     pub(crate) fn has_place_for(&self, client: &SharedClient) -> bool
         ensures { result ≡ true ↔ HasPlaceFor self.now client.now }
     {
-        matches!(self.places.get(client.number() as usize), Some(None))
+        if self.homes.len() != client.guests.len() {
+            return false;
+        }
+        for place in 0..self.homes.len() {
+            if !self.homes[place].has_place_for(&client.guests[place]) {
+                return false;
+            }
+        }
+        true
     }
 
-    /// Ends the hold of a client of this index, and puts its pass into its place.
+    /// Ends the hold of a client of these shards, and puts its passes into their places.
     pub(crate) fn take_back(&mut self, client: SharedClient)
-        requires same { client.share.index.value ≡ self.old.index.value }
-        requires place { HasPlaceFor self.old client }
+        requires same { ShareShards self.old client }
+        requires places { HasPlaceFor self.old client }
         ensures { TakesBack client self.old self.new }
     {
-        let place = client.number() as usize;
-        self.places[place] = Some(client.into_pass());
-    }
-
-    /// Closes the index with all passes, if all are back, and lists its content.
-    /// It is Busy if somebody shares the index still, which no contract rules out.
-    pub(crate) fn end(self, alloc: Global) -> End
-        ensures { EndsAs self result }
-    {
-        if !self.has_all() {
-            return End::Refused {
-                cache: self,
-                why: Status::ClientOut,
-            };
-        }
-        let Ok(passes) = Vec::with_capacity(alloc, self.places.len()) else {
-            return End::Refused {
-                cache: self,
-                why: Status::OutOfMemory,
-            };
-        };
-        let Cache { index, places } = self;
-        match Arc::try_unwrap(index) {
-            Ok(index) => match index.close_all(alloc, passes_of(places, passes)) {
-                Ok(pairs) => End::Content { pairs },
-                Err(_) => End::Gone,
-            },
-            Err(index) => End::Refused {
-                cache: Cache { index, places },
-                why: Status::Busy,
-            },
+        let SharedClient { guests, .. } = client;
+        let mut place = 0;
+        for guest in guests {
+            self.homes[place].take_back(guest);
+            place += 1;
         }
     }
-}
-
-// So many places with no pass.
-fn no_passes(alloc: Global, count: u32) -> Result<Vec<Option<Pass>>, AllocError>
-    ensures { IfOk result (λ places. places.items ≡ replicate count None) }
-{
-    let mut places = Vec::with_capacity(alloc, count as usize)?;
-    for _ in 0..count {
-        places.push_reserved(None);
-    }
-    Ok(places)
-}
-
-// The passes in the places, in their order, behind those of the list.
-fn passes_of(places: Vec<Option<Pass>>, passes: Vec<Pass>) -> Vec<Pass>
-    requires all { All IsSome places.items }
-    requires room { vec_len passes + vec_len places ≤ vec_capacity passes }
-    requires none { passes.items ≡ [] }
-    ensures { map Some result.items ≡ places.items }
-{
-    let mut passes = passes;
-    for place in places {
-        if let Some(pass) = place {
-            passes.push_reserved(pass);
-        }
-    }
-    passes
 }

@@ -3,16 +3,16 @@ ghost use Rattle.segindex.specs.Words.{board_of};
 ghost use Rattle.segclient.specs.Member.{IsMember};
 ghost use Rattle.segcache.specs.Made.{WritesWhen};
 
-use crate::client::SharedClient;
+use crate::guest::Guest;
 use crate::when::When;
 use segclient::{
     DeleteAnswer, GetAnswer, GetsAnswer, Index, Key, Member, PutAnswer, Value, WriteAnswer,
 };
 
-impl SharedClient {
+impl Guest {
     ghost use Rattle.segclient.specs.Made.{DeletesKey, Gets, GetsVersion};
     ghost use Rattle.segclient.specs.Puts.{Puts};
-    ghost use Rattle.segcache.specs.Calls.{At, MakesCall};
+    ghost use Rattle.segcache.specs.Guest.{At, MakesCall};
 
     /// The value under a key.
     pub(crate) fn get(&mut self, key: &Key, now: u32) -> GetAnswer

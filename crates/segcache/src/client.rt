@@ -1,103 +1,142 @@
-//! A client that shares its index with the cache and the other clients.
-ghost use Rattle.std.specs.Prelude.{◌≡◌, None};
-ghost use Rattle.segbase.specs.Words.{number_of};
-ghost use Rattle.segindex.specs.Words.{board_of, shape_of};
-ghost use Rattle.segstore.specs.Words.{IsQuiet};
-ghost use Rattle.segclient.specs.Member.{IsMember, IsMember-prop};
-ghost use Rattle.segread.specs.Words.{IsKept, IsKept-prop};
+//! A client of all shards, as a handle of C's keeps it.
+ghost use Rattle.std.specs.Prelude.{◌≡◌, ◌≤◌, ◌<◌, IfSome, vec_len};
+ghost use Rattle.std.specs.Option.{ForSome};
+ghost use Rattle.segcache.specs.Wants.{put_wants, write_wants};
 
-use segclient::{Index, IndexStats, Member, Pass, Share, Stats};
-use std::alloc::Global;
-use std::sync::Arc;
+use crate::guest::Guest;
+use crate::when::When;
+use segclient::{DeleteAnswer, GetAnswer, GetsAnswer, Key, PutAnswer, Value, WriteAnswer};
+use segshards::shard_of;
+use segword::hash;
 
-/// A client with a share of its index, and what it holds by the share.
-/// A client that is dropped ends its hold first.
+/// A client of each shard of a cache. A call on a key is the call of that of the key's shard.
+#[derive(Drop)]
 pub struct SharedClient {
-    pub(crate) share: Share,
-    pub(crate) member: Member,
-    ghost is_member: { IsMember share.index.value
-        member } by { IsMember-prop share.index.value member },
-    ghost row: { IsKept (shape_of share.index.value) member.pass
-        share.held } by { IsKept-prop (shape_of share.index.value) member.pass share.held },
-}
-
-impl Drop for SharedClient {
-    fn drop(self) {
-        self.into_pass();
-    }
+    pub(crate) guests: Vec<Guest>,
+    // The shard in which it holds an item.
+    pub(crate) holds: Option<usize>,
+    // The shard of its last write, if there was no room for it.
+    pub(crate) wants: Option<usize>,
+    ghost some: { 1 ≤ vec_len guests },
+    ghost few: { vec_len guests ≤ 16384 },
+    ghost held: { ForSome holds (λ shard. shard < vec_len guests) },
+    ghost wanted: { ForSome wants (λ shard. shard < vec_len guests) },
 }
 
 impl SharedClient {
-    ghost use Rattle.segclient.specs.Made.{ReturnsTable};
-    ghost use Rattle.segclient.specs.Member.{SetsCutoff, SetsTimeToLive};
-    ghost use Rattle.segclient.specs.Puts.{MakesRoomFor};
-    ghost use Rattle.segcache.specs.Calls.{At, IsPassOfGuest, MakesCall};
+    ghost use Rattle.std.specs.Prelude.{length, None};
+    ghost use Rattle.segclient.specs.Made.{DeletesKey, Gets, GetsVersion};
+    ghost use Rattle.segclient.specs.Puts.{Puts};
+    ghost use Rattle.segshards.specs.Shards.{shard_of};
+    ghost use Rattle.segcache.specs.Calls.{CallsKey, MakesCall};
+    ghost use Rattle.segcache.specs.Guest.{At};
+    ghost use Rattle.segcache.specs.Made.{WritesWhen};
 
-    /// A client that shares the index, and holds nothing.
-    pub(crate) fn new(index: Arc<Index, Global>, member: Member) -> SharedClient
-        requires member { IsMember index.value member }
-        requires row { IsKept (shape_of index.value) member.pass None }
-        ensures index { result.share.index.value ≡ index.value }
-        ensures member { result.member ≡ member }
-        ensures held { result.share.held ≡ None }
+    /// A client of these clients of the shards, in the order of the shards.
+    pub(crate) fn new(guests: Vec<Guest>) -> SharedClient
+        requires some { 1 ≤ vec_len guests }
+        requires few { vec_len guests ≤ 16384 }
+        ensures guests { result.guests ≡ guests }
+        ensures holds { result.holds ≡ None }
+        ensures wants { result.wants ≡ None }
     {
         SharedClient {
-            share: Share::new(index),
-            member,
+            guests,
+            holds: None,
+            wants: None,
         }
     }
 
-    /// Sets how long what is put can be read.
-    pub(crate) fn set_time_to_live(&mut self, seconds: u32)
-        ensures { MakesCall (λ board. SetsTimeToLive seconds) self.old self.new }
+    // The place of the key's shard.
+    #[inline(always)]
+    pub(crate) fn place_of(&self, key: &Key) -> usize
+        ensures shard { result ≡ shard_of (length self.now.guests.items) key.now }
+        ensures within { result < length self.now.guests.items }
     {
-        self.member.set_time_to_live(seconds);
+        shard_of(hash(key), self.guests.len())
     }
 
-    /// Sets which items a put keeps.
-    pub(crate) fn keep_from(&mut self, cutoff: Option<u8>)
-        ensures { MakesCall (λ board. SetsCutoff cutoff) self.old self.new }
+    /// The value under a key.
+    #[inline(always)]
+    pub(crate) fn get(&mut self, key: &Key, now: u32) -> GetAnswer
+        ensures { MakesCall key.now (At now (Gets key.now result)) self.old self.new }
     {
-        self.member.keep_from(cutoff);
+        let place = self.place_of(key);
+        let guest = &mut self.guests[place];
+        guest.get(key, now)
     }
 
-    /// Makes room for a write, and says whether that came about.
-    pub(crate) fn make_room(&mut self, now: u32) -> bool
-        ensures { MakesCall (At now (MakesRoomFor result)) self.old self.new }
+    /// The value under a key, with the version of its bucket.
+    pub(crate) fn gets(&mut self, key: &Key, now: u32) -> GetsAnswer
+        ensures { MakesCall key.now (At now (GetsVersion key.now result)) self.old self.new }
     {
-        self.member.set_now(now);
-        self.member.make_room(self.share.index())
+        let place = self.place_of(key);
+        let guest = &mut self.guests[place];
+        guest.gets(key, now)
     }
 
-    /// What its calls came to so far.
-    pub(crate) fn stats(&self) -> Stats
-        ensures { result ≡ self.now.member.stats }
+    /// Stores the value under the key, and makes room for it in its shard if there is none.
+    pub(crate) fn put(&mut self, key: &Key, value: &Value, now: u32) -> PutAnswer
+        ensures calls { CallsKey key.now (At now (Puts key.now value.now result))
+            self.old self.new }
+        ensures wants { self.new.wants
+            ≡ put_wants result (shard_of (length self.old.guests.items) key.now) }
     {
-        self.member.stats()
+        let place = self.place_of(key);
+        let guest = &mut self.guests[place];
+        let answer = guest.put(key, value, now);
+        self.wants = put_wants(answer, place);
+        answer
     }
 
-    /// What it sees of the table.
-    pub(crate) fn index_stats(&mut self) -> IndexStats
-        ensures { MakesCall (ReturnsTable result) self.old self.new }
+    /// Stores the value under the key, if that is to be, and makes no room.
+    #[inline(always)]
+    pub(crate) fn write(&mut self, when: When, key: &Key, value: &Value, now: u32) -> WriteAnswer
+        ensures calls { CallsKey key.now (At now (WritesWhen when key.now value.now result))
+            self.old self.new }
+        ensures wants { self.new.wants
+            ≡ write_wants result (shard_of (length self.old.guests.items) key.now) }
     {
-        self.member.index_stats(self.share.index())
+        let place = self.place_of(key);
+        let guest = &mut self.guests[place];
+        let answer = guest.write(when, key, value, now);
+        self.wants = write_wants(answer, place);
+        answer
     }
 
-    /// The number of its pass.
-    pub(crate) fn number(&self) -> u32
-        ensures { result ≡ number_of self.now.member.pass }
+    /// Takes the key out.
+    pub(crate) fn delete(&mut self, key: &Key, now: u32) -> DeleteAnswer
+        ensures { MakesCall key.now (At now (DeletesKey key.now result)) self.old self.new }
     {
-        self.member.number()
+        let place = self.place_of(key);
+        let guest = &mut self.guests[place];
+        guest.delete(key, now)
     }
+}
 
-    /// Ends its hold, if there is one. Its pass, as for the close of the index.
-    pub(crate) fn into_pass(mut self) -> Pass
-        ensures pass { IsPassOfGuest self result }
-        ensures quiet { IsQuiet (board_of self.share.index.value) result }
-    {
-        self.release();
-        let SharedClient { share, member } = self;
-        share.into_index();
-        member.into_pass()
+// The shard that a put leaves in want of room.
+fn put_wants(answer: PutAnswer, place: usize) -> Option<usize>
+    ensures wants { result ≡ put_wants answer place }
+    ensures same { IfSome result (λ shard. shard ≡ place) }
+{
+    match answer {
+        PutAnswer::NoRoom => Some(place),
+        PutAnswer::Stored | PutAnswer::BucketFull | PutAnswer::Busy => None,
+    }
+}
+
+// The same of another write.
+fn write_wants(answer: WriteAnswer, place: usize) -> Option<usize>
+    ensures wants { result ≡ write_wants answer place }
+    ensures same { IfSome result (λ shard. shard ≡ place) }
+{
+    match answer {
+        WriteAnswer::NoRoom => Some(place),
+        WriteAnswer::Stored
+        | WriteAnswer::NotStored
+        | WriteAnswer::Exists
+        | WriteAnswer::NotFound
+        | WriteAnswer::BucketFull
+        | WriteAnswer::Busy => None,
     }
 }

@@ -1,21 +1,21 @@
 //! The exports that give clients back, and close or free the cache.
 ghost use Rattle.std.specs.Prelude.{Some};
 ghost use Rattle.segcache.specs.declared.status.Status.TheVariants.{Ok};
-ghost use Rattle.segcache.specs.Closing.{Closed, ClosesAs};
+ghost use Rattle.segcache.specs.Closing.{Closed, ClosesAs, ClosesCache};
 ghost use Rattle.segcache.specs.Ending.{Freed};
 ghost use Rattle.segcache.specs.Exports.{Answers};
 ghost use Rattle.segcache.specs.Returning.{GivenBack, GoesBackFrom, IsWelcome, TakesKept};
-ghost use Rattle.segcache.specs.Sharing.{AreOfOneIndex, IsGuestOf, MayBeGuest};
+ghost use Rattle.segcache.specs.Sharing.{AreOfOneCache, IsClientOf, MayBeClient};
 
-use crate::cache::{Cache, End};
-use crate::cursor::Cursor;
+use crate::cache::Cache;
+use crate::cursor::{Cursor, Turn};
 use crate::handle::Handle;
 use crate::kept::Kept;
 use crate::status::Status;
 use std::alloc::Global;
 use std::mem;
 
-/// Gives a client back to its cache: its hold ends, and its pass goes to its place.
+/// Gives a client back to its cache: its hold ends, and its passes go to their places.
 /// The client is of this cache, which no number shows.
 #[unsafe(no_mangle)]
 pub extern "C" fn segcache_raw_give_back(
@@ -23,7 +23,7 @@ pub extern "C" fn segcache_raw_give_back(
     cache: &mut Handle,
     client: &mut Handle,
 ) -> u32
-    requires same { AreOfOneIndex cache.old.value client.old.value }
+    requires same { AreOfOneCache cache.old.value client.old.value }
     ensures { Answers result (GivenBack cache.old.value cache.new.value
         client.old.value client.new.value) }
 {
@@ -36,6 +36,7 @@ pub extern "C" fn segcache_raw_give_back(
 }
 
 /// Closes a cache once all clients are back, and lists its content by a cursor in an empty handle.
+/// It closes the last shard, and the cursor the others, one after another.
 /// If memory for the list is refused, the cache is gone all the same.
 #[unsafe(no_mangle)]
 pub extern "C" fn segcache_raw_close(alloc: Global, cache: &mut Handle, cursor: &mut Handle) -> u32
@@ -90,23 +91,13 @@ enum Closing {
     Gone,
 }
 
-// Turns a cache into a cursor of its content.
+// Turns a cache into a cursor of its content, whose last shard is closed.
 fn close(alloc: Global, kept: &mut Kept) -> Closing
     ensures { ClosesAs kept.old kept.new result }
 {
-    let nothing = Kept::Cursor(Cursor::new(Vec::new(alloc)));
+    let nothing = Kept::Cursor(Cursor::new(alloc, Vec::new(alloc)));
     match mem::replace(kept, nothing) {
-        Kept::Cache(cache) => match cache.end(alloc) {
-            End::Content { pairs } => {
-                *kept = Kept::Cursor(Cursor::new(pairs));
-                Closing::Listed
-            }
-            End::Refused { cache, why } => {
-                *kept = Kept::Cache(cache);
-                Closing::Refused(why)
-            }
-            End::Gone => Closing::Gone,
-        },
+        Kept::Cache(cache) => close_cache(alloc, cache, kept),
         other => {
             *kept = other;
             Closing::Refused(Status::NoHandle)
@@ -114,9 +105,35 @@ fn close(alloc: Global, kept: &mut Kept) -> Closing
     }
 }
 
+// Closes the last shard of a cache, for a cursor. What comes of it is kept.
+fn close_cache(alloc: Global, cache: Cache, kept: &mut Kept) -> Closing
+    ensures { ClosesCache cache kept.new result }
+{
+    if !cache.has_all() {
+        *kept = Kept::Cache(cache);
+        return Closing::Refused(Status::ClientOut);
+    }
+    let homes = cache.into_homes();
+    let mut cursor = Cursor::new(alloc, homes);
+    match cursor.turn(alloc) {
+        Turn::Listed => {
+            *kept = Kept::Cursor(cursor);
+            Closing::Listed
+        }
+        Turn::Refused(why) => {
+            let left = cursor.into_homes();
+            let same = Cache::new(left);
+            *kept = Kept::Cache(same);
+            Closing::Refused(why)
+        }
+        Turn::Gone => Closing::Gone,
+        Turn::Done => unreachable!(),
+    }
+}
+
 // Gives a client back to the cache that is kept.
 fn give_back(alloc: Global, kept: &mut Kept, client: &mut Handle) -> Status
-    requires same { AreOfOneIndex (Some kept.old) client.old.value }
+    requires same { AreOfOneCache (Some kept.old) client.old.value }
     ensures { GivenBack (Some kept.old) (Some kept.new) client.old.value client.new.value result }
 {
     let Kept::Cache(cache) = kept else {
@@ -127,7 +144,7 @@ fn give_back(alloc: Global, kept: &mut Kept, client: &mut Handle) -> Status
 
 // Gives a client back to its cache.
 fn welcome_back(alloc: Global, cache: &mut Cache, client: &mut Handle) -> Status
-    requires same { MayBeGuest cache.old client.old.value }
+    requires same { MayBeClient cache.old client.old.value }
     ensures { GoesBackFrom client.old.value client.new.value cache.old cache.new result }
 {
     let Some(guest) = client.take(alloc) else {
@@ -156,9 +173,9 @@ fn welcome(cache: &Cache, guest: &Kept) -> Status
     }
 }
 
-// Puts the client's pass into its place.
+// Puts the client's passes into their places.
 fn take_back(cache: &mut Cache, guest: Kept)
-    requires same { IsGuestOf cache.old guest }
+    requires same { IsClientOf cache.old guest }
     requires welcome { IsWelcome cache.old guest Ok }
     ensures { TakesKept guest cache.old cache.new }
 {

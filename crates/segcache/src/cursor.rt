@@ -1,25 +1,91 @@
-//! The content of a closed cache, pair by pair.
+//! The content of a closed cache, shard by shard, and pair by pair.
 ghost use Rattle.std.specs.Prelude.{◌≡◌};
 
+use crate::home::{End, Home};
 use crate::status::Status;
 use segclient::{Key, Value};
+use std::alloc::Global;
 
-/// A list of pairs, and the place of the next one.
+/// The shards that aren't closed yet, the pairs of the last that was, and the place of the next.
 #[derive(Drop)]
 pub struct Cursor {
+    homes: Vec<Home>,
     pairs: Vec<(Key, Value)>,
     next: usize,
 }
 
-impl Cursor {
-    ghost use Rattle.std.specs.Prelude.{slice_get};
-    ghost use Rattle.segcache.specs.Ending.{ReturnsNext};
+/// How the close of one more shard went.
+pub(crate) enum Turn {
+    /// Its content is listed.
+    Listed,
+    /// It didn't come about, and the shard is as it was.
+    Refused(Status),
+    /// The memory for the list was refused, and the shard is gone.
+    Gone,
+    /// Each shard is closed.
+    Done,
+}
 
-    /// Before the first pair.
-    pub(crate) fn new(pairs: Vec<(Key, Value)>) -> Cursor
-        ensures { result ≡ record { pairs = pairs; next = 0 } }
+impl Cursor {
+    ghost use Rattle.std.specs.Prelude.{slice_get, []};
+    ghost use Rattle.segcache.specs.Ending.{ReturnsNext, Seeks, TurnsAs};
+
+    /// Before the first pair of the first shard that is closed.
+    pub(crate) fn new(alloc: Global, homes: Vec<Home>) -> Cursor
+        ensures homes { result.homes ≡ homes }
+        ensures pairs { result.pairs.items ≡ [] }
+        ensures next { result.next ≡ 0 }
     {
-        Cursor { pairs, next: 0 }
+        Cursor {
+            homes,
+            pairs: Vec::new(alloc),
+            next: 0,
+        }
+    }
+
+    /// The shards that aren't closed.
+    pub(crate) fn into_homes(self) -> Vec<Home>
+        ensures homes { result ≡ self.homes }
+    {
+        let Cursor { homes, .. } = self;
+        homes
+    }
+
+    /// Closes the last of the shards that are left, and lists its content.
+    pub(crate) fn turn(&mut self, alloc: Global) -> Turn
+        ensures { TurnsAs self.old self.new result }
+    {
+        let Some(home) = self.homes.pop() else {
+            return Turn::Done;
+        };
+        self.pairs = Vec::new(alloc);
+        self.next = 0;
+        match home.end(alloc) {
+            End::Content { pairs } => {
+                self.pairs = pairs;
+                Turn::Listed
+            }
+            End::Refused { home, why } => {
+                self.homes.push_reserved(home);
+                Turn::Refused(why)
+            }
+            End::Gone => Turn::Gone,
+        }
+    }
+
+    /// Closes shards until there is a next pair. It is Ok if there is one.
+    pub(crate) fn seek(&mut self, alloc: Global) -> Status
+        ensures { Seeks result self.old self.new }
+    {
+        while self.next >= self.pairs.len() {
+            match self.turn(alloc) {
+                Turn::Listed => {}
+                Turn::Refused(why) => return why,
+                Turn::Gone => return Status::OutOfMemory,
+                Turn::Done => return Status::End,
+            }
+        }
+        Status::Ok
     }
 
     /// Copies the next pair out. If one of the buffers is too short, the next pair stays the next.

@@ -2,15 +2,15 @@
 ghost use Rattle.std.specs.Prelude.{◌≡◌, is_some};
 ghost use Rattle.segbase.specs.Words.{IsNoteOf};
 ghost use Rattle.segindex.specs.Words.{board_of};
-ghost use Rattle.segcache.specs.Calls.{hold_status};
+ghost use Rattle.segcache.specs.Guest.{hold_status};
 
-use crate::client::SharedClient;
+use crate::guest::Guest;
 use crate::status::Status;
 use segclient::{Key, Note, RowAnswer, Value};
 
-impl SharedClient {
+impl Guest {
     ghost use Rattle.segclient.specs.Made.{Learns, Notes};
-    ghost use Rattle.segcache.specs.Calls.{EndsItsHold, HoldsAt, MakesCall, ReadsHeld};
+    ghost use Rattle.segcache.specs.Guest.{EndsItsHold, HoldsAt, MakesCall, ReadsHeld};
 
     /// Holds the item of a key.
     pub(crate) fn hold(&mut self, key: &Key, now: u32) -> Status

@@ -10,7 +10,7 @@ pub enum Kept {
     Cache(Cache),
     Client(SharedClient),
     Cursor(Cursor),
-    Note(Note),
+    Note(Vec<Note>),
 }
 
 // What a handle keeps may go to another thread.

@@ -1,6 +1,5 @@
 //! The exports that list the content of a closed cache.
-ghost use Rattle.std.specs.Prelude.{Some};
-ghost use Rattle.segcache.specs.Ending.{FreesCursor, Listed};
+ghost use Rattle.segcache.specs.Ending.{FreesCursor, Listed, ReturnsIn, SeeksIn};
 ghost use Rattle.segcache.specs.Exports.{Answers};
 
 use crate::handle::Handle;
@@ -9,6 +8,7 @@ use crate::status::Status;
 use std::alloc::Global;
 
 /// Copies the next pair of a closed cache to the two buffers.
+/// It closes the next shard first if the last one has no pair left.
 #[unsafe(no_mangle)]
 pub extern "C" fn segcache_raw_next(
     alloc: Global,
@@ -25,6 +25,11 @@ pub extern "C" fn segcache_raw_next(
     let Some(mut kept) = cursor.take(alloc) else {
         return Status::NoHandle.number();
     };
+    let sought = seek(alloc, &mut kept);
+    if sought != Status::Ok {
+        cursor.fill(alloc, kept);
+        return sought.number();
+    }
     let status = next(&mut kept, key, key_len, value, value_len);
     cursor.fill(alloc, kept);
     status.number()
@@ -45,6 +50,16 @@ pub extern "C" fn segcache_raw_cursor_free(alloc: Global, cursor: &mut Handle) -
     Status::Ok.number()
 }
 
+// Closes shards until there is a next pair, if it is a cursor.
+fn seek(alloc: Global, kept: &mut Kept) -> Status
+    ensures { SeeksIn kept.old kept.new result }
+{
+    let Kept::Cursor(cursor) = kept else {
+        return Status::NoHandle;
+    };
+    cursor.seek(alloc)
+}
+
 fn next(
     kept: &mut Kept,
     key: &mut [u8],
@@ -52,7 +67,7 @@ fn next(
     value: &mut [u8],
     value_len: &mut usize,
 ) -> Status
-    ensures { Listed (Some kept.old) (Some kept.new)
+    ensures { ReturnsIn kept.old kept.new
         (key.old, key_len.old) (key.new, key_len.new)
         (value.old, value_len.old) (value.new, value_len.new) result }
 {

@@ -159,10 +159,7 @@ fn look_ahead_from(client: &SharedClient, keys: &[u8], lookups: &[Lookup], place
 // Loads what the gets of a piece will read. No answer depends on it.
 fn look_ahead(client: &SharedClient, keys: &[u8], piece: &[Lookup]) {
     let ahead: [Key; PIECE] = std::array::from_fn(|number| key_or_any(keys, piece, number));
-    client
-        .share
-        .index()
-        .look_ahead(&ahead[..piece.len().min(PIECE)]);
+    client.look_ahead(&ahead[..piece.len().min(PIECE)]);
 }
 
 // The key of the lookup at this place, or any key where it has none.

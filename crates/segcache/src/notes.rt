@@ -63,7 +63,10 @@ fn write_note(alloc: Global, kept: &mut Kept, note: &mut Handle) -> Status
     if !note.is_empty(alloc) {
         return Status::NoHandle;
     }
-    let Ok(boxed) = Box::new(alloc, Kept::Note(client.note())) else {
+    let Ok(notes) = client.note(alloc) else {
+        return Status::OutOfMemory;
+    };
+    let Ok(boxed) = Box::new(alloc, Kept::Note(notes)) else {
         return Status::OutOfMemory;
     };
     note.fill(alloc, boxed);

@@ -1,12 +1,12 @@
 use Rattle.std.proofs.Common.{Some, refl, subst}
 use Rattle.segcache.specs.declared.kept.Kept.{Kept}
 use Rattle.segcache.specs.declared.kept.Kept.TheVariants as kept
-use Rattle.segcache.specs.Sharing.{AreOfOneIndex}
+use Rattle.segcache.specs.Sharing.{AreOfOneCache}
 use Rattle.segcache.proofs.Returned.{gave_back}
 use Rattle.segcache.proofs.closing.give_back.Goals as goal
 
 pub welcome_back-requires : goal.welcome_back-requires
-welcome_back-requires c = record { same = subst (λ (k : Kept). AreOfOneIndex (Some k) c.args.client.now.value) c.in-Cache.is c.requires.same }
+welcome_back-requires c = record { same = subst (λ (k : Kept). AreOfOneCache (Some k) c.args.client.now.value) c.in-Cache.is c.requires.same }
 
 pub returns : goal.returns
 returns c =

@@ -5,7 +5,7 @@ use Rattle.segcache.specs.declared.kept.Kept.TheVariants as kept
 use Rattle.segcache.specs.declared.status.Status.{Status}
 use Rattle.segcache.specs.declared.status.Status.TheVariants as status
 use Rattle.segcache.specs.Exports.{ByKey, Returns}
-use Rattle.segcache.specs.Calls.{HoldsAt}
+use Rattle.segcache.specs.Holding.{HoldsAt}
 use Rattle.segcache.proofs.Answering.{bad_key, by_client, good_key}
 use Rattle.segcache.proofs.holding.hold.Goals as goal
 

@@ -6,16 +6,16 @@ use Rattle.segcache.proofs.opening.open.Goals as goal
 
 pub hand_out-requires : goal.hand_out-requires
 hand_out-requires c =
-    let long : length c.args.handles.now ≡ c.args.shape.passes = search rules in
+    let long : length c.args.handles.now ≡ c.args.plan.shape.passes = search rules in
     record {
       same = same_long c.are_empty.new.handles c.args.handles.now c.are_empty.ensures.same ∙ long
-          ∙ sym (opened_long c.args.shape c.in-Ok.home.value c.in-Ok.guests.items c.in-Ok.ensures.opened);
+          ∙ sym (opened_long c.args.plan c.in-Ok.home.value c.in-Ok.clients.items c.in-Ok.ensures.opened);
     }
 
 pub returns-in-Ok : goal.returns-in-Ok
 returns-in-Ok c =
-    let long : length c.args.handles.now ≡ c.args.shape.passes = search rules in
-    let boxes = c.in-Ok.guests.items in (
+    let long : length c.args.handles.now ≡ c.args.plan.shape.passes = search rules in
+    let boxes = c.in-Ok.clients.items in (
       record {
         count = long;
         cache = empty c.args.cache.now.value (sym c.is_empty.ensures.empty ∙ c.if-not-is_empty.false);
@@ -23,7 +23,7 @@ returns-in-Ok c =
       },
       record {
         home = c.in-Ok.home.value;
-        guests = map in_box boxes;
+        clients = map in_box boxes;
         opened = c.in-Ok.ensures.opened;
         cache_in = c.fill.ensures;
         clients_in = c.hand_out.ensures ∙ same_values boxes;

@@ -2,7 +2,8 @@ use Rattle.std.proofs.Common.{ℕ, List, refl, subst}
 use Rattle.std.proofs.lemmas.Bool.{false≢true}
 use Rattle.segcache.specs.declared.status.Status.TheVariants as status
 use Rattle.segcache.specs.Exports.{Out, WritesNothing}
-use Rattle.segcache.specs.Calls.{At, MakesCall}
+use Rattle.segcache.specs.Calls.{MakesCall}
+use Rattle.segcache.specs.Guest.{At}
 use Rattle.segclient.specs.Made.{Gets}
 use Rattle.segcache.specs.Reading.{MakesGet}
 use Rattle.segcache.proofs.Answering.{bad_key, good_key}
@@ -21,6 +22,6 @@ returns c =
     good_key (WritesNothing out next c.copy_get.result) c.args.key.now (MakesGet c.args.key.now c.args.now out next c.copy_get.result) c.args.client.now c.get.new.self (c.in-Some.ensures.variant.0 refl)
     (record {
       answer = c.get.result;
-      calls = subst (λ (k : List ℕ). MakesCall (At c.args.now (Gets k c.get.result)) c.args.client.now c.get.new.self) c.in-Some.ensures.some c.get.ensures;
+      calls = subst (λ (k : List ℕ). MakesCall k (At c.args.now (Gets k c.get.result)) c.args.client.now c.get.new.self) c.in-Some.ensures.some c.get.ensures;
       returns = c.copy_get.ensures;
     })

@@ -2,7 +2,8 @@ use Rattle.std.proofs.Common.{ℕ, List, refl, subst}
 use Rattle.std.proofs.lemmas.Bool.{false≢true}
 use Rattle.segcache.specs.declared.status.Status.TheVariants as status
 use Rattle.segcache.specs.Exports.{Out}
-use Rattle.segcache.specs.Calls.{At, MakesCall}
+use Rattle.segcache.specs.Calls.{MakesCall}
+use Rattle.segcache.specs.Guest.{At}
 use Rattle.segclient.specs.Made.{GetsVersion}
 use Rattle.segcache.specs.Reading.{MakesGets, WritesNoVersion}
 use Rattle.segcache.proofs.Answering.{bad_key, good_key}
@@ -24,6 +25,6 @@ returns c =
     good_key (WritesNoVersion out next version next_version c.copy_gets.result) c.args.key.now (MakesGets c.args.key.now c.args.now out next version next_version c.copy_gets.result) c.args.client.now c.gets.new.self (c.in-Some.ensures.variant.0 refl)
     (record {
       answer = c.gets.result;
-      calls = subst (λ (k : List ℕ). MakesCall (At c.args.now (GetsVersion k c.gets.result)) c.args.client.now c.gets.new.self) c.in-Some.ensures.some c.gets.ensures;
+      calls = subst (λ (k : List ℕ). MakesCall k (At c.args.now (GetsVersion k c.gets.result)) c.args.client.now c.gets.new.self) c.in-Some.ensures.some c.gets.ensures;
       returns = c.copy_gets.ensures;
     })

@@ -5,8 +5,7 @@ use Rattle.segcache.specs.declared.status.Status.{Status}
 use Rattle.segcache.specs.declared.status.Status.TheVariants as status
 use Rattle.segcache.specs.Exports.{Returns}
 use Rattle.segindex.specs.declared.table_stats.IndexStats.{IndexStats}
-use Rattle.segcache.specs.Calls.{MakesCall}
-use Rattle.segclient.specs.Made.{ReturnsTable}
+use Rattle.segcache.specs.All.{ReturnsTables}
 use Rattle.segcache.specs.Setting.{table_of}
 use Rattle.segcache.proofs.Answering.{by_client}
 use Rattle.segcache.proofs.settings.index_stats.Goals as goal
@@ -14,6 +13,6 @@ use Rattle.segcache.proofs.settings.index_stats.Goals as goal
 pub returns : goal.returns
 returns c =
     let R : Status → Type 0 = λ (why : Status). Returns status.Ok why × (table_of c.index_stats-stats.result ≡ c.args.counts.now) in
-    let Does : SharedClient → SharedClient → Type 0 = λ (old new : SharedClient). (stats : IndexStats) × MakesCall (ReturnsTable stats) old new × (table_of c.index_stats-stats.result ≡ table_of stats) × (status.Ok ≡ status.Ok) in
+    let Does : SharedClient → SharedClient → Type 0 = λ (old new : SharedClient). (stats : IndexStats) × ReturnsTables stats old new × (table_of c.index_stats-stats.result ≡ table_of stats) × (status.Ok ≡ status.Ok) in
     by_client R Does c.args.kept.now (kept.Client c.index_stats-stats.new.self) c.in-Client.client c.index_stats-stats.new.self c.in-Client.is refl
     (c.index_stats-stats.result, c.index_stats-stats.ensures, refl, refl)

@@ -4,7 +4,7 @@ use Rattle.segcache.specs.declared.kept.Kept.TheVariants as kept
 use Rattle.segcache.specs.declared.status.Status.{Status}
 use Rattle.segcache.specs.declared.status.Status.TheVariants as status
 use Rattle.segcache.specs.Exports.{Returns}
-use Rattle.segcache.specs.Calls.{MakesCall}
+use Rattle.segcache.specs.All.{EachMakes}
 use Rattle.std.proofs.Common.{ℕ, Option}
 use Rattle.segclient.specs.Member.{SetsCutoff}
 use Rattle.segcache.specs.Setting.{cutoff_of}
@@ -14,6 +14,6 @@ use Rattle.segcache.proofs.settings.keep_from.Goals as goal
 pub returns : goal.returns
 returns c =
     let R : Status → Type 0 = Returns status.Ok in
-    let Does : SharedClient → SharedClient → Type 0 = λ (old new : SharedClient). (status.Ok ≡ status.Ok) × MakesCall (λ b. SetsCutoff (cutoff_of c.args.cutoff)) old new in
+    let Does : SharedClient → SharedClient → Type 0 = λ (old new : SharedClient). (status.Ok ≡ status.Ok) × EachMakes (λ b. SetsCutoff (cutoff_of c.args.cutoff)) old new in
     by_client R Does c.args.kept.now (kept.Client c.keep_from.new.self) c.in-Client.client c.keep_from.new.self c.in-Client.is refl
-    (refl, subst (λ (o : Option ℕ). MakesCall (λ b. SetsCutoff o) c.in-Client.client c.keep_from.new.self) c.cutoff_of.ensures c.keep_from.ensures)
+    (refl, subst (λ (o : Option ℕ). EachMakes (λ b. SetsCutoff o) c.in-Client.client c.keep_from.new.self) c.cutoff_of.ensures c.keep_from.ensures)

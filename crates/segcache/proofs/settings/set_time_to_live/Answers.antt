@@ -4,7 +4,7 @@ use Rattle.segcache.specs.declared.kept.Kept.TheVariants as kept
 use Rattle.segcache.specs.declared.status.Status.{Status}
 use Rattle.segcache.specs.declared.status.Status.TheVariants as status
 use Rattle.segcache.specs.Exports.{Returns}
-use Rattle.segcache.specs.Calls.{MakesCall}
+use Rattle.segcache.specs.All.{EachMakes}
 use Rattle.segclient.specs.Member.{SetsTimeToLive}
 use Rattle.segcache.proofs.Answering.{by_client}
 use Rattle.segcache.proofs.settings.set_time_to_live.Goals as goal
@@ -12,6 +12,6 @@ use Rattle.segcache.proofs.settings.set_time_to_live.Goals as goal
 pub returns : goal.returns
 returns c =
     let R : Status → Type 0 = Returns status.Ok in
-    let Does : SharedClient → SharedClient → Type 0 = λ (old new : SharedClient). (status.Ok ≡ status.Ok) × MakesCall (λ b. SetsTimeToLive c.args.seconds) old new in
+    let Does : SharedClient → SharedClient → Type 0 = λ (old new : SharedClient). (status.Ok ≡ status.Ok) × EachMakes (λ b. SetsTimeToLive c.args.seconds) old new in
     by_client R Does c.args.kept.now (kept.Client c.set_time_to_live.new.self) c.in-Client.client c.set_time_to_live.new.self c.in-Client.is refl
     (refl, c.set_time_to_live.ensures)

@@ -5,7 +5,8 @@ use Rattle.segcache.specs.declared.kept.Kept.TheVariants as kept
 use Rattle.segcache.specs.declared.status.Status.{Status}
 use Rattle.segcache.specs.declared.status.Status.TheVariants as status
 use Rattle.segcache.specs.Exports.{ByKey, Returns}
-use Rattle.segcache.specs.Calls.{At, MakesCall}
+use Rattle.segcache.specs.Calls.{MakesCall}
+use Rattle.segcache.specs.Guest.{At}
 use Rattle.segclient.specs.Made.{DeletesKey}
 use Rattle.segcache.specs.Writing.{MakesDelete}
 use Rattle.segcache.proofs.Answering.{bad_key, by_client, good_key}
@@ -28,6 +29,6 @@ returns c =
     (good_key R c.args.key.now Makes c.in-Client.client c.delete.new.self (c.in-Some.ensures.variant.0 refl)
     (record {
       answer = c.delete.result;
-      calls = subst (λ (k : List ℕ). MakesCall (At c.args.now (DeletesKey k c.delete.result)) c.in-Client.client c.delete.new.self) c.in-Some.ensures.some c.delete.ensures;
+      calls = subst (λ (k : List ℕ). MakesCall k (At c.args.now (DeletesKey k c.delete.result)) c.in-Client.client c.delete.new.self) c.in-Some.ensures.some c.delete.ensures;
       returns = c.of_delete.ensures;
     }))

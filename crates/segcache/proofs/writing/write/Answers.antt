@@ -1,14 +1,17 @@
-use Rattle.std.proofs.Common.{ℕ, List, refl, subst}
+use Rattle.std.proofs.Common.{◌≡◌, ℕ, List, length, refl, subst}
 use Rattle.std.proofs.lemmas.Bool.{false≢true}
 use Rattle.segcache.specs.declared.client.SharedClient.{SharedClient}
 use Rattle.segcache.specs.declared.kept.Kept.TheVariants as kept
 use Rattle.segcache.specs.declared.status.Status.{Status}
 use Rattle.segcache.specs.declared.status.Status.TheVariants as status
 use Rattle.segcache.specs.Exports.{ByKey, ByValue, Returns}
-use Rattle.segcache.specs.Calls.{At, MakesCall}
+use Rattle.segcache.specs.Calls.{CallsKey}
+use Rattle.segcache.specs.Guest.{At}
 use Rattle.segcache.specs.Made.{WritesWhen}
 use Rattle.segcache.specs.Writing.{MakesWrite}
 use Rattle.segcache.proofs.Answering.{bad_key, bad_value, by_client, good_key, good_value}
+use Rattle.segshards.specs.Shards.{shard_of}
+use Rattle.segcache.specs.Wants.{write_wants}
 use Rattle.segcache.proofs.writing.write.Goals as goal
 
 pub returns-in_default-new : goal.returns-in_default-new
@@ -41,7 +44,8 @@ returns c =
     (good_value R c.args.value.now Makes c.in-Client.client c.write.new.self (c.in-Some-new.ensures.variant.0 refl)
     (record {
       answer = c.write.result;
-      calls = subst (λ (k : List ℕ). MakesCall (At c.args.now (WritesWhen c.args.when k c.args.value.now c.write.result)) c.in-Client.client c.write.new.self) c.in-Some.ensures.some
-          (subst (λ (v : List ℕ). MakesCall (At c.args.now (WritesWhen c.args.when c.in-Some.key v c.write.result)) c.in-Client.client c.write.new.self) c.in-Some-new.ensures.some c.write.ensures);
+      calls = subst (λ (k : List ℕ). CallsKey k (At c.args.now (WritesWhen c.args.when k c.args.value.now c.write.result)) c.in-Client.client c.write.new.self) c.in-Some.ensures.some
+          (subst (λ (v : List ℕ). CallsKey c.in-Some.key (At c.args.now (WritesWhen c.args.when c.in-Some.key v c.write.result)) c.in-Client.client c.write.new.self) c.in-Some-new.ensures.some c.write.ensures.calls);
+      wants = subst (λ (k : List ℕ). c.write.new.self.wants ≡ write_wants c.write.result (shard_of (length c.in-Client.client.guests.items) k)) c.in-Some.ensures.some c.write.ensures.wants;
       returns = c.of_write.ensures;
     })))

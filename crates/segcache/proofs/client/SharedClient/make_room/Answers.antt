@@ -1,19 +1,31 @@
-use Rattle.std.proofs.Common.{refl, ap, ◌∙◌}
-use Rattle.segindex.specs.Words.{shape_of}
-use Rattle.segstore.specs.Words.{memo}
-use Rattle.segclient.specs.Puts.{MakesRoomFor}
-use Rattle.segcache.specs.Calls.{At}
-use Rattle.segcache.proofs.Made.{at_moment, makes_call}
-use Rattle.segcache.proofs.Rows.{row_stays}
+use Rattle.std.proofs.Common.{◌≡◌, ◌<◌, None, length, true, false, rules, refl, sym, ap, arith}
+use Rattle.segcache.specs.Room.{wants_after}
+use Rattle.segcache.proofs.Roomy.{makes_room_in, makes_room_in_all}
 use Rattle.segcache.proofs.client.SharedClient.make_room.Goals as goal
 
-pub invariant_of-self-clause-row : goal.invariant_of-self-clause-row
-invariant_of-self-clause-row c =
-    let self = c.args.self.now in
-    row_stays (shape_of self.share.index.value) self.member.pass c.make_room.new.self.pass self.share.held (c.make_room.ensures.makes.memo ∙ ap memo c.set_now.ensures.sets.rest.pass) self.row
+pub returns-in_default : goal.returns-in_default
+returns-in_default c =
+    let none : c.args.self.now.wants ≡ None = search rules in
+    makes_room_in_all c.args.now c.make_room_in_all.result c.args.self.now c.make_room_in_all.new.self none c.make_room_in_all.ensures
 
-pub returns : goal.returns
-returns c =
-    let Made = MakesRoomFor c.make_room.result in
-    makes_call (At c.args.now Made) _ c.args.self.now _ c.index.ensures
-    (at_moment c.args.now Made _ c.args.self.now.member c.set_now.new.self c.make_room.new.self c.set_now.ensures.sets c.make_room.ensures.makes) refl refl
+pub returns-then-made : goal.returns-then-made
+returns-then-made c =
+    let self = c.args.self.now in
+    let place = c.in-Some.place in
+    let wanted = self.wanted place c.in-Some.is in
+    let have = self.guests.ok.0 in
+    let below : place < length self.guests.items = omega (arith, wanted, have) in
+    let is : c.make_room-made.result ≡ true = search rules in
+    makes_room_in c.args.now c.make_room-made.result self _ place c.index_mut-guest.result.now c.make_room-made.new.self c.in-Some.is below c.index_mut-guest.ensures.value c.make_room-made.ensures refl refl
+    (ap (λ made. wants_after made self.wants) (sym is))
+
+pub returns-else-made : goal.returns-else-made
+returns-else-made c =
+    let self = c.args.self.now in
+    let place = c.in-Some.place in
+    let wanted = self.wanted place c.in-Some.is in
+    let have = self.guests.ok.0 in
+    let below : place < length self.guests.items = omega (arith, wanted, have) in
+    let is : c.make_room-made.result ≡ false = search rules in
+    makes_room_in c.args.now c.make_room-made.result self _ place c.index_mut-guest.result.now c.make_room-made.new.self c.in-Some.is below c.index_mut-guest.ensures.value c.make_room-made.ensures refl refl
+    (ap (λ made. wants_after made self.wants) (sym is))

@@ -1,19 +1,13 @@
 use Rattle.std.proofs.Common.{refl, ap, ◌∙◌}
-use Rattle.segindex.specs.Words.{shape_of}
-use Rattle.segstore.specs.Words.{memo}
 use Rattle.segclient.specs.Puts.{Puts}
-use Rattle.segcache.specs.Calls.{At}
-use Rattle.segcache.proofs.Made.{at_moment, makes_call}
-use Rattle.segcache.proofs.Rows.{row_stays}
+use Rattle.segcache.specs.Guest.{At}
+use Rattle.segcache.specs.Wants.{put_wants}
+use Rattle.segcache.proofs.Keyed.{calls_key}
 use Rattle.segcache.proofs.client.SharedClient.put.Goals as goal
 
-pub invariant_of-self-clause-row : goal.invariant_of-self-clause-row
-invariant_of-self-clause-row c =
-    let self = c.args.self.now in
-    row_stays (shape_of self.share.index.value) self.member.pass c.put.new.self.pass self.share.held (c.put.ensures.puts.memo ∙ ap memo c.set_now.ensures.sets.rest.pass) self.row
-
 pub returns : goal.returns
-returns c =
-    let Made = Puts c.args.key.now c.args.value.now c.put.result in
-    makes_call (At c.args.now Made) _ c.args.self.now _ c.index.ensures
-    (at_moment c.args.now Made _ c.args.self.now.member c.set_now.new.self c.put.new.self c.set_now.ensures.sets c.put.ensures.puts) refl refl
+returns c = record {
+  calls = calls_key c.args.key.now (At c.args.now (Puts c.args.key.now c.args.value.now c.put-answer.result)) c.args.self.now _ c.place_of-place.result c.index_mut-guest.result.now c.put-answer.new.self
+      (c.place_of-place.ensures.shard, c.place_of-place.ensures.within) c.index_mut-guest.ensures.value c.put-answer.ensures refl refl;
+  wants = c.put_wants-self.ensures.wants ∙ ap (put_wants c.put-answer.result) c.place_of-place.ensures.shard;
+}

@@ -1,19 +1,13 @@
 use Rattle.std.proofs.Common.{refl, ap, ◌∙◌}
-use Rattle.segindex.specs.Words.{shape_of}
-use Rattle.segstore.specs.Words.{memo}
 use Rattle.segcache.specs.Made.{WritesWhen}
-use Rattle.segcache.specs.Calls.{At}
-use Rattle.segcache.proofs.Made.{at_moment, makes_call}
-use Rattle.segcache.proofs.Rows.{row_stays, writes_keep}
+use Rattle.segcache.specs.Guest.{At}
+use Rattle.segcache.specs.Wants.{write_wants}
+use Rattle.segcache.proofs.Keyed.{calls_key}
 use Rattle.segcache.proofs.client.SharedClient.write.Goals as goal
 
-pub invariant_of-self-clause-row : goal.invariant_of-self-clause-row
-invariant_of-self-clause-row c =
-    let self = c.args.self.now in
-    row_stays (shape_of self.share.index.value) self.member.pass c.write_when.new.member.pass self.share.held (writes_keep _ _ _ _ _ c.write_when.ensures.writes.writes.writes ∙ ap memo c.set_now.ensures.sets.rest.pass) self.row
-
 pub returns : goal.returns
-returns c =
-    let Made = WritesWhen c.args.when c.args.key.now c.args.value.now c.write_when.result in
-    makes_call (At c.args.now Made) _ c.args.self.now _ c.index.ensures
-    (at_moment c.args.now Made _ c.args.self.now.member c.set_now.new.self c.write_when.new.member c.set_now.ensures.sets c.write_when.ensures.writes) refl refl
+returns c = record {
+  calls = calls_key c.args.key.now (At c.args.now (WritesWhen c.args.when c.args.key.now c.args.value.now c.write-answer.result)) c.args.self.now _ c.place_of-place.result c.index_mut-guest.result.now c.write-answer.new.self
+      (c.place_of-place.ensures.shard, c.place_of-place.ensures.within) c.index_mut-guest.ensures.value c.write-answer.ensures refl refl;
+  wants = c.write_wants-self.ensures.wants ∙ ap (write_wants c.write-answer.result) c.place_of-place.ensures.shard;
+}
