@@ -94,6 +94,19 @@ fn of_segment(operation: &Operation, kind: u32) -> Option<Operation> {
                 ended,
             })
         }
+        Operation::ClearingStore {
+            bucket,
+            key,
+            now,
+            access,
+            recycled,
+        } => Some(Operation::ClearingStore {
+            bucket: *bucket,
+            key: *key,
+            now: *now,
+            access: *access,
+            recycled: other_recycled(*recycled, kind)?,
+        }),
         Operation::GetMany { bucket, now, reads } if kind < 2 => Some(Operation::GetMany {
             bucket: *bucket,
             now: *now,

@@ -29,6 +29,31 @@ pub fn said_by(command: &Command, answer: &Answer, place: Place, item: Item) -> 
     }
 }
 
+/// What a call said that recycled so much. Of the calls that make no room only a store recycles,
+/// once it stored.
+pub fn with_recycled(said: Said, recycled: Recycled) -> Said {
+    if recycled.is_nothing() {
+        return said;
+    }
+    match said {
+        Said::Operation(
+            Operation::OnKey {
+                bucket,
+                key,
+                now,
+                access,
+            },
+        ) if access.stored().is_some() => Said::Operation(Operation::ClearingStore {
+            bucket,
+            key,
+            now,
+            access,
+            recycled,
+        }),
+        _ => Said::Wrong,
+    }
+}
+
 /// What the answers to gets of all keys of a bucket mean.
 pub fn said_by_get_many(bucket: usize, now: u32, answers: &[GetAnswer]) -> Said {
     let mut reads = [Read::Busy; EACH];

@@ -186,7 +186,7 @@ impl Bucket {
             return Ok(());
         }
         for key in 0..KEYS {
-            if state.is_done(thread) && !operation.clears(key) {
+            if !operation.can_take_out(self.number, key, state.is_done(thread)) {
                 continue;
             }
             if let Some(next) = state.without(thread, key, operation) {

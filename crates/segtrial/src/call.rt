@@ -108,6 +108,21 @@ pub struct Recycled {
     pub kept: u32,
 }
 
+impl Recycled {
+    /// Nothing happened to the segments of this number.
+    pub fn nothing(segment: u32) -> Recycled {
+        Recycled {
+            segment,
+            taken: 0,
+            kept: 0,
+        }
+    }
+
+    pub fn is_nothing(&self) -> bool {
+        self.taken == 0 && self.kept == 0
+    }
+}
+
 /// How a put ended.
 #[derive(Clone, Copy)]
 pub enum PutEnd {
@@ -183,7 +198,15 @@ pub enum Operation {
         recycled: Recycled,
         ended: PutEnd,
     },
-    /// A client's call that makes room. What it returned isn't judged.
+    /// A client's store that makes no room, but clears rows of its segments once it stored.
+    ClearingStore {
+        bucket: usize,
+        key: usize,
+        now: u32,
+        access: Access,
+        recycled: Recycled,
+    },
+    /// A client's call that makes room. What it returned isn't judged here.
     MakeRoom {
         recycled: Recycled,
     },
@@ -235,7 +258,8 @@ impl Operation {
             | Operation::Lock { bucket }
             | Operation::Unlock { bucket }
             | Operation::GetMany { bucket, .. }
-            | Operation::Put { bucket, .. } => Some(*bucket),
+            | Operation::Put { bucket, .. }
+            | Operation::ClearingStore { bucket, .. } => Some(*bucket),
             Operation::Evict { .. }
             | Operation::Keep { .. }
             | Operation::Refill { .. }
@@ -247,7 +271,9 @@ impl Operation {
     /// What the operation recycled, if it is a client's call that recycles segments.
     pub(crate) fn recycled(&self) -> Option<Recycled> {
         match self {
-            Operation::Put { recycled, .. } | Operation::MakeRoom { recycled } => Some(*recycled),
+            Operation::Put { recycled, .. }
+            | Operation::ClearingStore { recycled, .. }
+            | Operation::MakeRoom { recycled } => Some(*recycled),
             _ => None,
         }
     }
@@ -261,16 +287,16 @@ impl Operation {
                 ..
             } => *refusal == Refusal::BucketFull && *bucket == number,
             Operation::RefillRefused { .. } => false,
-            Operation::Put { .. } | Operation::MakeRoom { .. } => {
-                self.taken().is_some() || self.ends_in(number)
-            }
+            Operation::Put { .. } | Operation::ClearingStore { .. } | Operation::MakeRoom { .. } =>
+                self.taken().is_some() || self.ends_in(number),
             _ => self.bucket().is_none_or(|bucket| bucket == number),
         }
     }
 
-    // Whether the operation is a put that stored in this bucket, or found it full.
+    // Whether the operation is a client's that stored in this bucket, or a put that found it full.
     fn ends_in(&self, number: usize) -> bool {
         match self {
+            Operation::ClearingStore { bucket, .. } => *bucket == number,
             Operation::Put { bucket, ended, .. } => {
                 *bucket == number
                     && matches!(
@@ -286,7 +312,9 @@ impl Operation {
     /// and items of it are held in those. A release is taken early, and can leave late.
     pub(crate) fn inside(&self, number: usize, stood: u64, held: u64) -> u64 {
         match self {
-            Operation::OnKey { bucket, .. } | Operation::Refused { bucket, .. }
+            Operation::OnKey { bucket, .. }
+            | Operation::Refused { bucket, .. }
+            | Operation::ClearingStore { bucket, .. }
                 if *bucket == number => { stood }
             Operation::Release { bucket } if *bucket == number => held,
             _ => 0,
@@ -298,7 +326,10 @@ impl Operation {
     pub(crate) fn is_free(&self) -> bool {
         match self {
             Operation::OnKey { access, .. } => !access.changes(),
-            Operation::Lock { .. } | Operation::Put { .. } | Operation::MakeRoom { .. } => false,
+            Operation::Lock { .. }
+            | Operation::Put { .. }
+            | Operation::ClearingStore { .. }
+            | Operation::MakeRoom { .. } => false,
             _ => true,
         }
     }
@@ -335,21 +366,26 @@ impl Operation {
     }
 
     /// Whether the operation can return though keys of this bucket still stand in its segment.
-    /// A put can't where it stored, or found the bucket full.
+    /// A client's can't where it stored, or found the bucket full.
     pub(crate) fn is_cut_off(&self, number: usize) -> bool {
         self.taken().is_some() && self.emptied().is_none() && !self.ends_in(number)
     }
 
-    /// Whether the operation can take this key of its own bucket out after it was taken there.
-    /// A put that stored another key clears a segment then.
-    pub(crate) fn clears(&self, key: usize) -> bool {
+    /// Whether the operation can take this key of the bucket out once it was taken there, or before.
+    /// A client that stored another key clears a segment then. Only a put evicts before, too.
+    pub(crate) fn can_take_out(&self, number: usize, key: usize, is_done: bool) -> bool {
         match self {
             Operation::Put {
                 key: stored,
                 ended: PutEnd::Stored(_),
                 ..
-            } => *stored != key,
-            _ => false,
+            } => !is_done || *stored != key,
+            Operation::ClearingStore {
+                bucket,
+                key: stored,
+                ..
+            } => *bucket != number || is_done && *stored != key,
+            _ => !is_done,
         }
     }
 
@@ -367,7 +403,9 @@ impl Operation {
             Operation::Evict { segment, .. } | Operation::Keep { segment, .. } => {
                 stood & bit(*segment) != 0
             }
-            Operation::Put { recycled, .. } | Operation::MakeRoom { recycled } => {
+            Operation::Put { recycled, .. }
+            | Operation::ClearingStore { recycled, .. }
+            | Operation::MakeRoom { recycled } => {
                 self.bucket() == Some(number) || stood & bit(recycled.segment) != 0
             }
             _ => false,
@@ -380,7 +418,9 @@ impl Operation {
             Operation::OnKey { bucket, access, .. } => {
                 u64::from(*bucket == number && access.writes())
             }
-            Operation::Put { recycled, .. } | Operation::MakeRoom { recycled } => {
+            Operation::Put { recycled, .. }
+            | Operation::ClearingStore { recycled, .. }
+            | Operation::MakeRoom { recycled } => {
                 // A put sets twice at most in a bucket that isn't busy, the first time in vain.
                 let sets = if self.bucket() == Some(number) { 2 } else { 0 };
                 u64::from(recycled.taken)
@@ -396,6 +436,9 @@ impl Operation {
         matches!(
             self,
             Operation::OnKey {
+                access: Access::Set(_) | Access::Add(Some(_)),
+                ..
+            } | Operation::ClearingStore {
                 access: Access::Set(_) | Access::Add(Some(_)),
                 ..
             } | Operation::Put {

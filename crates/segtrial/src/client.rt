@@ -8,6 +8,7 @@ ghost use Rattle.segread.specs.Words.{IsHoldOf};
 
 use crate::answers::{Said, said_by_get_many, said_by_put};
 use crate::call::{Access, Item, Operation, Recycled, Refusal};
+use crate::current::{Current, Refill};
 use crate::draws::{ClientTurn, Keeping};
 use crate::keys::{BUCKETS, EACH, Place};
 use crate::log::Notes;
@@ -27,8 +28,8 @@ pub struct ClientCaller<'a> {
     number: u32,
     session: Session<'a>,
     time_to_live: u32,
-    /// The deadline of the segment that was refilled last, into which the client stores.
-    deadline: u32,
+    /// The segment that the client stores into.
+    current: Current,
     /// Whether keys were evicted since the last look.
     has_evicted: bool,
     /// The answers to gets of all keys of a bucket.
@@ -45,7 +46,9 @@ impl<'a> ClientCaller<'a> {
         seed: u64,
     ) -> Result<ClientCaller<'a>, AllocError> {
         let mut session = Session::new(alloc, desk, number, seed);
-        match session.draws.keeping(desk.segments) {
+        let keeping = session.draws.keeping(desk.segments);
+        let current = Current::new(desk.rows, matches!(keeping, Keeping::ByQueues));
+        match keeping {
             Keeping::ByQueues => {}
             Keeping::From(cutoff) => client.keep_from(Some(cutoff)),
             Keeping::Nothing => client.keep_nothing(),
@@ -61,7 +64,7 @@ impl<'a> ClientCaller<'a> {
             number,
             session,
             time_to_live,
-            deadline: 0,
+            current,
             has_evicted: false,
             answers,
         })
@@ -95,16 +98,17 @@ impl<'a> ClientCaller<'a> {
         }
     }
 
-    // A command on a key. Most sets are puts.
+    // A command on a key. Most sets are puts, unless a store has to tell first whether a row is left.
     fn command(&mut self)
         ensures index { self.new.client.index.now ≡ self.old.client.index.now }
         ensures held { holding self.new.client.member.pass ≡ holding self.old.client.member.pass }
     {
-        let Some(asked) = self.session.ask(self.number, self.deadline) else {
+        let Some(asked) = self.session.ask(self.number, self.current.deadline()) else {
             return;
         };
         match &asked.command {
-            Command::Write(request) if self.session.draws.is_put(request) => {
+            Command::Write(request)
+                if self.session.draws.is_put(request) && self.current.is_known() => {
                 self.put(asked.place, asked.item, request);
             }
             _ => self.serve(&asked),
@@ -123,10 +127,13 @@ impl<'a> ClientCaller<'a> {
         let called = self.session.log.stamp();
         let answer = put(&mut self.client, key, value);
         let returned = self.session.log.stamp();
-        let recycled = self.recycled(before, *now);
-        let deadline = self.deadline;
+        let recycled = self.recycled(before);
+        let refill = self.refill(before, *now);
+        let is_allowed = self.current.was_put(answer, *now, refill);
+        self.current.were_moved(recycled.kept);
+        let deadline = self.current.deadline();
         let said = said_by_put(answer, place, recycled, Item { deadline, ..item });
-        self.session.note((called, returned), said);
+        self.note_if(is_allowed, (called, returned), said);
     }
 
     // Makes a command as it is. If there is no room for it, the client makes some.
@@ -134,12 +141,21 @@ impl<'a> ClientCaller<'a> {
         ensures index { self.new.client.index.now ≡ self.old.client.index.now }
         ensures held { holding self.new.client.member.pass ≡ holding self.old.client.member.pass }
     {
+        let before = self.client.stats();
         let called = self.session.log.stamp();
         let Some(answer) = serve(&mut self.client, &asked.command) else {
             return;
         };
         let returned = self.session.log.stamp();
-        self.session.note_answer((called, returned), asked, &answer);
+        let recycled = self.recycled(before);
+        self.session
+            .note_answer((called, returned), asked, &answer, recycled);
+        if let Answer::Write(told) = answer {
+            if !self.current.was_stored_into(told) {
+                self.session.note((called, returned), Said::Wrong);
+            }
+            self.current.were_moved(recycled.kept);
+        }
         if answer == Answer::Write(WriteAnswer::NoRoom) {
             self.make_room();
         }
@@ -153,11 +169,23 @@ impl<'a> ClientCaller<'a> {
         set_now(&mut self.client, now);
         let before = self.client.stats();
         let called = self.session.log.stamp();
-        make_room(&mut self.client);
+        let is_made = make_room(&mut self.client);
         let returned = self.session.log.stamp();
-        let recycled = self.recycled(before, now);
+        let recycled = self.recycled(before);
+        let refill = self.refill(before, now);
+        let is_allowed = self.current.was_made_room(is_made, refill);
+        self.current.were_moved(recycled.kept);
         let room = Operation::MakeRoom { recycled };
-        self.session.note((called, returned), Said::Operation(room));
+        self.note_if(is_allowed, (called, returned), Said::Operation(room));
+    }
+
+    // Notes what a call said, if the segment that the client stores into allows it.
+    fn note_if(&mut self, is_allowed: bool, stamps: (u64, u64), said: Said)
+        ensures index { self.new.client.index.now ≡ self.old.client.index.now }
+        ensures held { holding self.new.client.member.pass ≡ holding self.old.client.member.pass }
+    {
+        let said = if is_allowed { said } else { Said::Wrong };
+        self.session.note(stamps, said);
     }
 
     // If keys were evicted, looks which still stand, at a moment before all deadlines.
@@ -184,16 +212,21 @@ impl<'a> ClientCaller<'a> {
         self.session.note((called, returned), said);
     }
 
-    // What a call at this moment recycled, by the counts before it.
-    // A segment that it refilled has the deadline of this moment.
-    fn recycled(&mut self, before: Stats, now: u32) -> Recycled
+    // Whether a call at this moment refilled segments, by the counts before it.
+    fn refill(&self, before: Stats, now: u32) -> Refill {
+        let after = self.client.stats();
+        Refill {
+            came_about: before.segments_refilled < after.segments_refilled,
+            deadline: deadline_at(now, self.time_to_live),
+        }
+    }
+
+    // What a call recycled, by the counts before it.
+    fn recycled(&mut self, before: Stats) -> Recycled
         ensures index { self.new.client.index.now ≡ self.old.client.index.now }
         ensures held { holding self.new.client.member.pass ≡ holding self.old.client.member.pass }
     {
         let after = self.client.stats();
-        if before.segments_refilled < after.segments_refilled {
-            self.deadline = deadline_at(now, self.time_to_live);
-        }
         self.has_evicted = self.has_evicted || before.keys_evicted < after.keys_evicted;
         Recycled {
             segment: self.number,
@@ -274,12 +307,12 @@ fn put(client: &mut Client<'_>, key: &Key, value: &Value) -> PutAnswer
     client.put(key, value)
 }
 
-// Makes room. What the client holds stays held.
-fn make_room(client: &mut Client<'_>)
+// Makes room, and returns whether there is some. What the client holds stays held.
+fn make_room(client: &mut Client<'_>) -> bool
     ensures index { client.new.index.now ≡ client.old.index.now }
     ensures held { holding client.new.member.pass ≡ holding client.old.member.pass }
 {
-    client.make_room();
+    client.make_room()
 }
 
 // Gets of these keys. There are as many answers.

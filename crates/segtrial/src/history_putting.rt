@@ -1,4 +1,5 @@
-//! Puts of clients, which evict unseen: a legal history, and what can and can't stand there in its place.
+//! Puts and other stores of clients, which evict unseen: a legal history, and what can and can't
+//! stand there in its place.
 use crate::call::{Access, Operation, PutEnd, Read, Reads, Recycled, Refusal};
 use crate::histories::{FIRST_VERSION, Line, Row, item, judge, on_key, on_key_of};
 use crate::replay::{Fault, Sizes};
@@ -47,6 +48,19 @@ macro_rules! refused {
             key: 1,
             recycled: recycled!(0, $taken),
             ended: PutEnd::Refused(Refusal::$refusal),
+        }
+    };
+}
+
+// A store by pass 0 of key 1 of bucket 0, which cleared a key afterwards.
+macro_rules! clearing {
+    ($access:ident) => {
+        Operation::ClearingStore {
+            bucket: 0,
+            key: 1,
+            now: 0,
+            access: Access::$access(Some(item!(3, 0))),
+            recycled: recycled!(0, 1),
         }
     };
 }
@@ -105,7 +119,7 @@ const OTHER: [Line; 8] = [
     (20, 21, get!(2, Some(4))),
 ];
 
-const LEGAL: [Row; 6] = [
+const LEGAL: [Row; 8] = [
     ("as it is", Ok(()), &[]),
     (
         "a key that was evicted before the put stored",
@@ -116,6 +130,16 @@ const LEGAL: [Row; 6] = [
         "a key that was evicted after the put stored",
         Ok(()),
         &[(9, get!(1, Some(3)))],
+    ),
+    (
+        "a key that was evicted before the put's own key was there",
+        Ok(()),
+        &[(9, get!(0, None)), (11, get!(1, None))],
+    ),
+    (
+        "an add that cleared a key once it stored",
+        Ok(()),
+        &[(8, clearing!(Add)), (9, get!(1, Some(3)))],
     ),
     (
         "a put that evicted the key of the other bucket",
@@ -152,7 +176,7 @@ const LEGAL: [Row; 6] = [
 ];
 
 // Each has the return of the first call that can't be explained.
-const ALTERED: [Row; 11] = [
+const ALTERED: [Row; 14] = [
     (
         "a key that an evict took out of another pass's segment",
         Err(Fault::NoOrder(21)),
@@ -191,6 +215,26 @@ const ALTERED: [Row; 11] = [
             (18, get!(1, None)),
             (22, gets!(Some(1), None, Some(4))),
         ],
+    ),
+    (
+        "an add that cleared a key before it stored",
+        Err(Fault::NoOrder(12)),
+        &[(8, clearing!(Add)), (9, get!(0, None)), (11, get!(1, None))],
+    ),
+    (
+        "an add that cleared the key that it stored",
+        Err(Fault::NoOrder(19)),
+        &[
+            (8, clearing!(Add)),
+            (14, get!(0, Some(1))),
+            (18, get!(1, None)),
+            (22, gets!(Some(1), None, Some(4))),
+        ],
+    ),
+    (
+        "a replace of an absent key that cleared another",
+        Err(Fault::NoOrder(13)),
+        &[(8, clearing!(Replace))],
     ),
     (
         "a put that wasn't made",

@@ -9,6 +9,7 @@ mod bucket;
 mod call;
 mod caller;
 mod client;
+mod current;
 mod draws;
 mod ending;
 mod histories;

@@ -6,7 +6,7 @@ ghost use Rattle.segstore.specs.Words.{IsQuiet, IsQuiet-prop};
 ghost use Rattle.segread.specs.Words.{IsHoldOf};
 
 use crate::answers::{Said, said_by_evict, said_by_keep, said_by_refill};
-use crate::call::{Access, Operation, Refusal};
+use crate::call::{Access, Operation, Recycled, Refusal};
 use crate::draws::Turn;
 use crate::log::Notes;
 use crate::session::{Desk, Session};
@@ -96,8 +96,9 @@ impl<'a> PassCaller<'a> {
         let called = self.session.log.stamp();
         let answer = serve(self.index, &mut self.pass, &asked.command, draw);
         let returned = self.session.log.stamp();
+        let recycled = Recycled::nothing(self.segment);
         self.session
-            .note_answer((called, returned), &asked, &answer);
+            .note_answer((called, returned), &asked, &answer, recycled);
         if answer == Answer::Write(WriteAnswer::NoRoom) {
             self.refill();
         }

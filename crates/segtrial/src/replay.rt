@@ -182,7 +182,9 @@ impl Replay {
             .is_none_or(|number| number < self.buckets.len())
             && operation.taken().is_none_or(|taken| taken < 64)
             && match operation {
-                Operation::OnKey { key, .. } | Operation::Refused { key, .. } => *key < KEYS,
+                Operation::OnKey { key, .. }
+                | Operation::Refused { key, .. }
+                | Operation::ClearingStore { key, .. } => *key < KEYS,
                 Operation::Keep { cutoff, .. } => *cutoff <= HIGHEST_CUTOFF,
                 Operation::Refill { segment, .. } => (*segment as usize) < SEGMENTS,
                 _ => true,

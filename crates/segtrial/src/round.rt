@@ -194,6 +194,7 @@ fn make_calls<R: Threads + Sync>(
         clock: &clock,
         start: &start,
         segments: shape.segments_each,
+        rows: shape.rows,
     };
     let course = Course {
         desk,

@@ -64,7 +64,8 @@ impl Rows {
             | Operation::Unlock { .. }
             | Operation::GetMany { .. } => true,
             // Which segments clients recycle isn't told.
-            Operation::Put { .. } | Operation::MakeRoom { .. } => false,
+            Operation::Put { .. } | Operation::ClearingStore { .. } | Operation::MakeRoom { .. } =>
+                false,
         }
     }
 

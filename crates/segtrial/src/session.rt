@@ -1,6 +1,6 @@
 //! What a pass draws and notes, whether it makes its calls by itself or by a client.
-use crate::answers::{Said, said_by};
-use crate::call::{Item, Operation};
+use crate::answers::{Said, said_by, with_recycled};
+use crate::call::{Item, Operation, Recycled};
 use crate::draws::Draws;
 use crate::keys::{BUCKETS, Place};
 use crate::log::Log;
@@ -18,8 +18,9 @@ pub struct Desk<'a> {
     /// The counter from which the stamps are drawn.
     pub clock: &'a AtomicU64,
     pub start: &'a Start,
-    /// How many segments each pass has.
+    /// How many segments each pass has, and how many rows each segment.
     pub segments: u32,
+    pub rows: u32,
 }
 
 /// The draws and the notes of a pass.
@@ -81,10 +82,16 @@ impl<'a> Session<'a> {
         self.log.note(stamps.0, stamps.1, said);
     }
 
-    /// Notes the answer to a command.
-    pub fn note_answer(&mut self, stamps: (u64, u64), asked: &Asked, answer: &Answer) {
+    /// Notes the answer to a command, which recycled so much.
+    pub fn note_answer(
+        &mut self,
+        stamps: (u64, u64),
+        asked: &Asked,
+        answer: &Answer,
+        recycled: Recycled,
+    ) {
         let said = said_by(&asked.command, answer, asked.place, asked.item);
-        self.note(stamps, said);
+        self.note(stamps, with_recycled(said, recycled));
         if let Answer::Gets(GetsAnswer::Found(_, version)) = answer {
             if let Some(last) = self.versions.get_mut(asked.place.bucket) {
                 *last = *version;

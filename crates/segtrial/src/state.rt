@@ -141,6 +141,12 @@ impl State {
                 now,
                 access,
                 ..
+            }
+            | Operation::ClearingStore {
+                key,
+                now,
+                access,
+                ..
             } => next.access(thread, *key, *now, access),
             Operation::Held { value, .. } => hand.held.is_some_and(|item| item.value == *value),
             Operation::Release { .. } => hand.held.take().is_some(),
