@@ -111,9 +111,9 @@ typedef struct segcache_note_t {
   uint64_t home; /* the number of that client's cache */
 } segcache_note_t;
 
-/* The size of a cache. segcache_open makes one up from a number of keys. Each bucket, overflow bucket and row takes
-   64 bytes, and each segment 8: 512 MiB at most, and twice that for a moment while it is opened. Clients take 3 bytes
-   more for each row, and 12 for each segment. */
+/* The size of a cache with one table. segcache_open makes shapes up from a number of keys. Each bucket, overflow bucket
+   and row takes 64 bytes, and each segment 8: 512 MiB at most, and twice that for a moment while it is opened. Clients
+   take 3 bytes more for each row, and 12 for each segment. */
 typedef struct segcache_shape {
   uint32_t buckets;       /* a power of two, 65536 at most; a bucket has words for 7 keys */
   uint32_t overflow;      /* overflow buckets, 65536 at most, each for 6 keys more of one bucket */
@@ -130,7 +130,7 @@ typedef struct segcache_stats_t {
   uint64_t segments_refilled, items_kept, keys_evicted; /* by puts and make_room */
 } segcache_stats_t;
 
-/* How full the table is. */
+/* How full the tables are: the sums over all tables of the cache. */
 typedef struct segcache_index_stats_t {
   uint32_t overflow_buckets; /* in use, of all chains */
   uint32_t used_rows;        /* of this client's segments */
@@ -223,9 +223,11 @@ static inline uint32_t segcache_hand_out(uint32_t status, segcache_handle made, 
   return status;
 }
 
-/* Makes a cache for so many keys (425,984 at most), and a client for each of so many threads (1 to 64). Each client
-   stores into its own equal share of the room. So all keys fit if the clients store about as many each.
-   It takes all memory at once, but for that of notes and of a close. `cache` and `clients[threads]` are written,
+/* Makes a cache for so many keys, and a client for each of so many threads (1 to 64). Each client stores into its own
+   equal share of the room. So all keys fit if the clients store about as many each. There is a table for every 262,144
+   keys, and each key belongs to one of the tables by its hash. A call on a key goes to that table alone.
+   It takes all memory at once, but for that of notes and of a close: about 167 bytes a key, and up to 42 MB more for a
+   moment. `cache` and `clients[threads]` are written,
    whatever they were: if they are of a cache that is still open, that one is lost. If the answer is not OK they are
    zeroed, of more than 64 clients the first 64. Answers: OK, BAD_SHAPE, OUT_OF_MEMORY; OTHER_VERSION, if the library
    has another version than this header, and nothing was made. */
@@ -239,7 +241,7 @@ static inline uint32_t segcache_open(uint32_t keys, uint32_t threads, segcache *
   return segcache_hand_out(status, made, raw, count, cache, clients);
 }
 
-/* The same for a shape, with a client for each of its passes. Answers as segcache_open. */
+/* The same for one table of a shape, with a client for each of its passes. Answers as segcache_open. */
 static inline uint32_t segcache_open_shape(const segcache_shape *shape, segcache *cache, segcache_client *clients) {
   segcache_handle made, raw[SEGCACHE_MAX_THREADS];
   uint32_t status = SEGCACHE_BAD_SHAPE;
@@ -443,8 +445,9 @@ static inline uint32_t segcache_keep_nothing(segcache_client *client) {
   return SEGCACHE_CALL(client, segcache_raw_keep_from(&client->raw, 0));
 }
 
-/* Makes room, as a put does that finds no row. What is stored next goes into a segment with the deadline of `now`:
-   it lives for more than half of the time to live. Answers: OK, NO_ROOM, NO_HANDLE. */
+/* Makes room, as a put does that finds no row: in the table of the client's last write, if that was answered by NO_ROOM,
+   and else in each table. What is stored there next goes into a segment with the deadline of `now`: it lives for more
+   than half of the time to live. Answers: OK; NO_ROOM, of one table at least; NO_HANDLE. */
 static inline uint32_t segcache_make_room(segcache_client *client, uint32_t now) {
   return SEGCACHE_CALL(client, segcache_raw_make_room(&client->raw, now));
 }
@@ -454,7 +457,7 @@ static inline uint32_t segcache_stats(segcache_client *client, segcache_stats_t 
   return SEGCACHE_CALL(client, segcache_raw_stats(&client->raw, stats));
 }
 
-/* How full the table is. It looks at all rows of the client's segments. Answers: OK, NO_HANDLE. */
+/* How full the tables are. It looks at all rows of the client's segments. Answers: OK, NO_HANDLE. */
 static inline uint32_t segcache_index_stats(segcache_client *client, segcache_index_stats_t *stats) {
   return SEGCACHE_CALL(client, segcache_raw_index_stats(&client->raw, stats));
 }
@@ -475,7 +478,8 @@ static inline uint32_t segcache_give_back(segcache *cache, segcache_client *clie
 }
 
 /* Closes a cache whose clients were all given back. The cursor lists its content, and has to be freed. It is written,
-   whatever it was. The cache is none afterwards. Keys that have expired are listed until they are evicted.
+   whatever it was. The cache is none afterwards. Keys that have expired are listed until they are evicted. One table is
+   closed, and the cursor closes the others, one after another; each is freed once its pairs are listed.
    Answers: OK; CLIENT_OUT, and nothing changed; OUT_OF_MEMORY: the cache is as it was, or it is none and its
    content is lost; NO_HANDLE. BUSY, with the cache as it was, has come in no test, and may where rule 2 is broken. */
 static inline uint32_t segcache_close(segcache *cache, segcache_cursor *cursor) {
@@ -488,8 +492,10 @@ static inline uint32_t segcache_close(segcache *cache, segcache_cursor *cursor) 
   return status;
 }
 
-/* Copies the next pair, in the order of the keys' bytes: `key[24]` and `value[32]`, and their lengths.
-   Answers: OK, END, NO_HANDLE. */
+/* Copies the next pair: `key[24]` and `value[32]`, and their lengths. The pairs of one table come after those of
+   another, and those of one in the order of the keys' bytes.
+   Answers: OK, END, NO_HANDLE. Where a further table is closed, also OUT_OF_MEMORY: memory for the list of its pairs was
+   refused, and they may be lost. Or BUSY, as of segcache_close. The next call goes on. */
 static inline uint32_t segcache_next(segcache_cursor *cursor, void *key, size_t *key_len, void *value,
                                      size_t *value_len) {
   SEGCACHE_APART(key, SEGCACHE_MAX_KEY, value, SEGCACHE_MAX_VALUE);

@@ -104,7 +104,6 @@ static void test_opening(void) {
   EXPECT(segcache_open(100, 0, &cache, clients), SEGCACHE_BAD_SHAPE);
   EXPECT(segcache_open(100, 65, &cache, clients), SEGCACHE_BAD_SHAPE);
   EXPECT(segcache_open(100, UINT32_MAX, &cache, clients), SEGCACHE_BAD_SHAPE);
-  EXPECT(segcache_open(425985, 1, &cache, clients), SEGCACHE_BAD_SHAPE);
   for (size_t i = 0; i < sizeof bads / sizeof *bads; i++) {
     bad = bads[i];
     EXPECT(segcache_open_shape(&bad, &cache, clients), SEGCACHE_BAD_SHAPE);
@@ -476,6 +475,7 @@ int main(void) {
   test_ends();
   test_memory_of_open();
   test_memory_of_close();
+  test_shards();
   CHECK(out == before);
   printf("%d checks, %d faults\n", checks, faults);
   return faults == 0 ? 0 : 1;

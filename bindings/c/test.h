@@ -44,5 +44,6 @@ void test_clock(void);
 void test_holds(void);
 void test_notes(void);
 void test_debug(void);
+void test_shards(void);
 
 #endif

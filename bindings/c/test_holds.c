@@ -123,6 +123,11 @@ static void test_late_notes(void) {
   EXPECT(segcache_give_back(&cache, &client), SEGCACHE_OK);
   EXPECT(segcache_free(&cache), SEGCACHE_OK);
   EXPECT(segcache_open(100, 1, &cache, &client), SEGCACHE_OK);
+  for (int tries = 0; tries < 20 && cache.raw.at != at; tries++) {
+    EXPECT(segcache_give_back(&cache, &client), SEGCACHE_OK);
+    EXPECT(segcache_free(&cache), SEGCACHE_OK);
+    EXPECT(segcache_open(100, 1, &cache, &client), SEGCACHE_OK);
+  }
   free_blocks();
   CHECK(cache.raw.at == at);
   EXPECT(segcache_learn(&client, &note), SEGCACHE_FOREIGN);

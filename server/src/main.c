@@ -80,9 +80,6 @@ static bool open_store(struct server *server) {
   const char *why = store_open(&server->store, &plan, clients);
   if (why != NULL) return fault("the cache can't be opened", why);
   for (uint32_t i = 0; i < options->threads; i++) server->workers[i].client = clients[i];
-  if (options->keys == 0 && (uint64_t)options->megabytes * 1024 * 1024 / STORE_BYTES_A_KEY > STORE_MOST_KEYS)
-    fprintf(stderr, "segcache-server: -m %u: the library has room for %d keys, which is %d MiB; the rest isn't used\n",
-            options->megabytes, STORE_MOST_KEYS, STORE_MOST_KEYS / (1024 * 1024 / STORE_BYTES_A_KEY));
   return true;
 }
 

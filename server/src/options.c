@@ -149,7 +149,7 @@ static bool take(struct options *options, int option, char *argument) {
   case 'A': return options->may_shut_down = true;
   case 'C': return options->no_unique = true;
   case 'F': return options->no_flush = true;
-  case KEYS: return number("--keys", argument, 1, STORE_MOST_KEYS, &options->keys);
+  case KEYS: return number("--keys", argument, 1, UINT32_MAX, &options->keys);
   case TIME_TO_LIVE: return number("--time-to-live", argument, 1, INT32_MAX, &options->time_to_live);
   case KEEP_FROM: return number("--keep-from", argument, 0, UCHAR_MAX, &options->keep_from);
   case IDLE_TIMEOUT: return number("--idle_timeout", argument, 0, INT32_MAX, &options->idle_seconds);
@@ -190,7 +190,7 @@ enum reading options_read(struct options *options, int count, char **words) {
 
 uint32_t options_keys(const struct options *options) {
   uint64_t keys = options->keys > 0 ? options->keys : (uint64_t)options->megabytes * 1024 * 1024 / STORE_BYTES_A_KEY;
-  return keys < STORE_MOST_KEYS ? (uint32_t)keys : STORE_MOST_KEYS;
+  return keys < UINT32_MAX ? (uint32_t)keys : UINT32_MAX;
 }
 
 uint32_t options_most_data(const struct options *options, uint32_t key_length) {

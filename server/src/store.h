@@ -14,8 +14,7 @@ enum {
   STORE_MOST_KEY = SEGCACHE_MAX_KEY,     /* bytes */
   STORE_MOST_VALUE = SEGCACHE_MAX_VALUE, /* bytes, with the server's header */
   STORE_MOST_CLIENTS = SEGCACHE_MAX_THREADS,
-  STORE_MOST_KEYS = 425984, /* that the library makes room for */
-  STORE_BYTES_A_KEY = 192,  /* of memory, for each key that there is room for: measured, rounded up */
+  STORE_BYTES_A_KEY = 192, /* of memory, for each key that there is room for: measured, rounded up */
 };
 
 enum store_status {

@@ -5,8 +5,8 @@ use crate::{Bytes, Client, Error, Key, Value};
 use std::fmt;
 use std::sync::{Arc, Mutex, PoisonError};
 
-/// The size of a cache. [`Builder::keys`] makes one up from a number of keys. Each bucket, overflow bucket and
-/// row takes 64 bytes, and each segment 8; all of them together have 512 MiB at most, and twice that for a
+/// The size of a cache of one table. [`Builder::keys`] makes shapes up from a number of keys. Each bucket,
+/// overflow bucket and row takes 64 bytes, and each segment 8; all of them together have 512 MiB at most, and twice that for a
 /// moment while the cache is made. The clients take 3 bytes more for each row, and 16 for each segment, to
 /// know what was read.
 #[repr(C)]
@@ -25,6 +25,9 @@ pub struct Shape {
     /// The version that all buckets begin with; 0 will do.
     pub first_version: u32,
 }
+
+/// The status of a cursor behind its last pair.
+const END: u32 = 18;
 
 /// The handle, which one thread uses at a time. Clients hold on to it, so that they can be given back.
 #[derive(Debug)]
@@ -55,8 +58,9 @@ pub struct Builder {
 }
 
 impl Builder {
-    /// How many keys the cache is to have room for: 425,984 at most. 10,000 if it isn't said. Each client stores
-    /// into its own equal share of the room, so all keys fit if the clients store about as many each.
+    /// How many keys the cache is to have room for. 10,000 if it isn't said. Each client stores into its own equal
+    /// share of the room, so all keys fit if the clients store about as many each. There is a table for every
+    /// 262,144 keys, and each key belongs to one of the tables by its hash.
     #[must_use]
     pub fn keys(mut self, keys: u32) -> Builder {
         self.keys = keys;
@@ -70,7 +74,7 @@ impl Builder {
         self
     }
 
-    /// The shape itself, in place of a number of keys and of threads.
+    /// The shape of one table, in place of a number of keys and of threads.
     #[must_use]
     pub fn shape(mut self, shape: Shape) -> Builder {
         self.shape = Some(shape);
@@ -122,8 +126,8 @@ impl Cache {
         Builder { keys: 10_000, threads: 1, shape: None }
     }
 
-    /// Closes the cache, once its clients are dropped, and lists its content in the order of the keys.
-    /// Keys that have expired are listed until they are evicted.
+    /// Closes the cache, once its clients are dropped, and lists its content: table by table, each in the order
+    /// of the keys. Keys that have expired are listed until they are evicted.
     ///
     /// # Errors
     /// [`Error::ClientOut`], with the cache as it was. [`Error::OutOfMemory`], with the cache as it was, or
@@ -132,7 +136,7 @@ impl Cache {
         let mut cursor = Handle::none();
         // SAFETY: the handle is the cache's, and the cursor is none.
         match self.shared.with(|cache| unsafe { raw::segcache_raw_close(cache, &mut cursor) }) {
-            0 => Ok(Content { cursor }),
+            0 => Ok(Content { cursor, whole: true }),
             status => {
                 let lost = self.shared.with(|cache| cache.is_none());
                 Err(Unclosed { cache: if lost { None } else { Some(self) }, error: Error::of(status) })
@@ -162,10 +166,21 @@ impl std::error::Error for Unclosed {
     }
 }
 
-/// The content of a closed cache: pairs in the order of their keys' bytes.
+/// The content of a closed cache: the pairs of each table in the order of their keys' bytes. The tables are
+/// closed one after another, as their pairs are wanted. Where memory for the list of a table's pairs is refused,
+/// `next` returns None, and [`Content::is_whole`] false from then on. The next call goes on.
 #[derive(Debug)]
 pub struct Content {
     cursor: Handle,
+    whole: bool,
+}
+
+impl Content {
+    /// Whether no memory for pairs was refused so far.
+    #[must_use]
+    pub fn is_whole(&self) -> bool {
+        self.whole
+    }
 }
 
 impl Iterator for Content {
@@ -181,6 +196,7 @@ impl Iterator for Content {
                 }
             })
         });
+        self.whole &= status == 0 || status == END;
         (status == 0).then_some((key, value))
     }
 }

@@ -49,7 +49,7 @@ pub struct Stats {
     pub keys_evicted: u64,
 }
 
-/// How full the table is.
+/// How full the tables are: the sums over all tables of the cache.
 #[repr(C)]
 #[derive(Clone, Copy, Debug, Default, PartialEq, Eq)]
 pub struct IndexStats {
@@ -269,8 +269,9 @@ impl Client {
         self.keep_from(None);
     }
 
-    /// Begins another segment of this client's, and returns whether one could be had. It may evict keys
-    /// that this client stored.
+    /// Begins another segment of this client's, and returns whether one could be had: in the table of its last
+    /// write, if that was answered by [`Error::NoRoom`], and else in each table. It may evict keys that this
+    /// client stored.
     ///
     /// # Errors
     /// None that is known.
@@ -287,7 +288,7 @@ impl Client {
         stats
     }
 
-    /// How full the table is. It looks at all rows of the client's segments.
+    /// How full the tables are. It looks at all rows of the client's segments.
     pub fn index_stats(&self) -> IndexStats {
         let mut stats = IndexStats::default();
         // SAFETY: the handle is this client's.

@@ -227,10 +227,13 @@ fn a_close_lists_the_content_and_frees_the_list() {
     let (key, value) = content.next().unwrap();
     assert_eq!((key.as_slice(), value.as_slice()), (&b"key"[..], VALUE));
     answer(18);
-    assert!(content.next().is_none());
+    assert!(content.next().is_none() && content.is_whole());
+    answer(12);
+    assert!(content.next().is_none() && !content.is_whole());
     answer(0);
+    assert!(content.next().is_some() && !content.is_whole());
     drop(content);
-    assert_eq!(calls(), ["next 300", "next 300", "cursor_free 300"]);
+    assert_eq!(calls(), ["next 300", "next 300", "next 300", "next 300", "cursor_free 300"]);
 }
 
 #[test]

@@ -15,7 +15,6 @@ fn two() -> (Cache, Client, Client) {
 fn a_bad_shape_is_an_error() {
     assert_eq!(Cache::builder().threads(0).build().err(), Some(Error::BadShape));
     assert_eq!(Cache::builder().threads(65).build().err(), Some(Error::BadShape));
-    assert_eq!(Cache::builder().keys(425_985).build().err(), Some(Error::BadShape));
     let shape = Shape { buckets: 3, overflow: 0, passes: 1, segments_each: 2, rows: 8, first_version: 0 };
     assert_eq!(Cache::builder().shape(shape).build().err(), Some(Error::BadShape));
 }
