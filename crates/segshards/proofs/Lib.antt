@@ -9,5 +9,6 @@ pub mod Noted
 pub mod OneOrder
 pub mod Opened
 pub mod Places
+pub mod Planned
 pub mod ShardOrder
 pub mod Whole

@@ -1,7 +1,9 @@
 -- How many shards a cache has for a number of keys, and of which shape.
 use Rattle.std.specs.Prelude.{◌≡◌, ℕ, ◌*◌, ◌≤◌}
-use Rattle.segword.specs.Shape.{HasRoomFor, IsFaultOfKeys, IsValid}
+use Rattle.std.specs.Int.{IsInRange}
+use Rattle.segword.specs.Shape.{HasRoomFor, IsValid}
 use Rattle.segword.specs.declared.shape.ShapeFault.{ShapeFault}
+use Rattle.segword.specs.declared.shape.ShapeFault.TheVariants.{BadPasses}
 use Rattle.segshards.specs.declared.plan.ShardPlan.{ShardPlan}
 use Rattle.segshards.specs.declared.shard.TheConstants.{MOST_SHARDS}
 
@@ -15,7 +17,7 @@ pub record IsPlanFor (keys threads : ℕ) (plan : ShardPlan) : Type 0 where
   pub some : 1 ≤ plan.count
   pub few : plan.count ≤ MOST_SHARDS
 
--- What is in the way of a plan is the number of threads alone, whatever the number of keys.
+-- Only the number of threads can be in the way of a plan: each number of keys has one.
 pub record IsFaultOfPlan (threads : ℕ) (fault : ShapeFault) : Type 0 where
   pub is : fault ≡ BadPasses
-  pub threads : ¬ (IsInRange 1 64 threads)
+  pub is_not : ¬ (IsInRange 1 64 threads)

@@ -1,0 +1,35 @@
+-- What can be in the way of a plan: a shard has few keys.
+use Rattle.std.proofs.Common.{◌≡◌, ℕ, ◌+◌, ◌*◌, ◌<◌, ◌≤◌, ◌⊎◌, arith, refl, inl, inr}
+use Rattle.std.specs.Int.{div_ceil}
+use Rattle.std.proofs.lemmas.Bool.{cases_lt}
+use Rattle.std.proofs.lemmas.Grind.{div_ceil_times}
+use Rattle.std.proofs.Math.Nat.{mul-le-mul_right}
+use Rattle.segword.specs.Shape.{IsFaultOfKeys}
+use Rattle.segword.specs.declared.shape.ShapeFault.{ShapeFault}
+use Rattle.segword.specs.declared.shape.ShapeFault.TheVariants.{BadBuckets, BadOverflow, BadPasses, BadSegments, BadRows, TooLarge}
+use Rattle.segshards.specs.Plan.{IsFaultOfPlan}
+
+-- each of so many shards has at most 262,144 keys
+pub few_each : (keys count each : ℕ) (some : 1 ≤ count) (enough : div_ceil keys 262144 ≤ count) (is_each : each ≡ div_ceil keys count) → each ≤ 262144
+few_each keys count each some enough is_each = small (cases_lt 262144 each)
+  where
+    all : keys ≤ div_ceil keys 262144 * 262144
+    all = (div_ceil_times keys 262144 (omega arith)).0
+
+    under : each * count < keys + count
+    under = rw is_each (div_ceil_times keys count (omega (arith, some))).1
+
+    small : (262144 < each) ⊎ (each ≤ 262144) → each ≤ 262144
+    small (inl many) =
+        let more : 262145 * count ≤ each * count = mul-le-mul_right count (omega (arith, many)) in
+        absurd (omega (arith, enough, all, under, more))
+    small (inr few) = few
+
+-- so only the number of threads is in the way of their shape
+pub only_threads : (each threads : ℕ) (few : each ≤ 262144) (fault : ShapeFault) → IsFaultOfKeys each threads fault → IsFaultOfPlan threads fault
+only_threads each threads few BadPasses is = record { is = refl; is_not = is }
+only_threads each threads few TooLarge is = let many = is.1 in absurd (omega (arith, few, many))
+only_threads each threads few BadBuckets is = absurd is
+only_threads each threads few BadOverflow is = absurd is
+only_threads each threads few BadSegments is = absurd is
+only_threads each threads few BadRows is = absurd is
