@@ -1,28 +1,25 @@
 // SPDX-License-Identifier: MIT
-/* Times each put of a full cache: what puts cost that make room, by load, shape and number of threads.
+/* Times each put into a full cache: what puts cost that make room, by load, shape and number of threads.
+ * bench/puts/measure builds it for each cache, and makes turns: puts [--processor] [PUTS]
  *
- *     make -C bindings/c                          (after bindings/archive)
- *     cc -O2 bench/puts.c bindings/c/out/libsegcache.a -pthread -lm -o bench/out/puts
- *     bench/out/puts [--processor] [PUTS]
- *
- * Each thread has a client of its own. By "zipf" it gets keys by Zipf's law with the exponent 0.99, six for each row,
+ * Each thread has a caller of its own. By "zipf" it gets keys by Zipf's law with the exponent 0.99, six for each row,
  * and puts each that is missed. By "read twice" it puts new keys only, and gets each twice: the most work, since all
  * that is cleared was read. Puts are timed once each row was used twice.
  *
- * "Rows" is the most rows of one put that were kept or evicted, by the client's counts.
+ * "Rows" is the most rows of one put that were kept or evicted, by the cache's counts.
  *
  * Times are of the processor's time stamp counter, read between fences, with the cost of the reading taken off.
  * Interruptions are in them. With --processor they are of the thread's processor time, for a machine that is busy:
  * only for puts of many microseconds, since a reading takes half of one.
  */
 #define _GNU_SOURCE
-#include "../bindings/c/segcache.h"
+#include "puts.h"
 
 #include <math.h>
 #include <pthread.h>
-#include <stdbool.h>
 #include <stdio.h>
 #include <stdlib.h>
+#include <string.h>
 #include <time.h>
 #include <x86intrin.h>
 
@@ -31,18 +28,12 @@ enum { KEYS_A_ROW = 6, SEED = 42 };
 /* What the threads do. */
 typedef struct load {
     const char* name;
-    bool is_twice; /* new keys only, each read twice */
-    int cutoff;    /* 0 keeps nothing; less leaves the client as it starts */
+    bool is_twice;      /* new keys only, each read twice */
+    bool keeps_nothing; /* nothing that was read */
 } load;
 
-static const load loads[] = {{"zipf", false, -1}, {"read twice", true, -1}, {"zipf, keep_nothing", false, 0}};
-
-/* A cache: of a shape, or as it is opened for so many keys. */
-typedef struct plan {
-    const char* name;
-    uint32_t keys, threads; /* as for segcache_open, if there are keys */
-    segcache_shape shape;
-} plan;
+static const load loads[] = {
+    {"zipf", false, false}, {"read twice", true, false}, {"zipf, keep_nothing", false, true}};
 
 typedef struct samples {
     uint64_t* ticks;
@@ -151,50 +142,44 @@ static double ns_at(const samples* of, double share) {
 /* --- A thread --- */
 
 typedef struct worker {
-    segcache_client* client;
+    caller* caller;
     const load* load;
     const place* table;
     uint32_t keys;
     size_t puts;
     samples timed; /* none while the cache is filled */
-    uint64_t state, fresh, refused, rows;
+    uint64_t state, fresh, gets, refused, rows;
 } worker;
 
 /* The next key that is to be put: one that was missed, or a new one. */
 static uint64_t next_key(worker* own) {
-    char value[SEGCACHE_MAX_VALUE];
-    size_t length;
     uint64_t key;
     if (own->load->is_twice) return own->fresh++;
-    do key = draw(own->table, own->keys, &own->state);
-    while (segcache_get(own->client, &key, sizeof key, 0, value, sizeof value, &length) != SEGCACHE_MISS);
+    do {
+        key = draw(own->table, own->keys, &own->state);
+        own->gets++;
+    } while (puts_get(own->caller, key));
     return key;
 }
 
-static void read_twice(worker* own, uint64_t key) {
-    char value[SEGCACHE_MAX_VALUE];
-    size_t length;
-    segcache_get(own->client, &key, sizeof key, 0, value, sizeof value, &length);
-    segcache_get(own->client, &key, sizeof key, 0, value, sizeof value, &length);
-}
-
-static uint64_t rows_of(const segcache_stats_t* stats) { return stats->items_kept + stats->keys_evicted; }
-
 static void* drive(void* given) {
     worker* own = given;
-    segcache_stats_t before, after;
+    uint64_t before = puts_rows(own->caller), after;
     size_t done;
-    segcache_stats(own->client, &before);
+    own->gets = 0;
     for (done = 0; done < own->puts; done++) {
         uint64_t key = next_key(own), begun = tick(), ended;
-        uint32_t status = segcache_put(own->client, &key, sizeof key, "0123456789abcdef", 16, 0);
+        bool is_stored = puts_put(own->caller, key);
         ended = tick();
-        if (own->load->is_twice) read_twice(own, key);
+        if (own->load->is_twice) {
+            puts_get(own->caller, key);
+            puts_get(own->caller, key);
+        }
         if (!own->timed.ticks) continue;
-        own->refused += status != SEGCACHE_OK;
+        own->refused += !is_stored;
         own->timed.ticks[own->timed.count++] = ended - begun;
-        segcache_stats(own->client, &after);
-        if (rows_of(&after) - rows_of(&before) > own->rows) own->rows = rows_of(&after) - rows_of(&before);
+        after = puts_rows(own->caller);
+        if (after - before > own->rows) own->rows = after - before;
         before = after;
     }
     return NULL;
@@ -213,61 +198,58 @@ static void run_all(worker* workers, uint32_t count) {
 }
 
 static void print_row(const plan* of, const load* by, const worker* workers, samples* all) {
-    segcache_stats_t stats;
-    uint64_t refused = 0, rows = 0, hits = 0, gets = 0;
-    double sum = 0;
+    uint64_t refused = 0, rows = 0, gets = 0;
+    double sum = 0, hits = 0;
     size_t i;
     qsort(all->ticks, all->count, sizeof *all->ticks, by_size);
     for (i = 0; i < all->count; i++) sum += (double)all->ticks[i];
     for (i = 0; i < of->threads; i++) {
-        segcache_stats(workers[i].client, &stats);
-        hits += stats.hits, gets += stats.hits + stats.misses, refused += workers[i].refused;
+        gets += workers[i].gets, refused += workers[i].refused;
         if (workers[i].rows > rows) rows = workers[i].rows;
     }
+    if (gets) hits = 100.0 * (double)(gets - all->count) / (double)gets;
     printf("| %s | %u | %s | %.0f | %.0f | %.0f | %.0f | %.0f | %llu | %.2f | %llu |\n", of->name, of->threads,
            by->name, ns_at(all, 0.5), ns_at(all, 0.999), ns_at(all, 0.9999), ns_at(all, 1),
-           (sum / (double)all->count - (double)reading) * ns_a_tick, (unsigned long long)rows,
-           100.0 * (double)hits / (double)(gets ? gets : 1), (unsigned long long)refused);
+           (sum / (double)all->count - (double)reading) * ns_a_tick, (unsigned long long)rows, hits,
+           (unsigned long long)refused);
     fflush(stdout);
 }
 
 static void measure(const plan* of, const load* by, size_t puts) {
-    segcache cache;
-    segcache_client clients[MOST_THREADS];
+    caller* callers[MOST_THREADS];
     worker workers[MOST_THREADS] = {{0}};
-    uint32_t each = of->keys ? 2 * of->keys / of->threads : of->shape.segments_each * of->shape.rows;
-    uint32_t keys = KEYS_A_ROW * each * of->threads, i;
+    uint32_t each = rows_each(of), keys = KEYS_A_ROW * each * of->threads, i;
     size_t share = puts / of->threads;
     place* table = by->is_twice ? NULL : zipf_table(keys);
     samples all = {malloc(share * of->threads * sizeof(uint64_t)), 0};
-    uint32_t status = of->keys ? segcache_open(of->keys, of->threads, &cache, clients)
-                               : segcache_open_shape(&of->shape, &cache, clients);
+    bool is_able = true;
     if (!all.ticks) fail("no memory");
-    if (status != SEGCACHE_OK) fail("the cache can't be opened");
+    if (!puts_open(of, callers)) fail("the cache can't be opened");
     for (i = 0; i < of->threads; i++) {
         workers[i] =
-            (worker){.client = &clients[i], .load = by, .table = table, .keys = keys, .puts = 2 * (size_t)each};
+            (worker){.caller = callers[i], .load = by, .table = table, .keys = keys, .puts = 2 * (size_t)each};
         workers[i].state = SEED + i, workers[i].fresh = (uint64_t)i << 40;
-        if (by->cutoff >= 0) segcache_keep_from(&clients[i], (uint32_t)by->cutoff);
+        if (by->keeps_nothing) is_able = puts_keep_nothing(callers[i]) && is_able;
     }
-    run_all(workers, of->threads);
-    for (i = 0; i < of->threads; i++) workers[i].puts = share, workers[i].timed.ticks = all.ticks + i * share;
-    run_all(workers, of->threads);
-    all.count = share * of->threads;
-    print_row(of, by, workers, &all);
-    for (i = 0; i < of->threads; i++) segcache_give_back(&cache, &clients[i]);
-    segcache_free(&cache);
+    if (is_able) {
+        run_all(workers, of->threads);
+        for (i = 0; i < of->threads; i++) workers[i].puts = share, workers[i].timed.ticks = all.ticks + i * share;
+        run_all(workers, of->threads);
+        all.count = share * of->threads;
+        print_row(of, by, workers, &all);
+    }
+    puts_close(callers, of->threads);
     free(table), free(all.ticks);
 }
 
 int main(int count, char** words) {
     /* Of shapes there are overflow buckets enough that no bucket is full, so that room is made for rows alone. */
     static const plan plans[] = {
-        {"128 x 448", 0, 1, {16384, 16384, 1, 128, 448, 0}},
-        {"128 x 448", 0, 4, {65536, 65536, 4, 128, 448, 0}},
-        {"64 x 3125", 0, 1, {32768, 65536, 1, 64, 3125, 0}},
-        {"for 100,000 keys", 100000, 1, {0}},
-        {"for 400,000 keys", 400000, 4, {0}},
+        {"128 x 448", 0, 1, 16384, 16384, 128, 448},
+        {"128 x 448", 0, 4, 65536, 65536, 128, 448},
+        {"64 x 3125", 0, 1, 32768, 65536, 64, 3125},
+        {"for 100,000 keys", 100000, 1, 0, 0, 0, 0},
+        {"for 400,000 keys", 400000, 4, 0, 0, 0, 0},
     };
     size_t puts = 3000000, i, j;
     int at = 1;
