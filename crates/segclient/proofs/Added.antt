@@ -21,7 +21,7 @@ use Rattle.segclient.specs.Puts.{deadline_of, MakesRoomFor, Puts}
 use Rattle.segclient.specs.Putting.{IsPutAnswer}
 use Rattle.segclient.proofs.Calls.{last_of}
 use Rattle.segclient.specs.Counting.{given_up_too}
-use Rattle.segclient.specs.declared.room.Effort.{Effort}
+use Rattle.segclient.specs.declared.effort.Effort.{Effort}
 use Rattle.segclient.specs.declared.stats.Stats.{Stats}
 use Rattle.segclient.specs.PutParts.{AreOpen, effort_from, effort_of, IsEffort, room_plan, with_effort}
 use Rattle.segstore.specs.Words.{IsQuiet, memo}

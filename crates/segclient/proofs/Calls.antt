@@ -13,7 +13,7 @@ use Rattle.segevict.specs.declared.retention.KeepRowAnswer.{KeepRowAnswer}
 use Rattle.segevict.specs.Words.{EvictsSegment, KeepsItem}
 use Rattle.segevict.proofs.RowsOut.{goes_then}
 use Rattle.segindex.specs.Refilling.{RefillsSegment}
-use Rattle.segclient.specs.declared.room.Effort.{Effort}
+use Rattle.segclient.specs.declared.effort.Effort.{Effort}
 use Rattle.segclient.specs.PutCalls.{PutCall, sets, evicts, keeps, refills, Plan, came_to, refilled_segments, kept_items, evicted_keys, IsRefused, IsCall, Makes}
 use Rattle.segclient.specs.PutParts.{Arranges, effort_from, IsEffort, room_plan}
 use Rattle.segclient.specs.Tallies.{evicted_by, refilled_by}

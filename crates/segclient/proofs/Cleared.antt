@@ -19,7 +19,7 @@ use Rattle.segindex.specs.Refilling.{RefillsSegment}
 use Rattle.segindex.specs.Sharing.{ReadsKept, ReleasesKept}
 use Rattle.segindex.specs.Words.{board_of, Index, shape_of}
 use Rattle.segindex.proofs.UnnamedRows.{unnamed_stay}
-use Rattle.segclient.specs.declared.clearing.Source.{Source}
+use Rattle.segclient.specs.declared.segments.Source.{Source}
 use Rattle.segclient.specs.declared.member.Member.{Member}
 use Rattle.segclient.specs.declared.put.PutAnswer.{PutAnswer}
 use Rattle.segclient.specs.declared.put.PutAnswer.TheVariants as put

@@ -16,8 +16,8 @@ use Rattle.segevict.specs.declared.retention.KeepRowAnswer.TheVariants as kept
 use Rattle.segevict.specs.Words.{EvictsItem, KeepsItemInto}
 use Rattle.segindex.specs.Refilling.{RefillsAside}
 use Rattle.segindex.proofs.UnnamedRows.{evicted_is_unnamed, moved_is_unnamed}
-use Rattle.segclient.specs.declared.clearing.Source.{Source}
-use Rattle.segclient.specs.declared.room.Effort.{Effort}
+use Rattle.segclient.specs.declared.segments.Source.{Source}
+use Rattle.segclient.specs.declared.effort.Effort.{Effort}
 use Rattle.segclient.specs.Clearing.{came_to_step, Clears, ClearsAtMost, evicts_rest, evicts_row, IsCleared, IsClearing, IsEffortOf, IsStep, keeps_into, refills_aside, Step}
 use Rattle.segclient.specs.PutCalls.{evicted_keys, kept_items, refilled_segments}
 use Rattle.segclient.specs.PutParts.{effort_from}

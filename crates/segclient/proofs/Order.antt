@@ -13,7 +13,7 @@ use Rattle.segbase.specs.Words.{Board, number, Pass}
 use Rattle.segstore.specs.Words.{has_room}
 use Rattle.segclient.specs.declared.put.PutAnswer.{PutAnswer}
 use Rattle.segclient.specs.declared.put.PutAnswer.TheVariants as put
-use Rattle.segclient.specs.declared.room.Effort.{Effort}
+use Rattle.segclient.specs.declared.effort.Effort.{Effort}
 use Rattle.segclient.specs.PutCalls.{PutCall, sets, evicts, keeps, refills, Plan, Makes}
 use Rattle.segclient.specs.PutParts.{AreOpen, AreSets, busy_sets, effort_from, Empties, EndsSo, IsEffort, is_stale, MakesPut, MakesRoom, room_plan, Sets, SetsIfFresh, WasEmptied}
 use Rattle.segclient.specs.Putting.{last_sets, SetsAtMost16, SetsUntilFull}

@@ -9,7 +9,7 @@ use Rattle.segbase.specs.Words.{Board, Pass}
 use Rattle.segstore.specs.Words.{GoesOn, IsQuiet}
 use Rattle.segstore.proofs.Idling.{goes_same}
 use Rattle.segevict.proofs.RowsOut.{goes_then}
-use Rattle.segclient.specs.declared.room.Effort.{Effort}
+use Rattle.segclient.specs.declared.effort.Effort.{Effort}
 use Rattle.segclient.specs.declared.stats.Stats.{Stats}
 use Rattle.segclient.specs.Clearing.{came_to_step, Clears, ClearsSome, evicts_rest, evicts_row, IsEffortOf, IsStep, keeps_into, refills_aside, Step}
 use Rattle.segclient.specs.Counting.{cleared_too}

@@ -7,7 +7,7 @@ use Rattle.segmodel.specs.Words.{EvictAnswer}
 use Rattle.segbase.specs.Words.{Board, number, Pass}
 use Rattle.segclient.specs.declared.put.PutAnswer.{PutAnswer}
 use Rattle.segclient.specs.declared.put.PutAnswer.TheVariants as put
-use Rattle.segclient.specs.declared.room.Effort.{Effort}
+use Rattle.segclient.specs.declared.effort.Effort.{Effort}
 use Rattle.segclient.specs.PutCalls.{PutCall, sets, evicts, Plan}
 use Rattle.segclient.specs.PutParts.{AreOpen, busy_sets, EndsSo, PutsAtLast, PutsWhole, WasEmptied}
 use Rattle.segclient.specs.Putting.{IsPutAnswer}

@@ -16,8 +16,8 @@ use Rattle.segevict.specs.declared.retention.KeepRowAnswer.{KeepRowAnswer}
 use Rattle.segevict.specs.declared.retention.KeepRowAnswer.TheVariants as kept
 use Rattle.segevict.specs.Words.{AreUnnamed, EvictsItem, EvictsRest, KeepsItemInto}
 use Rattle.segindex.specs.Refilling.{RefillsAside}
-use Rattle.segclient.specs.declared.clearing.Source.{Source}
-use Rattle.segclient.specs.declared.room.Effort.{Effort}
+use Rattle.segclient.specs.declared.segments.Source.{Source}
+use Rattle.segclient.specs.declared.effort.Effort.{Effort}
 use Rattle.segclient.specs.PutCalls.{Amount, evicted_keys, kept_items, refilled_segments}
 
 -- ---- the segment that is being cleared

@@ -6,7 +6,7 @@ use Rattle.segmodel.specs.declared.request.Reply.TheVariants.{Stored}
 use Rattle.segmodel.specs.Words.{Entry, owner, Request}
 use Rattle.segclient.specs.declared.put.PutAnswer.{PutAnswer}
 use Rattle.segclient.specs.declared.put.PutAnswer.TheVariants as put
-use Rattle.segclient.specs.declared.room.Effort.{Effort}
+use Rattle.segclient.specs.declared.effort.Effort.{Effort}
 
 -- an eviction of a key from a segment of the pass's own,
 -- or a refilling of one up to this deadline; or, if there is a cutoff,

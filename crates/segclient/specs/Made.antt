@@ -12,7 +12,7 @@ use Rattle.segwrite.specs.Words.{Deletes, Writes}
 use Rattle.segindex.specs.Words.{LearnsNote, MakesNote, MeetsPass, Note, ReturnsStats}
 use Rattle.segindex.specs.declared.table_stats.IndexStats.{IndexStats}
 use Rattle.segclient.specs.declared.member.Member.{Member}
-use Rattle.segclient.specs.declared.room.Effort.{Effort}
+use Rattle.segclient.specs.declared.effort.Effort.{Effort}
 use Rattle.segclient.specs.Clearing.{Clears, ClearsSome, Step}
 use Rattle.segclient.specs.Counting.{cleared_too, counted}
 use Rattle.segclient.specs.Member.{draw_of, DrawsOnce, Keeps, KeepsDraws, KeepsSettings}

@@ -1,6 +1,6 @@
 -- How a client makes room now.
 use Rattle.segclient.specs.declared.member.Member.{Member}
-use Rattle.segclient.specs.declared.room.Policy.{Policy}
+use Rattle.segclient.specs.declared.segments.Policy.{Policy}
 use Rattle.segclient.specs.Puts.{deadline_of}
 
 abbrev pub policy_of : Member → Policy

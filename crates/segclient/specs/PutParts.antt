@@ -13,8 +13,8 @@ use Rattle.segindex.specs.Refilling.{RefillsSegment}
 use Rattle.segclient.specs.declared.put.Order.{Order}
 use Rattle.segclient.specs.declared.put.PutAnswer.{PutAnswer}
 use Rattle.segclient.specs.declared.put.PutAnswer.TheVariants as put
-use Rattle.segclient.specs.declared.room.Effort.{Effort}
-use Rattle.segclient.specs.declared.room.Policy.{Policy}
+use Rattle.segclient.specs.declared.effort.Effort.{Effort}
+use Rattle.segclient.specs.declared.segments.Policy.{Policy}
 use Rattle.segclient.specs.declared.stats.Stats.{Stats}
 use Rattle.segclient.specs.Clearing.{ClearsSome}
 use Rattle.segclient.specs.Counting.{with_more}

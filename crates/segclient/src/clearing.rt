@@ -8,20 +8,13 @@ ghost use Rattle.segclient.specs.Clearing.{came_to_step, evicts_row, IsClearing,
 ghost use Rattle.segclient.specs.PutCalls.{evicted_keys, kept_items};
 ghost use Rattle.segclient.specs.Rings.{IsOwnRing};
 
+use crate::effort::{Effort, evicted_by, refilled_by};
 use crate::queues::{
     current_for, next_source, note_moved, oldest, place_of, target_of, was_given_up, was_refilled,
 };
-use crate::room::{Effort, Policy, Segments};
-use crate::tally::{evicted_by, refilled_by};
+use crate::segments::{Policy, Segments, Source};
 use segindex::{EvictRowAnswer, Index, KeepRowAnswer, Pass, RowRef};
 use segqueues::{Queue, Queues};
-
-// A segment of the pass that is being cleared. No item names a row of it before this one.
-#[derive(Clone, Copy)]
-pub(crate) struct Source {
-    pub(crate) segment: u32,
-    pub(crate) row: u32,
-}
 
 // How a segment is cleared: the least frequency of what is kept, the deadline of what is
 // refilled, the moment, and how many turns are left.
@@ -44,6 +37,13 @@ struct Turn {
 
 // How many turns a put has, each of which goes over one row at most.
 const TURNS: u32 = 8;
+
+// How many turns a put has now.
+fn turns_of(queues: &Queues) -> u32
+    ensures few { result ≤ 8 }
+{
+    queues.turns(TURNS).min(TURNS)
+}
 
 // The row of the source is done.
 fn next_row(source: Source, effort: Effort) -> Turn
@@ -363,7 +363,8 @@ fn clear_rows(
 {
     let mut source = was;
     let mut effort = Effort::none();
-    for tried in 0..TURNS {
+    let turns = turns_of(queues);
+    for tried in 0..turns {
         let Some(next) = source_of(index, pass, queues, source, terms) else {
             return Turn {
                 source: None,
@@ -372,7 +373,7 @@ fn clear_rows(
             };
         };
         let terms = Terms {
-            turns: TURNS - tried,
+            turns: turns - tried,
             ..terms
         };
         let turn = clear_row(index, pass, queues, next, terms);
@@ -390,6 +391,17 @@ fn clear_rows(
         source,
         is_over: true,
         effort,
+    }
+}
+
+// Whether rows are to be cleared: a segment is being cleared, or too few are free.
+#[inline(always)]
+pub(crate) fn is_due(segments: &Segments) -> bool
+    ensures unqueued { is_some segments.now.queues ≡ false → result ≡ false }
+{
+    match &segments.queues {
+        Some(queues) => segments.source.is_some() || queues.are_few_free(),
+        None => false,
     }
 }
 

@@ -5,6 +5,7 @@
 mod all;
 mod clearing;
 mod client;
+mod effort;
 mod hold;
 mod many;
 mod member;
@@ -13,11 +14,13 @@ mod put;
 mod queues;
 mod ring;
 mod room;
+mod segments;
 mod stats;
 mod tally;
 
 pub use all::{clients, into_passes, keep_back};
 pub use client::Client;
+pub use effort::{evicted_by, refilled_by};
 pub use member::Member;
 pub use note::{what_a_put_adds, what_is_put_stands};
 pub use put::PutAnswer;
@@ -27,4 +30,4 @@ pub use segindex::{
     OutOfMemory, Pass, RowAnswer, Shape, ShapeFault, Share, Value, WriteAnswer, hold_stays,
 };
 pub use stats::Stats;
-pub use tally::{Tally, evicted_by, refilled_by};
+pub use tally::Tally;

@@ -4,11 +4,13 @@ ghost use Rattle.segindex.specs.Words.{board_of, shape_of};
 ghost use Rattle.segstore.specs.Words.{IsQuiet};
 ghost use Rattle.segclient.specs.Member.{next_draws};
 
-use crate::clearing::clear_some;
+use crate::clearing::{clear_some, is_due};
+use crate::effort::Effort;
 use crate::put::{Order, PutAnswer, clear_after, put_by};
 use crate::queues::{queues_of, tell_deleted, tell_stored};
 use crate::ring::own_ring;
-use crate::room::{Effort, Policy, Segments, make_room_by};
+use crate::room::make_room_by;
+use crate::segments::{Policy, Segments};
 use crate::stats::Stats;
 use crate::tally::Tally;
 use segindex::{Index, IndexStats, Pass, RowRef};
@@ -194,6 +196,9 @@ impl Member {
             return Effort::none();
         }
         tell_stored(index, &self.pass, &mut self.segments, key, replaced);
+        if !is_due(&self.segments) {
+            return Effort::none();
+        }
         let policy = self.policy();
         clear_some(index, &mut self.pass, &mut self.segments, policy)
     }

@@ -11,9 +11,11 @@ ghost use Rattle.segclient.specs.PutParts.{request_of, Sets, SetsIfFresh};
 ghost use Rattle.segclient.specs.Putting.{most_calls};
 ghost use Rattle.segclient.specs.Rings.{IsOwnRing};
 
-use crate::clearing::clear_some;
+use crate::clearing::{clear_some, is_due};
+use crate::effort::Effort;
 use crate::queues::note_stored;
-use crate::room::{Effort, Policy, Segments, evict_oldest, make_room_by};
+use crate::room::{evict_oldest, make_room_by};
+use crate::segments::{Policy, Segments};
 use segindex::{Index, Pass, RowRef};
 use segmodel::WriteAnswer;
 use segword::{Key, Value, hash};
@@ -216,6 +218,7 @@ fn put_once(
 }
 
 // A put of a client that keeps by queues. They note it, and which row it replaced.
+#[inline(always)]
 fn put_in_queues(
     index: &Index,
     pass: &mut Pass,
@@ -289,7 +292,7 @@ pub(crate) fn clear_after(
     let PutAnswer::Stored = told else {
         return Effort::none();
     };
-    if segments.queues.is_none() {
+    if !is_due(segments) {
         return Effort::none();
     }
     clear_some(index, pass, segments, policy)

@@ -5,7 +5,7 @@ ghost use Rattle.segbase.specs.Words.{current_of, number};
 ghost use Rattle.segindex.specs.Words.{board_of, shape_of};
 ghost use Rattle.segstore.specs.Words.{IsQuiet};
 
-use crate::room::Segments;
+use crate::segments::Segments;
 use segindex::{Index, Pass, RowRef};
 use segmodel::{DeleteAnswer, SegState};
 use segqueues::{Place, Queue, Queues, Round};
@@ -35,6 +35,14 @@ pub(crate) fn place_of(index: &Index, segment: u32) -> u32 {
     segment
         .checked_rem(index.shape().segments_each)
         .unwrap_or(0)
+}
+
+// The number of a segment among the pass's own, without a division. Of a segment of another pass
+// it is no number of theirs.
+#[inline(always)]
+fn own_place(index: &Index, pass: &Pass, segment: u32) -> u32 {
+    let first = pass.number().saturating_mul(index.shape().segments_each);
+    segment.wrapping_sub(first)
 }
 
 // The segment of this number among the pass's own.
@@ -170,10 +178,10 @@ pub(crate) fn was_refilled(
     queues.was_refilled(place_of(index, segment), is_main, deadline, used);
 }
 
-// The row of a segment that was used last.
+// The row of a segment of the pass's own that was used last.
 fn last_row(index: &Index, pass: &Pass, segment: u32) -> Place {
     Place {
-        segment: place_of(index, segment),
+        segment: own_place(index, pass, segment),
         row: pass.used(segment).unwrap_or(0).saturating_sub(1),
     }
 }
@@ -189,9 +197,9 @@ pub(crate) fn note_moved(index: &Index, pass: &Pass, queues: &mut Queues, from: 
 
 // The item of this row was replaced or deleted.
 pub(crate) fn note_dead(index: &Index, pass: &Pass, queues: &mut Queues, row: RowRef) {
-    let owner = row.segment.checked_div(index.shape().segments_each);
-    if owner == Some(pass.number()) {
-        queues.has_died(place_of(index, row.segment));
+    let at = own_place(index, pass, row.segment);
+    if at < index.shape().segments_each {
+        queues.has_died(at);
     }
 }
 

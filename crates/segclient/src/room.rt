@@ -12,83 +12,13 @@ ghost use Rattle.segclient.specs.PutParts.{most_at_last, most_for_room, most_in_
 ghost use Rattle.segclient.specs.PutParts.{StoresAsBefore, TakesFree};
 ghost use Rattle.segclient.specs.Rings.{IsOwnRing};
 
-use crate::clearing::Source;
+use crate::effort::{Effort, evicted_by};
 use crate::queues::{oldest as oldest_in, oldest_in_use, round, was_given_up, was_refilled};
-use crate::tally::evicted_by;
-use segindex::{Index, KeepRowAnswer, Pass, RowRef};
+use crate::segments::{Policy, Segments, Source};
+use segindex::{Index, KeepRowAnswer, Pass};
 use segmodel::{EvictAnswer, RefillAnswer, SegState};
 use segpolicy::Ring;
 use segqueues::{Queue, Queues};
-
-// The segments of a pass. The ring has the order in which they are given up, unless the queues do,
-// by which a client keeps what was read. Only a client with queues has a segment that is being
-// cleared.
-#[derive(Drop)]
-pub(crate) struct Segments {
-    pub(crate) ring: Ring,
-    pub(crate) queues: Option<Queues>,
-    pub(crate) source: Option<Source>,
-    // The row that the key of the last put had before it, as it seems.
-    pub(crate) replaced: Option<RowRef>,
-}
-
-// How room is made: the least frequency of what is kept, if anything is, the deadline of what is
-// refilled, and the moment.
-#[derive(Clone, Copy)]
-pub(crate) struct Policy {
-    pub(crate) cutoff: Option<u8>,
-    pub(crate) deadline: u32,
-    pub(crate) moment: u32,
-}
-
-// What calls of a put came to: how many segments were refilled, how many items kept,
-// and how many keys evicted.
-#[derive(Clone, Copy)]
-pub(crate) struct Effort {
-    pub(crate) refilled: u32,
-    pub(crate) kept: u64,
-    pub(crate) keys: u64,
-}
-
-impl Effort {
-    pub(crate) fn none() -> Effort
-        ensures { result ≡ record { refilled = 0; kept = 0; keys = 0 } }
-    {
-        Effort {
-            refilled: 0,
-            kept: 0,
-            keys: 0,
-        }
-    }
-
-    // No segment was refilled, and no item kept.
-    pub(crate) fn evicting(keys: u64) -> Effort
-        ensures { result ≡ record { refilled = 0; kept = 0; keys = keys } }
-    {
-        Effort {
-            refilled: 0,
-            kept: 0,
-            keys,
-        }
-    }
-
-    pub(crate) fn plus(self, more: Effort) -> Effort
-        requires refilled { self.refilled + more.refilled < 2 ^ 32 }
-        requires kept { self.kept + more.kept < 2 ^ 64 }
-        requires keys { self.keys + more.keys < 2 ^ 64 }
-        ensures { result ≡ record {
-          refilled = self.refilled + more.refilled;
-          kept = self.kept + more.kept;
-          keys = self.keys + more.keys;
-        } }
-    {
-        Effort {
-            refilled: self.refilled + more.refilled,
-            kept: self.kept + more.kept,
-            keys: self.keys + more.keys,
-        }
-    }
-}
 
 // Evicts a segment of the pass's own, and refills it. One that isn't in use has no key to evict.
 // It says whether that came about, and how many keys were evicted.

@@ -3,7 +3,7 @@ ghost use Rattle.std.specs.Prelude.{◌≡◌};
 ghost use Rattle.segclient.specs.Counting.{no_stats, with_more, counted};
 ghost use Rattle.segclient.specs.PutParts.{with_effort};
 
-use crate::room::Effort;
+use crate::effort::Effort;
 use crate::tally::Tally;
 
 /// How often each outcome occurred in a client's calls, and what its puts recycled and kept.

@@ -1,10 +1,10 @@
 //! How an answer is counted, by clients and by loads.
-ghost use Rattle.std.specs.Prelude.{◌≡◌, ◌≤◌};
-ghost use Rattle.segclient.specs.Tallies.{delete_tally, evicted_by, get_tally, gets_tally};
-ghost use Rattle.segclient.specs.Tallies.{put_tally, refilled_by, write_tally};
+ghost use Rattle.std.specs.Prelude.{◌≡◌};
+ghost use Rattle.segclient.specs.Tallies.{delete_tally, get_tally, gets_tally};
+ghost use Rattle.segclient.specs.Tallies.{put_tally, write_tally};
 
 use crate::put::PutAnswer;
-use segmodel::{DeleteAnswer, EvictAnswer, GetAnswer, GetsAnswer, RefillAnswer, WriteAnswer};
+use segmodel::{DeleteAnswer, GetAnswer, GetsAnswer, WriteAnswer};
 
 /// The outcome of a call.
 #[derive(Clone, Copy, Debug, PartialEq, Eq)]
@@ -83,26 +83,5 @@ impl Tally {
             PutAnswer::BucketFull => Tally::BucketFull,
             PutAnswer::Busy => Tally::Busy,
         }
-    }
-}
-
-/// How many keys an evict took out that has this answer.
-pub fn evicted_by(answer: EvictAnswer) -> u32
-    ensures { result ≡ evicted_by answer }
-{
-    match answer {
-        EvictAnswer::Evicted(keys) | EvictAnswer::Busy(keys) => keys,
-        EvictAnswer::NotYours => 0,
-    }
-}
-
-/// How many segments a refill refilled that has this answer.
-pub fn refilled_by(answer: RefillAnswer) -> u32
-    ensures value { result ≡ refilled_by answer }
-    ensures most { result ≤ 1 }
-{
-    match answer {
-        RefillAnswer::Refilled => 1,
-        RefillAnswer::NotYours | RefillAnswer::NotEvicted | RefillAnswer::Held => 0,
     }
 }

@@ -52,12 +52,11 @@ impl Needs {
         }
     }
 
-    // What an item needs whose key, of this hash, is put now. The key is marked.
+    // What an item needs whose key, of this hash, is put now. A key that is new is marked.
     pub(crate) fn of_put(&mut self, hash: u64, is_update: bool) -> u8 {
-        let was_marked = self.mark(hash);
         if is_update {
             NEED_OF_UPDATE
-        } else if was_marked {
+        } else if self.mark(hash) {
             NEED_OF_RECENT
         } else {
             NEED_OF_NEW

@@ -177,6 +177,16 @@ impl Queues {
         self.lists.count(Queue::Free) < self.reserve()
     }
 
+    /// How many rows a write goes over, of so many at most: half of them while a free segment
+    /// is left for the next writes, so that each does as little as will do.
+    pub fn turns(&self, most: u32) -> u32 {
+        if self.lists.count(Queue::Free) > 0 {
+            most.div_ceil(2)
+        } else {
+            most
+        }
+    }
+
     /// The main segment that was opened last, which takes what moves.
     pub fn target(&self) -> Option<u32> {
         self.lists.newest(Queue::Main)

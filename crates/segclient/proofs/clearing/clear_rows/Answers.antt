@@ -2,7 +2,7 @@ use Rattle.std.proofs.Common.{◌+◌, ◌*◌, Some, ap, arith}
 use Rattle.segindex.specs.Words.{board_of}
 use Rattle.segstore.proofs.Idling.{goes_same}
 use Rattle.segevict.proofs.RowsOut.{goes_then}
-use Rattle.segclient.specs.declared.room.Effort.{Effort}
+use Rattle.segclient.specs.declared.effort.Effort.{Effort}
 use Rattle.segclient.specs.PutParts.{effort_from}
 use Rattle.segclient.proofs.OneTurn.{clears_as, clears_then, none_clears}
 use Rattle.segclient.proofs.clearing.clear_rows.Goals as goal

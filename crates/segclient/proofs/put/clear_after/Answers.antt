@@ -19,9 +19,9 @@ returns-in_default c =
       };
     }
 
-pub returns-then-is_none-clause-clears : goal.returns-then-is_none-clause-clears
-returns-then-is_none-clause-clears c = record {
-  some = nothing_cleared (board_of c.args.index.now) c.args.policy.cutoff c.args.policy.deadline c.none-then-is_none.result c.args.pass.now c.none-then-is_none.ensures;
+pub returns-then-not-is_due-clause-clears : goal.returns-then-not-is_due-clause-clears
+returns-then-not-is_due-clause-clears c = record {
+  some = nothing_cleared (board_of c.args.index.now) c.args.policy.cutoff c.args.policy.deadline c.none-then-not-is_due.result c.args.pass.now c.none-then-not-is_due.ensures;
   unasked = λ other. refl;
   unqueued = λ none. refl;
 }

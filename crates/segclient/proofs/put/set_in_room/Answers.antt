@@ -4,7 +4,7 @@ use Rattle.segindex.specs.Words.{board_of}
 use Rattle.segstore.proofs.Idling.{goes_same}
 use Rattle.segevict.proofs.RowsOut.{goes_then}
 use Rattle.segclient.specs.declared.put.PutAnswer.TheVariants as put
-use Rattle.segclient.specs.declared.room.Effort.{Effort}
+use Rattle.segclient.specs.declared.effort.Effort.{Effort}
 use Rattle.segclient.specs.PutParts.{effort_from, MakesPut, most_for_room, most_for_set, plan_of, SetsIfFresh}
 use Rattle.segclient.proofs.Calls.{both}
 use Rattle.segclient.proofs.Cleared.{sets_stay}

@@ -3,7 +3,7 @@ use Rattle.segbase.specs.Words.{Board, Pass}
 use Rattle.segindex.specs.Words.{board_of}
 use Rattle.segstore.proofs.Idling.{goes_same}
 use Rattle.segevict.proofs.RowsOut.{goes_then}
-use Rattle.segclient.specs.declared.room.Effort.{Effort}
+use Rattle.segclient.specs.declared.effort.Effort.{Effort}
 use Rattle.segclient.specs.PutParts.{Arranges, effort_from, GivesUp, MakesRoom, most_in_turn}
 use Rattle.segclient.proofs.Calls.{arranges_as, arranges_none}
 use Rattle.segclient.proofs.Rooms.{gives_up, PassesOver, passes_on}

@@ -28,6 +28,16 @@ returns-then-is_none-clause-clears c = let old = c.args.self.now in record {
   settings = record { number = refl; clock = refl; time_to_live = refl; cutoff = refl; queues = refl };
 }
 
+pub returns-then-not-is_due-clause-clears : goal.returns-then-not-is_due-clause-clears
+returns-then-not-is_due-clause-clears c = let old = c.args.self.now in record {
+  some = nothing_cleared (board_of c.args.index.now) old.cutoff (deadline_of old) c.none-then-not-is_due.result old.pass c.none-then-not-is_due.ensures;
+  unasked = λ other. absurd (other c.in-Stored.is);
+  unqueued = λ none. absurd (false≢true (sym none ∙ c.is_none.ensures ∙ ap not c.if-is_none.false));
+  stats = refl;
+  draws = refl;
+  settings = record { number = refl; clock = refl; time_to_live = refl; cutoff = refl; queues = c.tell_stored.ensures.queues };
+}
+
 pub clear_some-requires : goal.clear_some-requires
 clear_some-requires c =
     let old = c.args.self.now in

@@ -1,0 +1,75 @@
+//! What calls that make room came to, in numbers.
+ghost use Rattle.std.specs.Prelude.{◌≡◌, ◌+◌, ◌<◌, ◌≤◌, ◌^◌};
+ghost use Rattle.segclient.specs.Tallies.{evicted_by, refilled_by};
+
+use segmodel::{EvictAnswer, RefillAnswer};
+
+// What calls of a put came to: how many segments were refilled, how many items kept,
+// and how many keys evicted.
+#[derive(Clone, Copy)]
+pub(crate) struct Effort {
+    pub(crate) refilled: u32,
+    pub(crate) kept: u64,
+    pub(crate) keys: u64,
+}
+
+impl Effort {
+    pub(crate) fn none() -> Effort
+        ensures { result ≡ record { refilled = 0; kept = 0; keys = 0 } }
+    {
+        Effort {
+            refilled: 0,
+            kept: 0,
+            keys: 0,
+        }
+    }
+
+    // No segment was refilled, and no item kept.
+    pub(crate) fn evicting(keys: u64) -> Effort
+        ensures { result ≡ record { refilled = 0; kept = 0; keys = keys } }
+    {
+        Effort {
+            refilled: 0,
+            kept: 0,
+            keys,
+        }
+    }
+
+    pub(crate) fn plus(self, more: Effort) -> Effort
+        requires refilled { self.refilled + more.refilled < 2 ^ 32 }
+        requires kept { self.kept + more.kept < 2 ^ 64 }
+        requires keys { self.keys + more.keys < 2 ^ 64 }
+        ensures { result ≡ record {
+          refilled = self.refilled + more.refilled;
+          kept = self.kept + more.kept;
+          keys = self.keys + more.keys;
+        } }
+    {
+        Effort {
+            refilled: self.refilled + more.refilled,
+            kept: self.kept + more.kept,
+            keys: self.keys + more.keys,
+        }
+    }
+}
+
+/// How many keys an evict took out that has this answer.
+pub fn evicted_by(answer: EvictAnswer) -> u32
+    ensures { result ≡ evicted_by answer }
+{
+    match answer {
+        EvictAnswer::Evicted(keys) | EvictAnswer::Busy(keys) => keys,
+        EvictAnswer::NotYours => 0,
+    }
+}
+
+/// How many segments a refill refilled that has this answer.
+pub fn refilled_by(answer: RefillAnswer) -> u32
+    ensures value { result ≡ refilled_by answer }
+    ensures most { result ≤ 1 }
+{
+    match answer {
+        RefillAnswer::Refilled => 1,
+        RefillAnswer::NotYours | RefillAnswer::NotEvicted | RefillAnswer::Held => 0,
+    }
+}
