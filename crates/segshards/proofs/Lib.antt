@@ -12,3 +12,4 @@ pub mod Places
 pub mod Planned
 pub mod ShardOrder
 pub mod Whole
+pub mod Writers

@@ -10,3 +10,4 @@ pub mod Plan
 pub mod Shards
 pub mod Sums
 pub mod Whole
+pub mod Writers

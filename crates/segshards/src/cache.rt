@@ -3,6 +3,7 @@ ghost use Rattle.std.specs.Prelude.{◌≡◌, ◌≤◌, [], All, Any, IfNone, 
 ghost use Rattle.segword.specs.Words.{Shape};
 ghost use Rattle.segindex.specs.Words.{shape_of};
 ghost use Rattle.segshards.specs.Shards.{AreNew, AreOfShards, HaveRoomFor};
+ghost use Rattle.segshards.specs.Writers.{HaveRoomForWriters};
 
 use crate::client::Client;
 use crate::plan::ShardPlan;
@@ -37,6 +38,26 @@ impl Cache {
         ensures room { IfOk result (λ made. HaveRoomFor keys threads made.0.shards.items) }
     {
         match ShardPlan::for_keys(keys, threads) {
+            Ok(plan) => Cache::of_shards(alloc, plan.shape, plan.count),
+            Err(fault) => Err(MakeFault::Shape(fault)),
+        }
+    }
+
+    /// A cache in which this number of keys has room to spare if so many of the threads store them,
+    /// whichever these are, and each about as many. The rest is as of `for_keys`.
+    pub fn for_writers(
+        alloc: Global,
+        keys: u32,
+        threads: u32,
+        writers: u32,
+    ) -> Result<(Cache, Vec<Vec<Pass>>), MakeFault>
+        ensures passes { IfOk result (λ made. AreOfShards made.0.shards.items made.1.items) }
+        ensures new { IfOk result (λ made.
+            (shape : Shape) × AreNew shape made.0.shards.items made.1.items) }
+        ensures room { IfOk result (λ made.
+            HaveRoomForWriters keys threads writers made.0.shards.items) }
+    {
+        match ShardPlan::for_writers(keys, threads, writers) {
             Ok(plan) => Cache::of_shards(alloc, plan.shape, plan.count),
             Err(fault) => Err(MakeFault::Shape(fault)),
         }

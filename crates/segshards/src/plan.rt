@@ -1,6 +1,7 @@
 //! How many shards a cache has for a number of keys, and of which shape.
 ghost use Rattle.std.specs.Prelude.{IfErr, IfOk};
 
+use crate::shard::MOST_SHARDS;
 use segclient::{Shape, ShapeFault};
 
 // So many keys a shard has at most. Its buckets then have four keys each, and few have a chain.
@@ -15,6 +16,7 @@ pub struct ShardPlan {
 
 impl ShardPlan {
     ghost use Rattle.segshards.specs.Plan.{IsFaultOfPlan, IsPlanFor};
+    ghost use Rattle.segshards.specs.Writers.{IsFaultOfWriters, IsPlanForWriters};
 
     /// Shards in which this number of keys has room to spare, for so many threads:
     /// one for every 262,144 keys, with as many keys each.
@@ -27,5 +29,32 @@ impl ShardPlan {
             Ok(shape) => Ok(ShardPlan { shape, count }),
             Err(fault) => Err(fault),
         }
+    }
+
+    /// Shards in which this number of keys has room to spare if so many of the threads store them,
+    /// whichever these are, and each about as many. Their chains are for the keys, and the rows of
+    /// each thread for a writer's part. If all threads store, it is the plan of `for_keys`.
+    pub fn for_writers(keys: u32, threads: u32, writers: u32) -> Result<ShardPlan, ShapeFault>
+        ensures plan { IfOk result (IsPlanForWriters keys threads writers) }
+        ensures fault { IfErr result (IsFaultOfWriters keys threads writers) }
+    {
+        if !(1..=Shape::MOST_PASSES).contains(&threads) || !(1..=threads).contains(&writers) {
+            return Err(ShapeFault::BadPasses);
+        }
+        let wide = u64::from(keys) * u64::from(threads);
+        let count = wide.div_ceil(u64::from(KEYS_OF_SHARD * writers)).max(1);
+        if count > MOST_SHARDS as u64 {
+            return Err(ShapeFault::TooLarge);
+        }
+        let count = count as u32;
+        let keys_each = keys.div_ceil(count);
+        let chains = Shape::for_keys(keys_each, threads)?;
+        let rows = Shape::for_keys((keys_each * threads).div_ceil(writers), threads)?;
+        let shape = Shape {
+            buckets: chains.buckets,
+            overflow: chains.overflow,
+            ..rows
+        };
+        Ok(ShardPlan { shape, count })
     }
 }

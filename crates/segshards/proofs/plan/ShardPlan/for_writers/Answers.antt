@@ -1,0 +1,51 @@
+use Rattle.std.proofs.Common.{rules, arith, ◌≡◌, ◌*◌, max}
+use Rattle.std.specs.Int.{div_ceil}
+use Rattle.segshards.specs.Writers.{AreWriters}
+use Rattle.segshards.proofs.Writers.{counted, each_times, few_keys, no_fault, room, some, too_many, valid, wide_fits}
+use Rattle.segshards.proofs.plan.ShardPlan.for_writers.Goals as goal
+
+pub returns-then-count-clause-fault : goal.returns-then-count-clause-fault
+returns-then-count-clause-fault c =
+    let keys = c.args.keys in let threads = c.args.threads in let writers = c.args.writers in
+    let are : AreWriters threads writers = (search rules, search rules) in
+    let is_count : c.max-count.result ≡ max (div_ceil (keys * threads) (262144 * writers)) 1 = counted keys threads writers _ _ _ _ _ c.max-count.ensures c.div_ceil.ensures c.from.ensures c.from-2.ensures c.from-3.ensures in
+    (are, too_many keys threads writers c.max-count.result are is_count (omega (arith, c.if-count.true)))
+
+pub returns-in_err-chains-clause-fault : goal.returns-in_err-chains-clause-fault
+returns-in_err-chains-clause-fault c =
+    let keys = c.args.keys in let threads = c.args.threads in let writers = c.args.writers in
+    let each = c.div_ceil-keys_each.result in
+    let are : AreWriters threads writers = (search rules, search rules) in
+    let is_count : c.max-count.result ≡ max (div_ceil (keys * threads) (262144 * writers)) 1 = counted keys threads writers _ _ _ _ _ c.max-count.ensures c.div_ceil.ensures c.from.ensures c.from-2.ensures c.from-3.ensures in
+    let few = few_keys keys threads writers c.max-count.result each are is_count c.div_ceil-keys_each.ensures in
+    absurd (no_fault each threads _ are.0 few c.in_err-chains.ensures.err)
+
+pub returns-in_err-rows-clause-fault : goal.returns-in_err-rows-clause-fault
+returns-in_err-rows-clause-fault c =
+    let keys = c.args.keys in let threads = c.args.threads in let writers = c.args.writers in
+    let each = c.div_ceil-keys_each.result in
+    let wide = c.div_ceil-2.result in
+    let are : AreWriters threads writers = (search rules, search rules) in
+    let is_count : c.max-count.result ≡ max (div_ceil (keys * threads) (262144 * writers)) 1 = counted keys threads writers _ _ _ _ _ c.max-count.ensures c.div_ceil.ensures c.from.ensures c.from-2.ensures c.from-3.ensures in
+    let few = wide_fits keys threads writers c.max-count.result each are is_count c.div_ceil-keys_each.ensures wide c.div_ceil-2.ensures in
+    absurd (no_fault wide threads _ are.0 few c.in_err-rows.ensures.err)
+
+pub returns-clause-plan : goal.returns-clause-plan
+returns-clause-plan c =
+    let keys = c.args.keys in let threads = c.args.threads in let writers = c.args.writers in
+    let count = c.max-count.result in
+    let each = c.div_ceil-keys_each.result in
+    let wide = c.div_ceil-2.result in
+    let chains = c.in_ok-chains.chains in
+    let rows = c.in_ok-rows.rows in
+    let are : AreWriters threads writers = (search rules, search rules) in
+    let is_count : count ≡ max (div_ceil (keys * threads) (262144 * writers)) 1 = counted keys threads writers _ _ _ _ _ c.max-count.ensures c.div_ceil.ensures c.from.ensures c.from-2.ensures c.from-3.ensures in
+    record {
+      valid = valid keys threads writers count each are is_count c.div_ceil-keys_each.ensures wide c.div_ceil-2.ensures chains rows c.in_ok-chains.ensures.ok c.in_ok-rows.ensures.ok;
+      passes = c.in_ok-rows.ensures.ok.1;
+      each = each;
+      enough = (each_times keys threads writers count each are is_count c.div_ceil-keys_each.ensures).0;
+      room = room keys threads writers count each are is_count c.div_ceil-keys_each.ensures wide c.div_ceil-2.ensures chains rows c.in_ok-chains.ensures.ok c.in_ok-rows.ensures.ok;
+      some = some keys threads writers count each are is_count c.div_ceil-keys_each.ensures;
+      few = omega (arith, c.if-count.false);
+    }
