@@ -281,8 +281,9 @@ static inline uint32_t segcache_gets(segcache_client *client, const void *key, s
                                                  value_len, version, now));
 }
 
-/* Gets of several keys, one after another. From 8 keys on their waits for memory overlap. That takes less time than
-   single gets where those wait for memory, and more where the table fits into the processor's caches (measured).
+/* Gets of several keys, one after another. In a cache for more than 8,192 keys (of 4,096 buckets or more) the waits for
+   memory of 8 keys or more overlap, and each key takes less time than a single get. Fewer keys are single gets, and so
+   are any keys of a smaller cache, whose table fits into the processor's own caches.
    Each lookup names its key by key_at and key_len, among the `len` bytes of `keys`. Afterwards it has a status of its
    own, OK, MISS, BUSY or BAD_KEY (also where its bytes aren't all in `keys`), and with OK value and value_len.
    Answers: OK, whatever the lookups have; NO_HANDLE, and they are as they were. */

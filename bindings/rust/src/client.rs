@@ -116,8 +116,8 @@ impl Client {
         Ok(found(status, value)?.map(|value| (value, Version(version))))
     }
 
-    /// The value of each key, in their order: one get after another. From 8 keys on their waits for memory
-    /// overlap.
+    /// The value of each key, in their order: one get after another. In a cache for more than 8,192 keys the waits
+    /// for memory of 8 keys or more overlap.
     ///
     /// # Errors
     /// Of each key, as [`Client::get`].

@@ -62,8 +62,8 @@
 //! # Ok::<(), Error>(())
 //! ```
 //!
-//! [`Client::get_many`] gets several keys. From 8 keys on their waits for memory overlap. That takes less time than single
-//! gets where those wait for memory, and more where the table fits into the processor's caches.
+//! [`Client::get_many`] gets several keys. In a cache for more than 8,192 keys the waits for memory of 8 keys or more overlap,
+//! and each key takes less time than a single get. Fewer keys are single gets, and so are any keys of a smaller cache.
 //!
 //! A value that is held reads the same until the hold is dropped, whatever becomes of its key:
 //!

@@ -1,8 +1,7 @@
 //! What a client does in all shards, one after another.
 use crate::client::SharedClient;
-use segclient::{IndexStats, Key, Note, Stats};
+use segclient::{IndexStats, Note, Stats};
 use segshards::{no_stats, stats_sum, table_sum};
-use segword::hash;
 use std::alloc::{AllocError, Global};
 
 impl SharedClient {
@@ -55,18 +54,6 @@ impl SharedClient {
             sum = table_sum(sum, stats);
         }
         sum
-    }
-
-    /// Loads what gets of these keys will read. No answer depends on it, and it changes nothing.
-    pub(crate) fn look_ahead(&self, keys: &[Key]) {
-        if let [guest] = self.guests.as_slice() {
-            guest.share.index().look_ahead(keys);
-            return;
-        }
-        for key in keys {
-            let place = self.place_of(key);
-            self.guests[place].share.index().row_of(hash(key));
-        }
     }
 
     /// A note of what it has seen of each shard, in the order of the shards.

@@ -9,15 +9,10 @@ use crate::handle::Handle;
 use crate::kept::Kept;
 use crate::reading::{get_key, gets_key};
 use crate::status::Status;
-use segclient::Key;
+use segclient::{Index, Key};
+use segshards::{LEAST_AHEAD, ROUND, Shards, is_large, look_ahead};
 use segword::VALUE_BYTES;
 use std::alloc::Global;
-
-// So many keys are looked ahead for at a time.
-const PIECE: usize = 16;
-
-// For fewer keys a look ahead costs more than it spares.
-const LEAST: usize = 8;
 
 /// The place of a key among the bytes of a call, and what its lookup came to.
 #[repr(C)]
@@ -150,16 +145,16 @@ fn key_of<'k>(keys: &'k [u8], lookup: &Lookup) -> &'k [u8]
 fn look_ahead_from(client: &SharedClient, keys: &[u8], lookups: &[Lookup], place: usize)
     requires { place < length lookups.now }
 {
-    let end = lookups.len().min(place + PIECE);
-    if place % PIECE == 0 && end - place >= LEAST {
-        look_ahead(client, keys, &lookups[place..end]);
+    let end = lookups.len().min(place + ROUND);
+    if place % ROUND == 0 && end - place >= LEAST_AHEAD && client.is_large() {
+        look_ahead_piece(client, keys, &lookups[place..end]);
     }
 }
 
 // Loads what the gets of a piece will read. No answer depends on it.
-fn look_ahead(client: &SharedClient, keys: &[u8], piece: &[Lookup]) {
-    let ahead: [Key; PIECE] = std::array::from_fn(|number| key_or_any(keys, piece, number));
-    client.look_ahead(&ahead[..piece.len().min(PIECE)]);
+fn look_ahead_piece(client: &SharedClient, keys: &[u8], piece: &[Lookup]) {
+    let ahead: [Key; ROUND] = std::array::from_fn(|number| key_or_any(keys, piece, number));
+    client.look_ahead(&ahead[..piece.len().min(ROUND)]);
 }
 
 // The key of the lookup at this place, or any key where it has none.
@@ -170,4 +165,34 @@ fn key_or_any(keys: &[u8], piece: &[Lookup], number: usize) -> Key {
         }
     }
     Key::new(b"0").unwrap()
+}
+
+impl SharedClient {
+    // Whether a look ahead can pay.
+    fn is_large(&self) -> bool {
+        match self.guests.as_slice() {
+            [guest] => is_large(guest.share.index()),
+            _ => true,
+        }
+    }
+
+    // Loads what gets of up to 16 keys will read, so that waits for memory overlap, whatever
+    // their shards.
+    fn look_ahead(&self, keys: &[Key]) {
+        if let [guest] = self.guests.as_slice() {
+            guest.share.index().look_ahead(keys);
+        } else {
+            look_ahead(self, self.guests.len(), keys);
+        }
+    }
+}
+
+impl Shards for SharedClient {
+    #[inline(always)]
+    fn index_at(&self, place: usize) -> Option<&Index> {
+        match self.guests.get(place) {
+            Some(guest) => Some(guest.share.index()),
+            None => None,
+        }
+    }
 }

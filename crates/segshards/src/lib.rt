@@ -3,6 +3,7 @@
 //! is one call of the client of the key's shard.
 #![tactic(auto)]
 
+mod ahead;
 mod cache;
 mod client;
 mod closing;
@@ -16,6 +17,7 @@ mod shard;
 mod stats;
 mod write;
 
+pub use ahead::{LEAST_AHEAD, ROUND, Shards, is_large, look_ahead};
 pub use cache::Cache;
 pub use client::Client;
 pub use closing::WholeShard;

@@ -2,71 +2,9 @@
 ghost use Rattle.std.specs.Prelude.{◌≡◌, ◌<◌, length};
 ghost use Rattle.segshards.specs.Many.{GetsKey, GetsKeyVersion, InTurn};
 
+use crate::ahead::{LEAST_AHEAD, ROUND, Shards, is_large, look_ahead};
 use crate::client::Client;
-use segbase::CHAIN_BUCKETS;
 use segclient::{GetAnswer, GetsAnswer, Index, Key};
-use segindex::{Lead, Seeker};
-
-// So many keys are looked ahead for at a time.
-const PIECE: usize = 16;
-
-// For fewer keys a look ahead costs more than it spares.
-const LEAST: usize = 8;
-
-// Keys that are looked for: of each the place of its shard, and where in it.
-#[derive(Drop)]
-struct Round {
-    steps: [Option<(usize, Seeker)>; PIECE],
-    count: usize,
-}
-
-impl Round {
-    // No keys.
-    fn new() -> Round {
-        Round {
-            steps: [None; PIECE],
-            count: 0,
-        }
-    }
-
-    // One more, if there is room.
-    #[inline(always)]
-    fn push(&mut self, place: usize, seeker: Seeker) {
-        if self.count < PIECE {
-            self.steps[self.count] = Some((place, seeker));
-            self.count += 1;
-        }
-    }
-}
-
-// Loads the ends of the buckets of these keys, and then those of the rows that words of these
-// buckets name. What is left are the keys whose chains go on.
-fn load(indexes: &[Index], round: &Round) -> Round {
-    for (place, seeker) in round.steps.iter().flatten() {
-        if let Some(index) = indexes.get(*place) {
-            index.load(*seeker);
-        }
-    }
-    let mut next = Round::new();
-    let mut items = [None; PIECE];
-    for (item, step) in items.iter_mut().zip(round.steps.iter()) {
-        if let Some((place, seeker)) = step {
-            if let Some(index) = indexes.get(*place) {
-                match index.follow(*seeker) {
-                    Lead::Item(found) => *item = Some((*place, found)),
-                    Lead::Bucket(seeker) => next.push(*place, seeker),
-                    Lead::Nothing => {}
-                }
-            }
-        }
-    }
-    for (place, item) in items.iter().flatten() {
-        if let Some(index) = indexes.get(*place) {
-            index.load_item(*item);
-        }
-    }
-    next
-}
 
 impl<'c> Client<'c> {
     /// The value under each key: one get after another, each with the answer at its key's place.
@@ -95,9 +33,17 @@ impl<'c> Client<'c> {
     fn look_ahead_from(&self, keys: &[Key], place: usize)
         requires place { place < length keys.now }
     {
-        let end = keys.len().min(place + PIECE);
-        if place % PIECE == 0 && end - place >= LEAST {
+        let end = keys.len().min(place + ROUND);
+        if place % ROUND == 0 && end - place >= LEAST_AHEAD && self.is_large() {
             self.look_ahead(&keys[place..end]);
+        }
+    }
+
+    // Whether a look ahead can pay.
+    fn is_large(&self) -> bool {
+        match self.indexes {
+            [index] => is_large(index),
+            _ => true,
         }
     }
 
@@ -106,27 +52,15 @@ impl<'c> Client<'c> {
     pub fn look_ahead(&self, keys: &[Key]) {
         if let [index] = self.indexes {
             index.look_ahead(keys);
-            return;
-        }
-        for piece in keys.chunks(PIECE) {
-            self.look_ahead_piece(piece);
+        } else {
+            look_ahead(self, self.shards.len(), keys);
         }
     }
+}
 
-    // In each round all places are known before the first load begins, whatever their shards.
-    fn look_ahead_piece(&self, keys: &[Key]) {
-        let mut round = Round::new();
-        for key in keys {
-            let place = self.place_of(key);
-            if let Some(index) = self.indexes.get(place) {
-                round.push(place, index.seeker(key));
-            }
-        }
-        for _ in 0..CHAIN_BUCKETS {
-            if round.count == 0 {
-                return;
-            }
-            round = load(self.indexes, &round);
-        }
+impl<'c> Shards for Client<'c> {
+    #[inline(always)]
+    fn index_at(&self, place: usize) -> Option<&Index> {
+        self.indexes.get(place)
     }
 }
