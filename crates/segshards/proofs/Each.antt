@@ -10,8 +10,11 @@ use Rattle.segindex.specs.declared.table_stats.IndexStats.{IndexStats}
 use Rattle.segshards.specs.Each.{AllThree}
 use Rattle.segshards.specs.Sums.{table_of, table_sum}
 
-same_head : {A : Type 0} (x y : A) (xs ys : List A) → x ∷ xs ≡ y ∷ ys → x ≡ y
+pub same_head : {A : Type 0} (x y : A) (xs ys : List A) → x ∷ xs ≡ y ∷ ys → x ≡ y
 same_head x y xs ys e = cc
+
+pub same_tail : {A : Type 0} (x y : A) (xs ys : List A) → x ∷ xs ≡ y ∷ ys → xs ≡ ys
+same_tail x y xs ys e = cc
 
 -- where the rest is as it was, so is the first of the rest
 pub same_there : {X : Type 0} (xs ys : List X) (n : ℕ) (d : X) → n < length xs → length ys ≡ length xs → drop n ys ≡ drop n xs → get_or ys n d ≡ get_or xs n d

@@ -10,6 +10,7 @@ pub mod OneOrder
 pub mod Opened
 pub mod Places
 pub mod Planned
+pub mod Same
 pub mod ShardOrder
 pub mod Whole
 pub mod Writers

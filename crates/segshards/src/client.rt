@@ -26,6 +26,7 @@ impl<'c> Client<'c> {
     ghost use Rattle.std.specs.Prelude.{◌≡◌, ◌<◌, length};
     ghost use Rattle.segclient.specs.Made.{Gets, GetsVersion};
     ghost use Rattle.segshards.specs.Client.{MakesCall};
+    ghost use Rattle.segshards.specs.Clients.{IsSame};
     ghost use Rattle.segshards.specs.Shards.{shard_of};
 
     // The place of the key's shard.
@@ -41,6 +42,7 @@ impl<'c> Client<'c> {
     #[inline(always)]
     pub fn get(&mut self, key: &Key) -> GetAnswer
         ensures reads { MakesCall key.now (Gets key.now result) self.old self.new }
+        ensures same { IsSame self.old self.new }
     {
         let place = self.place_of(key);
         let shard = &mut self.shards[place];
@@ -51,6 +53,7 @@ impl<'c> Client<'c> {
     /// The value under a key, with the version of the key's bucket, for a later compare-and-swap.
     pub fn gets(&mut self, key: &Key) -> GetsAnswer
         ensures reads { MakesCall key.now (GetsVersion key.now result) self.old self.new }
+        ensures same { IsSame self.old self.new }
     {
         let place = self.place_of(key);
         let shard = &mut self.shards[place];

@@ -7,6 +7,7 @@ use segclient::{Hold, HoldAnswer, Key, Value};
 impl<'c> Client<'c> {
     ghost use Rattle.segclient.specs.Made.{EndsHold, ReadsHold};
     ghost use Rattle.segshards.specs.Client.{CallsShard};
+    ghost use Rattle.segshards.specs.Clients.{IsSame};
     ghost use Rattle.segshards.specs.Holding.{HasHold, HoldsKey, IsHoldOf};
 
     /// Holds the item of a key. Its value can be read until the hold is spent by `release`,
@@ -15,6 +16,7 @@ impl<'c> Client<'c> {
     pub fn hold(&mut self, key: &Key) -> HoldAnswer<'c>
         ensures holds { HoldsKey key.now result self.old self.new }
         ensures held { HasHold key.now result self.new }
+        ensures same { IsSame self.old self.new }
     {
         if self.holds.is_some() {
             return HoldAnswer::AlreadyHolding;
@@ -40,6 +42,7 @@ impl<'c> Client<'c> {
             CallsShard shard (ReadsHold hold.now result) self.old self.new) }
         ensures holds { self.new.holds ≡ self.old.holds }
         ensures held { IsHoldOf hold.now self.new }
+        ensures same { IsSame self.old self.new }
     {
         let Some(place) = self.holds else {
             unreachable!()
@@ -55,6 +58,7 @@ impl<'c> Client<'c> {
         ensures releases { IfSome self.old.holds (λ shard.
             CallsShard shard EndsHold self.old self.new) }
         ensures holds { self.new.holds ≡ None }
+        ensures same { IsSame self.old self.new }
     {
         let Some(place) = self.holds else {
             unreachable!()

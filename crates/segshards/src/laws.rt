@@ -1,5 +1,6 @@
-//! What calls on keys of several shards have to do with one another.
-//! This function does nothing: its contract is the theorem.
+//! What calls on keys of several shards have to do with one another, and what calls leave of the
+//! clients of a cache. These functions do nothing: their contracts are the theorems.
+ghost use Rattle.segshards.specs.Clients.{EachStays, OneStays};
 ghost use Rattle.segshards.specs.Locality.{CallsAreInOneOrder};
 
 /// Any calls of any passes of all shards, in any run, stand in one order: each comes at a point
@@ -8,4 +9,11 @@ ghost use Rattle.segshards.specs.Locality.{CallsAreInOneOrder};
 /// when it began. In each shard it is the order of the shard's history.
 pub fn locality()
     ensures { CallsAreInOneOrder }
+{}
+
+/// The clients of all passes of a cache are so still after any calls: each call of a client leaves
+/// it the same passes (the call's clause `same`).
+pub fn clients_stay()
+    ensures one { OneStays }
+    ensures each { EachStays }
 {}

@@ -21,7 +21,7 @@ pub use ahead::{LEAST_AHEAD, ROUND, Shards, is_large, look_ahead};
 pub use cache::Cache;
 pub use client::Client;
 pub use closing::WholeShard;
-pub use laws::locality;
+pub use laws::{clients_stay, locality};
 pub use note::Notes;
 pub use plan::ShardPlan;
 pub use segclient::{

@@ -7,10 +7,13 @@ use crate::client::Client;
 use segclient::{GetAnswer, GetsAnswer, Index, Key};
 
 impl<'c> Client<'c> {
+    ghost use Rattle.segshards.specs.Clients.{IsSame};
+
     /// The value under each key: one get after another, each with the answer at its key's place.
     pub fn get_many(&mut self, keys: &[Key], answers: &mut [GetAnswer])
         requires answers { length answers.old ≡ length keys.now }
         ensures gets { InTurn GetsKey keys.now answers.new self.old self.new }
+        ensures same { IsSame self.old self.new }
     {
         for place in 0..keys.len() {
             self.look_ahead_from(keys, place);
@@ -22,6 +25,7 @@ impl<'c> Client<'c> {
     pub fn gets_many(&mut self, keys: &[Key], answers: &mut [GetsAnswer])
         requires answers { length answers.old ≡ length keys.now }
         ensures gets { InTurn GetsKeyVersion keys.now answers.new self.old self.new }
+        ensures same { IsSame self.old self.new }
     {
         for place in 0..keys.len() {
             self.look_ahead_from(keys, place);

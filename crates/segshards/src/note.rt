@@ -16,6 +16,7 @@ impl<'c> Client<'c> {
     ghost use Rattle.segclient.specs.Made as made;
     ghost use Rattle.segclient.specs.Made.{Learns};
     ghost use Rattle.segshards.specs.Client.{MakesCall};
+    ghost use Rattle.segshards.specs.Clients.{IsSame};
     ghost use Rattle.segshards.specs.Each.{EachAnswers};
     ghost use Rattle.segshards.specs.Noting.{AreNotesFor, AreOfSameShards, EachMeets, IsNoteForKey};
 
@@ -25,6 +26,7 @@ impl<'c> Client<'c> {
         ensures notes { IfOk result (λ notes.
             EachAnswers made.Notes notes.each.items self.old self.new) }
         ensures refused { IfErr result (λ _. self.new ≡ self.old) }
+        ensures same { IsSame self.old self.new }
     {
         let mut each = Vec::with_capacity(alloc, self.shards.len())?;
         for place in 0..self.shards.len() {
@@ -37,6 +39,7 @@ impl<'c> Client<'c> {
     pub fn learn(&mut self, notes: Notes)
         requires notes { AreNotesFor self.old notes.each.items }
         ensures learns { EachAnswers Learns notes.each.items self.old self.new }
+        ensures same { IsSame self.old self.new }
     {
         let Notes { each } = notes;
         let mut place = 0;
@@ -51,6 +54,7 @@ impl<'c> Client<'c> {
     pub fn meet(&mut self, other: &mut Client<'_>)
         requires same { AreOfSameShards self.old other.old }
         ensures meets { EachMeets self.old other.old self.new other.new }
+        ensures same { IsSame self.old self.new × IsSame other.old other.new }
     {
         for place in 0..self.shards.len() {
             self.shards[place].meet(&mut other.shards[place]);
@@ -61,6 +65,7 @@ impl<'c> Client<'c> {
     /// It takes no bytes. Send it to another thread by any means, or drop it.
     pub fn note_of(&mut self, key: &Key) -> Note
         ensures notes { MakesCall key.now (made.Notes result) self.old self.new }
+        ensures same { IsSame self.old self.new }
     {
         let place = self.place_of(key);
         let shard = &mut self.shards[place];
@@ -72,6 +77,7 @@ impl<'c> Client<'c> {
     pub fn learn_of(&mut self, key: &Key, note: Note)
         requires note { IsNoteForKey key.now note self.old }
         ensures learns { MakesCall key.now (Learns note) self.old self.new }
+        ensures same { IsSame self.old self.new }
     {
         let place = self.place_of(key);
         let shard = &mut self.shards[place];

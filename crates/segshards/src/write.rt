@@ -8,11 +8,13 @@ impl<'c> Client<'c> {
     ghost use Rattle.segclient.specs.Made.{DeletesKey, MakesWrite};
     ghost use Rattle.segclient.specs.Puts.{MakesRoomFor, Puts};
     ghost use Rattle.segshards.specs.Client.{MakesCall};
+    ghost use Rattle.segshards.specs.Clients.{IsSame};
 
     /// Stores the value under the key, and makes room for it in its shard if there is none.
     #[inline(always)]
     pub fn put(&mut self, key: &Key, value: &Value) -> PutAnswer
         ensures puts { MakesCall key.now (Puts key.now value.now result) self.old self.new }
+        ensures same { IsSame self.old self.new }
     {
         let place = self.place_of(key);
         let shard = &mut self.shards[place];
@@ -25,6 +27,7 @@ impl<'c> Client<'c> {
         ensures writes { MakesCall key.now (MakesWrite (Set key.now value.now) result)
             self.old self.new }
         ensures set { IsSetAnswer result }
+        ensures same { IsSame self.old self.new }
     {
         let place = self.place_of(key);
         let shard = &mut self.shards[place];
@@ -36,6 +39,7 @@ impl<'c> Client<'c> {
     pub fn add(&mut self, key: &Key, value: &Value) -> WriteAnswer
         ensures writes { MakesCall key.now (MakesWrite (Add key.now value.now) result)
             self.old self.new }
+        ensures same { IsSame self.old self.new }
     {
         let place = self.place_of(key);
         let shard = &mut self.shards[place];
@@ -47,6 +51,7 @@ impl<'c> Client<'c> {
     pub fn replace(&mut self, key: &Key, value: &Value) -> WriteAnswer
         ensures writes { MakesCall key.now (MakesWrite (Replace key.now value.now) result)
             self.old self.new }
+        ensures same { IsSame self.old self.new }
     {
         let place = self.place_of(key);
         let shard = &mut self.shards[place];
@@ -59,6 +64,7 @@ impl<'c> Client<'c> {
     pub fn cas(&mut self, key: &Key, value: &Value, expected: u32) -> WriteAnswer
         ensures writes { MakesCall key.now (MakesWrite (Cas key.now value.now expected) result)
             self.old self.new }
+        ensures same { IsSame self.old self.new }
     {
         let place = self.place_of(key);
         let shard = &mut self.shards[place];
@@ -69,6 +75,7 @@ impl<'c> Client<'c> {
     /// Takes the key out.
     pub fn delete(&mut self, key: &Key) -> DeleteAnswer
         ensures deletes { MakesCall key.now (DeletesKey key.now result) self.old self.new }
+        ensures same { IsSame self.old self.new }
     {
         let place = self.place_of(key);
         let shard = &mut self.shards[place];
@@ -80,6 +87,7 @@ impl<'c> Client<'c> {
     /// and returns whether there is room.
     pub fn make_room(&mut self, key: &Key) -> bool
         ensures makes { MakesCall key.now (MakesRoomFor result) self.old self.new }
+        ensures same { IsSame self.old self.new }
     {
         let place = self.place_of(key);
         let shard = &mut self.shards[place];

@@ -1,4 +1,4 @@
-use Rattle.std.proofs.Common.{◌∙◌, ◌<◌, length, arith}
+use Rattle.std.proofs.Common.{◌∙◌, ◌<◌, length, refl, arith}
 use Rattle.std.proofs.lemmas.List.{length-set}
 use Rattle.segshards.specs.Many.{GetsKey}
 use Rattle.segshards.proofs.InTurn.{next_made, none_made}
@@ -8,6 +8,7 @@ pub loop-place-init : goal.loop-place-init
 loop-place-init c = record {
   long = c.requires.answers;
   made = none_made GetsKey c.args.self.now;
+  same = refl;
 }
 
 pub loop-place-preserved : goal.loop-place-preserved
@@ -22,4 +23,5 @@ loop-place-preserved c =
       long = length-set answers place c.get.result ∙ was.long;
       made = next_made GetsKey keys answers place c.args.self.now c.loop-place.self c.get.new.self c.index-keys-place.result c.get.result
           in_keys in_answers c.index-keys-place.is was.made c.get.ensures.reads;
+      same = c.get.ensures.same ∙ was.same;
     }

@@ -1,10 +1,15 @@
 use Rattle.std.proofs.Common.{refl}
 use Rattle.segclient.specs.Made.{GetsVersion}
 use Rattle.segshards.proofs.Calls.{by_shard}
+use Rattle.segshards.proofs.Same.{called_same}
 use Rattle.segshards.proofs.client.Client.gets.Goals as goal
 
-pub returns : goal.returns
-returns c = record {
-  reads = by_shard c.args.key.now (GetsVersion c.args.key.now c.gets.result) c.args.self.now _ c.place_of-place.result c.index_mut-shard.result.now c.set_now.new.self c.gets.new.self
-      (c.place_of-place.ensures.shard, c.place_of-place.ensures.within) c.index_mut-shard.ensures.value c.set_now.ensures.sets c.gets.ensures.reads refl refl refl;
-}
+pub returns-clause-reads : goal.returns-clause-reads
+returns-clause-reads c =
+    by_shard c.args.key.now (GetsVersion c.args.key.now c.gets.result) c.args.self.now _ c.place_of-place.result c.index_mut-shard.result.now c.set_now.new.self c.gets.new.self
+    (c.place_of-place.ensures.shard, c.place_of-place.ensures.within) c.index_mut-shard.ensures.value c.set_now.ensures.sets c.gets.ensures.reads refl refl refl
+
+pub returns-clause-same : goal.returns-clause-same
+returns-clause-same c =
+    called_same (GetsVersion c.args.key.now c.gets.result) c.args.self.now c.place_of-place.result c.index_mut-shard.result.now c.set_now.new.self c.gets.new.self
+    (λ b old new made. made.keeps.settings.number) c.index_mut-shard.ensures.value c.set_now.ensures.sets c.gets.ensures.reads

@@ -9,6 +9,7 @@ use Rattle.segshards.specs.Each.{AllThree}
 use Rattle.segshards.proofs.Each.{all_three, same_rest, same_there, three_next, three_none}
 use Rattle.segshards.proofs.Places.{zip_ends, zip_first, zip_goes_on}
 use Rattle.segshards.proofs.Noted.{is_note_of, same_note}
+use Rattle.segshards.proofs.Same.{answers_same}
 use Rattle.segshards.proofs.client.Client.learn.Goals as goal
 
 pub loop-note-init : goal.loop-note-init
@@ -83,8 +84,8 @@ loop-note-preserved c =
       holds = was.holds;
     }
 
-pub returns : goal.returns
-returns c =
+pub returns-clause-learns : goal.returns-clause-learns
+returns-clause-learns c =
     let was = c.loop-note.invariant in
     let old = c.args.self.now.shards.items in
     let new = c.loop-note.self.shards.items in
@@ -94,11 +95,12 @@ returns c =
     let none = nil_from_length rest.items (sym rest.ok.0 ∙ c.in-None.ensures.steps.0) in
     let all : c.args.notes.each.items ≡ yielded = was.all ∙ ap (λ l. yielded ++ l) none ∙ append-nil yielded in
     let over = zip_ends is_note_of old place (subst (AllZip is_note_of (drop place old)) none was.notes) in
-    let within = was.within in
-    record {
-      learns = (
-        subst (λ (l : List Note). AllThree (λ a was is. of_one.MakesCall (Learns a) was is) l old new) (sym {A = List Note} all)
-            (all_three (λ a was is. of_one.MakesCall (Learns a) was is) yielded old new place (omega (arith, over, within)) was.long was.learned),
-        record { clock = was.clock; holds = was.holds },
-      );
-    }
+    let within = was.within in (
+      subst (λ (l : List Note). AllThree (λ a was is. of_one.MakesCall (Learns a) was is) l old new) (sym {A = List Note} all)
+          (all_three (λ a was is. of_one.MakesCall (Learns a) was is) yielded old new place (omega (arith, over, within)) was.long was.learned),
+      record { clock = was.clock; holds = was.holds },
+    )
+
+pub returns-clause-same : goal.returns-clause-same
+returns-clause-same c =
+    answers_same Learns c.args.notes.each.items c.args.self.now.shards.items c.loop-note.self.shards.items (λ a b old new learned. learned.counts.keeps.settings.number) (returns-clause-learns c).0

@@ -1,10 +1,15 @@
 use Rattle.std.proofs.Common.{refl}
 use Rattle.segclient.specs.Made.{Learns}
 use Rattle.segshards.proofs.Calls.{by_shard}
+use Rattle.segshards.proofs.Same.{called_same}
 use Rattle.segshards.proofs.client.Client.learn_of.Goals as goal
 
-pub returns : goal.returns
-returns c = record {
-  learns = by_shard c.args.key.now (Learns c.args.note) c.args.self.now _ c.place_of-place.result c.index_mut-shard.result.now c.set_now.new.self c.learn.new.self
-      (c.place_of-place.ensures.shard, c.place_of-place.ensures.within) c.index_mut-shard.ensures.value c.set_now.ensures.sets c.learn.ensures.learns refl refl refl;
-}
+pub returns-clause-learns : goal.returns-clause-learns
+returns-clause-learns c =
+    by_shard c.args.key.now (Learns c.args.note) c.args.self.now _ c.place_of-place.result c.index_mut-shard.result.now c.set_now.new.self c.learn.new.self
+    (c.place_of-place.ensures.shard, c.place_of-place.ensures.within) c.index_mut-shard.ensures.value c.set_now.ensures.sets c.learn.ensures.learns refl refl refl
+
+pub returns-clause-same : goal.returns-clause-same
+returns-clause-same c =
+    called_same (Learns c.args.note) c.args.self.now c.place_of-place.result c.index_mut-shard.result.now c.set_now.new.self c.learn.new.self
+    (λ b old new made. made.counts.keeps.settings.number) c.index_mut-shard.ensures.value c.set_now.ensures.sets c.learn.ensures.learns

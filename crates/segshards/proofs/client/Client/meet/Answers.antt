@@ -4,6 +4,7 @@ use Rattle.segclient.proofs.Places.{zip_long}
 use Rattle.segshards.proofs.Each.{same_rest, same_there}
 use Rattle.segshards.proofs.Noted.{all_meet, meet_next, none_meet, of_same}
 use Rattle.segshards.proofs.Places.{zip_there}
+use Rattle.segshards.proofs.Same.{meet_same}
 use Rattle.segshards.proofs.client.Client.meet.Goals as goal
 
 pub loop-place-init : goal.loop-place-init
@@ -76,8 +77,8 @@ loop-place-preserved c =
       its_holds = was.its_holds;
     }
 
-pub returns : goal.returns
-returns c =
+pub returns-clause-meets : goal.returns-clause-meets
+returns-clause-meets c =
     let was = c.loop-place.invariant in
     let old = c.args.self.now.shards.items in
     let other = c.args.other.now.shards.items in
@@ -89,11 +90,12 @@ returns c =
     let within = c.loop-place.auto.place-end in
     let same = zip_long of_same old other c.requires.same in
     let is : place ≡ length old = omega (arith, end, over, within) in
-    let its : place ≡ length other = is ∙ sym same in
-    record {
-      meets = (
-        all_meet old other new next place is its (is ∙ sym was.long) (its ∙ sym was.its_long) was.met,
-        record { clock = was.clock; holds = was.holds },
-        record { clock = was.its_clock; holds = was.its_holds },
-      );
-    }
+    let its : place ≡ length other = is ∙ sym same in (
+      all_meet old other new next place is its (is ∙ sym was.long) (its ∙ sym was.its_long) was.met,
+      record { clock = was.clock; holds = was.holds },
+      record { clock = was.its_clock; holds = was.its_holds },
+    )
+
+pub returns-clause-same : goal.returns-clause-same
+returns-clause-same c =
+    meet_same c.args.self.now.shards.items c.args.other.now.shards.items c.loop-place.self.shards.items c.loop-place.other.shards.items (returns-clause-meets c).0

@@ -5,6 +5,7 @@ use Rattle.segclient.specs.Client as of_one
 use Rattle.segclient.specs.Made as made
 use Rattle.segshards.specs.Each.{AllThree}
 use Rattle.segshards.proofs.Each.{all_three, same_rest, three_next, three_none}
+use Rattle.segshards.proofs.Same.{answers_same}
 use Rattle.segshards.proofs.client.Client.note.Goals as goal
 
 pub loop-place-init : goal.loop-place-init
@@ -55,3 +56,7 @@ returns-clause-notes c =
       all_three (λ a was is. of_one.MakesCall (made.Notes a) was is) c.loop-place.each.items old new place (omega (arith, end, over, within)) was.long was.noted,
       record { clock = was.clock; holds = was.holds },
     )
+
+pub returns-clause-same : goal.returns-clause-same
+returns-clause-same c =
+    answers_same made.Notes c.loop-place.each.items c.args.self.now.shards.items c.loop-place.self.shards.items (λ a b old new noted. noted.counts.keeps.settings.number) (returns-clause-notes c).0
