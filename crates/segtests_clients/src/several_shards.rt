@@ -1,11 +1,12 @@
 //! A cache of several shards: its calls by two clients in turn, whatever the shards of the keys.
+ghost use Rattle.segshards.specs.Clients.{AreAllClients, IsSame};
 ghost use Rattle.segshards.specs.Shards.{AreOfShards};
 
 use crate::same::{check_that, same};
 use segclient::Shape;
 use segshards::{
     Cache, Client, DeleteAnswer, GetAnswer, GetsAnswer, HoldAnswer, Key, Pass, PutAnswer, Value,
-    WriteAnswer,
+    WriteAnswer, clients_stay,
 };
 use std::alloc::AllocGlobal;
 use std::process::Abort;
@@ -52,7 +53,9 @@ fn two_clients<'c, R: AllocGlobal + Abort>(
 }
 
 // Puts each number below the count under itself.
-fn put_numbers(rt: &impl Abort, client: &mut Client<'_>, count: u32) {
+fn put_numbers(rt: &impl Abort, client: &mut Client<'_>, count: u32)
+    ensures { IsSame client.old client.new }
+{
     for number in 0..count {
         let told = client.put(&key_of(rt, number), &value_of(rt, number));
         same(rt, &told, &PutAnswer::Stored);
@@ -140,17 +143,31 @@ fn held_items_are_read_in_each_shard(rt: HostRuntime) {
     same(&rt, &first.stats().deleted, &100);
 }
 
-// A cache of no keys is closed shard by shard.
+// The client at a place puts each number below the count under itself. All clients are that still.
+fn put_by_one(rt: &impl Abort, cache: &Cache, clients: &mut [Client<'_>], place: usize, count: u32)
+    requires { AreAllClients cache.now.shards.items clients.old }
+    ensures { AreAllClients cache.now.shards.items clients.new }
+{
+    if place < clients.len() {
+        clients_stay();
+        put_numbers(rt, &mut clients[place], count);
+    }
+}
+
+// What one client put is listed shard by shard.
 #[test]
 fn each_shard_is_closed(rt: HostRuntime) {
     let alloc = rt.alloc();
     let (cache, passes) = Cache::of_shards(alloc, SHAPE, SHARDS).expect(&rt, "a cache");
-    let clients = cache.clients(alloc, passes).expect(&rt, "clients");
+    let mut clients = cache.clients(alloc, passes).expect(&rt, "clients");
+    put_by_one(&rt, &cache, clients.as_mut_slice(), 1, KEYS);
     let passes = cache.into_passes(alloc, clients).expect(&rt, "passes");
     let shards = cache.into_whole_shards(alloc, passes).expect(&rt, "shards");
     same(&rt, &shards.len(), &(SHARDS as usize));
+    let mut listed = 0usize;
     for shard in shards {
         let content = shard.close(alloc).expect(&rt, "memory");
-        check_that(&rt, content.is_empty());
+        listed = listed.saturating_add(content.len());
     }
+    same(&rt, &listed, &(KEYS as usize));
 }

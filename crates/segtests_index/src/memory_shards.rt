@@ -1,7 +1,7 @@
-//! A cache of shards out of memory: each request of its opening, its clients, a note and its end
-//! is refused in turn.
-use crate::hoard::{RUNS, STEP, check_refused, hoard, leave};
-use crate::same::same;
+//! A cache of shards out of memory: each request of its opening, its clients and its end
+//! is refused in turn. A note makes no request.
+use crate::hoard::{RUNS, STEP, check_refused, hoard, is_none_left, leave};
+use crate::same::{check_that, same};
 use segshards::{Cache, Shape};
 use std::alloc::Global;
 
@@ -49,4 +49,20 @@ fn a_cache_is_opened_and_closed_or_memory_is_wanted(rt: HostRuntime) {
     }
     drop(all);
     check_refused(&rt, refused);
+}
+
+// The notes of the shards have no bytes, and so their list has none.
+#[test]
+fn a_note_of_all_shards_needs_no_memory(rt: HostRuntime) {
+    let (cache, passes) = Cache::of_shards(rt.alloc(), SHAPE, SHARDS).expect(&rt, "a cache");
+    let mut clients = cache.clients(rt.alloc(), passes).expect(&rt, "clients");
+    let mut client = clients.pop().expect(&rt, "a client");
+    let all = hoard(rt.alloc()).expect(&rt, "memory");
+    let taken = leave(rt.alloc(), 0).expect(&rt, "memory");
+    let is_none_left = is_none_left(rt.alloc());
+    let is_made = client.note(rt.alloc()).is_ok();
+    drop(taken);
+    drop(all);
+    check_that(&rt, is_none_left);
+    check_that(&rt, is_made);
 }
