@@ -104,33 +104,37 @@ int measure_many(int count, char** words) {
     });
     const double filled = seconds(start);
     const double bytes = status_bytes("VmRSS") - bytes_before;
-    const double gets = on_threads(store, keys, threads, [keys](auto& client, std::uint32_t, std::uint32_t, Random random) {
-        for (std::uint32_t done = 0; done < commands; ++done) {
-            const std::uint32_t key = random.below(keys);
-            client.see(client.get(Key::of_number(key)), key);
-        }
-    });
-    const double many = on_threads(store, keys, threads, [keys](auto& client, std::uint32_t, std::uint32_t, Random random) {
-        Key asked[at_hand];
-        std::uint32_t numbers[at_hand];
-        for (std::uint32_t done = 0; done < commands; done += at_hand) {
-            for (unsigned place = 0; place < at_hand; ++place) {
-                asked[place] = Key::of_number(numbers[place] = random.below(keys));
+    const double gets =
+        on_threads(store, keys, threads, [keys](auto& client, std::uint32_t, std::uint32_t, Random random) {
+            for (std::uint32_t done = 0; done < commands; ++done) {
+                const std::uint32_t key = random.below(keys);
+                client.see(client.get(Key::of_number(key)), key);
             }
-            client.get_all(asked, numbers);
-        }
-    });
-    const double puts = on_threads(store, keys, threads, [keys](auto& client, std::uint32_t, std::uint32_t, Random random) {
-        for (std::uint32_t done = 0; done < commands; ++done) {
-            const std::uint32_t key = random.below(keys);
-            client.put(Key::of_number(key), Value::of_number(key));
-        }
-    });
+        });
+    const double many =
+        on_threads(store, keys, threads, [keys](auto& client, std::uint32_t, std::uint32_t, Random random) {
+            Key asked[at_hand];
+            std::uint32_t numbers[at_hand];
+            for (std::uint32_t done = 0; done < commands; done += at_hand) {
+                for (unsigned place = 0; place < at_hand; ++place) {
+                    asked[place] = Key::of_number(numbers[place] = random.below(keys));
+                }
+                client.get_all(asked, numbers);
+            }
+        });
+    const double puts =
+        on_threads(store, keys, threads, [keys](auto& client, std::uint32_t, std::uint32_t, Random random) {
+            for (std::uint32_t done = 0; done < commands; ++done) {
+                const std::uint32_t key = random.below(keys);
+                client.put(Key::of_number(key), Value::of_number(key));
+            }
+        });
     const double all = static_cast<double>(commands) * threads;
-    std::printf("{\"keys\": %u, \"threads\": %u, \"open_s\": %.2f, \"fill_s\": %.2f, \"bytes_a_key\": %.1f, "
-                "\"peak_bytes_a_key\": %.1f, \"get_ns\": %.1f, \"get16_ns\": %.1f, \"put_ns\": %.1f, \"wrong\": %llu}\n",
-                keys, threads, opened, filled, bytes / keys, (status_bytes("VmHWM") - bytes_before) / keys, gets / all,
-                many / all, puts / all, static_cast<unsigned long long>(store.wrong()));
+    std::printf(
+        "{\"keys\": %u, \"threads\": %u, \"open_s\": %.2f, \"fill_s\": %.2f, \"bytes_a_key\": %.1f, "
+        "\"peak_bytes_a_key\": %.1f, \"get_ns\": %.1f, \"get16_ns\": %.1f, \"put_ns\": %.1f, \"wrong\": %llu}\n",
+        keys, threads, opened, filled, bytes / keys, (status_bytes("VmHWM") - bytes_before) / keys, gets / all,
+        many / all, puts / all, static_cast<unsigned long long>(store.wrong()));
     return 0;
 }
 

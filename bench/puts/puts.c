@@ -32,8 +32,7 @@ typedef struct load {
     bool keeps_nothing; /* nothing that was read */
 } load;
 
-static const load loads[] = {
-    {"zipf", false, false}, {"read twice", true, false}, {"zipf, keep_nothing", false, true}};
+static const load loads[] = {{"zipf", false, false}, {"read twice", true, false}, {"zipf, keep_nothing", false, true}};
 
 typedef struct samples {
     uint64_t* ticks;
@@ -226,8 +225,7 @@ static void measure(const plan* of, const load* by, size_t puts) {
     if (!all.ticks) fail("no memory");
     if (!puts_open(of, callers)) fail("the cache can't be opened");
     for (i = 0; i < of->threads; i++) {
-        workers[i] =
-            (worker){.caller = callers[i], .load = by, .table = table, .keys = keys, .puts = 2 * (size_t)each};
+        workers[i] = (worker){.caller = callers[i], .load = by, .table = table, .keys = keys, .puts = 2 * (size_t)each};
         workers[i].state = SEED + i, workers[i].fresh = (uint64_t)i << 40;
         if (by->keeps_nothing) is_able = puts_keep_nothing(callers[i]) && is_able;
     }
@@ -245,10 +243,8 @@ static void measure(const plan* of, const load* by, size_t puts) {
 int main(int count, char** words) {
     /* Of shapes there are overflow buckets enough that no bucket is full, so that room is made for rows alone. */
     static const plan plans[] = {
-        {"128 x 448", 0, 1, 16384, 16384, 128, 448},
-        {"128 x 448", 0, 4, 65536, 65536, 128, 448},
-        {"64 x 3125", 0, 1, 32768, 65536, 64, 3125},
-        {"for 100,000 keys", 100000, 1, 0, 0, 0, 0},
+        {"128 x 448", 0, 1, 16384, 16384, 128, 448}, {"128 x 448", 0, 4, 65536, 65536, 128, 448},
+        {"64 x 3125", 0, 1, 32768, 65536, 64, 3125}, {"for 100,000 keys", 100000, 1, 0, 0, 0, 0},
         {"for 400,000 keys", 400000, 4, 0, 0, 0, 0},
     };
     size_t puts = 3000000, i, j;

@@ -15,8 +15,8 @@ static segcache_client clients[MOST_CALLERS];
 
 bool puts_open(const plan* of, caller** callers) {
     segcache_shape shape = {of->buckets, of->overflow, of->threads, of->segments, of->rows, 0};
-    uint32_t status = of->keys ? segcache_open(of->keys, of->threads, &cache, clients)
-                               : segcache_open_shape(&shape, &cache, clients);
+    uint32_t status =
+        of->keys ? segcache_open(of->keys, of->threads, &cache, clients) : segcache_open_shape(&shape, &cache, clients);
     uint32_t i;
     for (i = 0; status == SEGCACHE_OK && i < of->threads; i++) {
         all[i].client = clients[i];
