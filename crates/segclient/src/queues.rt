@@ -41,7 +41,7 @@ pub(crate) fn place_of(index: &Index, segment: u32) -> u32 {
 // it is no number of theirs.
 #[inline(always)]
 fn own_place(index: &Index, pass: &Pass, segment: u32) -> u32 {
-    let first = pass.number().saturating_mul(index.shape().segments_each);
+    let first = pass.number().wrapping_mul(index.shape().segments_each);
     segment.wrapping_sub(first)
 }
 

@@ -100,7 +100,7 @@ impl Live {
     // A row more of the segment was used. The pass stored into it, or moved an item there.
     pub(crate) fn was_used(&mut self, at: u32, is_stored: bool) {
         if let Some(place) = self.segments.get_mut(at as usize) {
-            place.used = place.used.saturating_add(1);
+            place.used = place.used.wrapping_add(1);
         }
         if is_stored {
             self.stored = self.stored.wrapping_add(1);
@@ -110,7 +110,7 @@ impl Live {
     // A row of the segment died by a write of the pass.
     pub(crate) fn has_died(&mut self, at: u32) {
         if let Some(place) = self.segments.get_mut(at as usize) {
-            place.died = place.died.saturating_add(1);
+            place.died = place.died.wrapping_add(1);
         }
     }
 

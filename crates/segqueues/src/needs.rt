@@ -32,8 +32,8 @@ impl Needs {
     // The number of a row among all rows of the pass.
     fn row_at(&self, segment: u32, row: u32) -> usize {
         (segment as usize)
-            .saturating_mul(self.rows as usize)
-            .saturating_add(row as usize)
+            .wrapping_mul(self.rows as usize)
+            .wrapping_add(row as usize)
     }
 
     // What the item of the row needs.
