@@ -7,6 +7,7 @@ use Rattle.segword.specs.Words.{IsFirstFault, IsValid, Shape}
 use Rattle.segword.specs.declared.shape.ShapeFault.{ShapeFault}
 use Rattle.segshards.specs.declared.plan.ShardPlan.{ShardPlan}
 use Rattle.segshards.specs.Plan.{IsFaultOfPlan, IsPlanFor}
+use Rattle.segshards.specs.Writers.{IsFaultOfWriters, IsPlanForWriters}
 use Rattle.segcache.specs.declared.client.SharedClient.{SharedClient}
 use Rattle.segcache.specs.declared.handle.Handle.{Handle}
 use Rattle.segcache.specs.declared.kept.Kept.{Kept}
@@ -133,3 +134,13 @@ OpensKeys keys threads before after clients next returned =
     × Opens plan before after clients next returned)
     ⊎ ((fault : ShapeFault) × IsFaultOfPlan threads fault × (returned ≡ status.BadShape)
     × LeavesAll before after clients next)
+
+-- By a plan for so many writers, and as many threads as handles, as above.
+-- BadShape comes also if there is none: then each handle is as it was.
+abbrev pub OpensForWriters : ℕ → ℕ → Option Kept → Option Kept → List Handle → List Handle
+    → Status → Type 0
+OpensForWriters keys writers before after clients next returned =
+    ((plan : ShardPlan) × IsPlanForWriters keys (length clients) writers plan
+    × Opens plan before after clients next returned)
+    ⊎ ((fault : ShapeFault) × IsFaultOfWriters keys (length clients) writers fault
+    × (returned ≡ status.BadShape) × LeavesAll before after clients next)

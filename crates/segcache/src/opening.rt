@@ -2,7 +2,7 @@
 ghost use Rattle.std.specs.Prelude.{◌≡◌, ◌≤◌, length, map};
 ghost use Rattle.segcache.specs.Exports.{Answers};
 ghost use Rattle.segcache.specs.Opening.{are_empty, one_of, Opens};
-ghost use Rattle.segcache.specs.Opening.{OpensKeys, put_in, shape_from, values_of};
+ghost use Rattle.segcache.specs.Opening.{OpensForWriters, OpensKeys, put_in, shape_from, values_of};
 ghost use Rattle.segshards.specs.declared.shard.TheConstants.{MOST_SHARDS};
 
 use crate::handle::Handle;
@@ -38,6 +38,28 @@ pub extern "C" fn segcache_raw_open(
         clients.old clients.new) }
 {
     match ShardPlan::for_keys(keys, threads) {
+        Ok(plan) => open(alloc, plan, cache, clients).number(),
+        Err(_) => Status::BadShape.number(),
+    }
+}
+
+/// Opens a cache for so many keys, and a client for each handle, in empty handles.
+/// So many of the clients have room for all keys together.
+#[unsafe(no_mangle)]
+pub extern "C" fn segcache_raw_open_for_writers(
+    alloc: Global,
+    keys: u32,
+    writers: u32,
+    cache: &mut Handle,
+    clients: &mut [Handle],
+) -> u32
+    ensures { Answers result (OpensForWriters keys writers cache.old.value cache.new.value
+        clients.old clients.new) }
+{
+    let Ok(threads) = u32::try_from(clients.len()) else {
+        return Status::BadShape.number();
+    };
+    match ShardPlan::for_writers(keys, threads, writers) {
         Ok(plan) => open(alloc, plan, cache, clients).number(),
         Err(_) => Status::BadShape.number(),
     }
