@@ -123,7 +123,8 @@ typedef struct segcache_shape {
   uint32_t first_version; /* the version that all buckets begin with; 0 will do */
 } segcache_shape;
 
-/* How many calls of one client came to what. */
+/* How many calls of one client came to what. keys_evicted has the keys that stood, expired ones among them. Where nothing
+   expires it stays 0 as long as the client has room for what it stores. */
 typedef struct segcache_stats_t {
   uint64_t hits, misses; /* of get and gets */
   uint64_t stored, not_stored, exists, not_found, deleted, no_room, bucket_full, busy;
@@ -149,6 +150,8 @@ typedef struct segcache_lookup {
 uint32_t segcache_raw_version(void);
 uint32_t segcache_raw_open(uint32_t keys, uint32_t threads, segcache_handle *cache, segcache_handle *clients,
                            size_t clients_len);
+uint32_t segcache_raw_open_for_writers(uint32_t keys, uint32_t writers, segcache_handle *cache,
+                                       segcache_handle *clients, size_t clients_len);
 uint32_t segcache_raw_open_shape(const segcache_shape *shape, segcache_handle *cache, segcache_handle *clients,
                                  size_t clients_len);
 uint32_t segcache_raw_get(segcache_handle *client, const uint8_t *key, size_t key_len, uint8_t *value, size_t room,
@@ -241,6 +244,21 @@ static inline uint32_t segcache_open(uint32_t keys, uint32_t threads, segcache *
   return segcache_hand_out(status, made, raw, count, cache, clients);
 }
 
+/* The same where only so many of the threads store, 1 to all of them, whichever these are. The share of each client is
+   then its part of the keys among the writers: with one writer that one has room for all keys. A row takes 64 bytes,
+   and each client has two rows for each key of its part. BAD_SHAPE comes also if keys * threads / writers is over 2^32.
+   Answers as segcache_open. */
+static inline uint32_t segcache_open_for_writers(uint32_t keys, uint32_t threads, uint32_t writers, segcache *cache,
+                                                 segcache_client *clients) {
+  segcache_handle made, raw[SEGCACHE_MAX_THREADS];
+  uint32_t status = SEGCACHE_BAD_SHAPE, count = threads <= SEGCACHE_MAX_THREADS ? threads : SEGCACHE_MAX_THREADS;
+  memset(&made, 0, sizeof made);
+  memset(raw, 0, sizeof raw);
+  if (segcache_version() != SEGCACHE_VERSION_NUMBER) status = SEGCACHE_OTHER_VERSION;
+  else if (count == threads) status = segcache_raw_open_for_writers(keys, writers, &made, raw, count);
+  return segcache_hand_out(status, made, raw, count, cache, clients);
+}
+
 /* The same for one table of a shape, with a client for each of its passes. Answers as segcache_open. */
 static inline uint32_t segcache_open_shape(const segcache_shape *shape, segcache *cache, segcache_client *clients) {
   segcache_handle made, raw[SEGCACHE_MAX_THREADS];
@@ -318,6 +336,19 @@ static inline uint32_t segcache_put(segcache_client *client, const void *key, si
   SEGCACHE_BYTES(value, value_len);
   return SEGCACHE_CALL(
       client, segcache_raw_put(&client->raw, (const uint8_t *)key, key_len, (const uint8_t *)value, value_len, now));
+}
+
+/* A put by one of the clients, which the key chooses: so one thread fills a cache, and uses the room of all clients. A
+   key that is filled twice goes to the same client. Call it before the clients are handed to their threads, as each
+   of them may be called here. Answers as segcache_put. */
+static inline uint32_t segcache_fill(segcache_client *clients, uint32_t count, const void *key, size_t key_len,
+                                     const void *value, size_t value_len, uint32_t now) {
+  uint32_t hash = 2166136261u;
+  size_t i;
+  if (clients == NULL || count == 0) return SEGCACHE_NO_HANDLE;
+  SEGCACHE_BYTES(key, key_len);
+  for (i = 0; i < key_len; i++) hash = (hash ^ ((const uint8_t *)key)[i]) * 16777619u;
+  return segcache_put(&clients[(hash ^ hash >> 15) % count], key, key_len, value, value_len, now);
 }
 
 /* Stores a value, and makes no room: NO_ROOM if no row is left, as before a client's first put. Where the deadline of

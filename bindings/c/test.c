@@ -476,6 +476,7 @@ int main(void) {
   test_memory_of_open();
   test_memory_of_close();
   test_shards();
+  test_writers();
   CHECK(out == before);
   printf("%d checks, %d faults\n", checks, faults);
   return faults == 0 ? 0 : 1;

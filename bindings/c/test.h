@@ -45,5 +45,6 @@ void test_holds(void);
 void test_notes(void);
 void test_debug(void);
 void test_shards(void);
+void test_writers(void);
 
 #endif

@@ -56,6 +56,11 @@ uint32_t segcache_raw_open(uint32_t keys, uint32_t threads, H cache, H clients, 
   fill(cache, 1);
   return fill(clients, count);
 }
+uint32_t segcache_raw_open_for_writers(uint32_t keys, uint32_t writers, H cache, H clients, size_t count) {
+  tell("open_for_writers %u %u %zu %zu %zu", keys, writers, count, empty(cache, 1), empty(clients, count));
+  fill(cache, 1);
+  return fill(clients, count);
+}
 uint32_t segcache_raw_open_shape(const segcache_shape *shape, H cache, H clients, size_t count) {
   tell("open_shape %p %zu %zu %zu", AT shape, count, empty(cache, 1), empty(clients, count));
   fill(cache, 1);
@@ -173,6 +178,32 @@ static void test_writes(segcache_client *client) {
   PASSES(segcache_make_room(client, 207), "make_room %p 207", raw);
 }
 
+/* A fill is a put by one of the clients: by the only one, or by the same one each time. */
+static void test_fill(segcache_client *client) {
+  segcache_client clients[3];
+  const char key[] = "key", value[] = "value";
+  int puts[3] = {0};
+  memset(clients, 0, sizeof clients);
+  PASSES(segcache_fill(client, 1, key, 3, value, 5, 211), "put %p %p 3 %p 5 211", AT & client->raw, AT key, AT value);
+  for (unsigned i = 0; i < 600; i++) {
+    void *at = NULL;
+    segcache_fill(clients, 3, &i, sizeof i, value, 5, 212);
+    sscanf(told, "put %p", &at);
+    for (int j = 0; j < 3; j++) puts[j] += at == &clients[j].raw;
+    char first[sizeof told];
+    strcpy(first, told);
+    segcache_fill(clients, 3, &i, sizeof i, value, 5, 212);
+    checks++;
+    if (strcmp(first, told) != 0) faults++, printf("a key is filled by two clients: %s, %s\n", first, told);
+  }
+  for (int j = 0; j < 3; j++) {
+    checks++;
+    if (puts[j] < 150 || puts[j] > 250) faults++, printf("client %d fills %d of 600 keys\n", j, puts[j]);
+  }
+  STOPS(segcache_fill(clients, 0, key, 3, value, 5, 213), SEGCACHE_NO_HANDLE);
+  STOPS(segcache_fill(NULL, 3, key, 3, value, 5, 214), SEGCACHE_NO_HANDLE);
+}
+
 static void test_settings(segcache_client *client) {
   segcache_stats_t stats;
   segcache_index_stats_t table;
@@ -191,22 +222,29 @@ static int is_zeroed(const void *at, size_t length) {
   return length == 0;
 }
 
+/* Each of the ways to open a cache with two clients. */
+static uint32_t open_by(int way, const segcache_shape *shape, segcache *cache, segcache_client *clients) {
+  if (way == 0) return segcache_open(100, 2, cache, clients);
+  return way == 1 ? segcache_open_for_writers(100, 2, 1, cache, clients) : segcache_open_shape(shape, cache, clients);
+}
+
 static void test_opening(void) {
   segcache cache;
   segcache_client clients[64];
   segcache_shape shape = {4, 4, 3, 2, 8, 7};
   PASSES(segcache_open(100, 64, &cache, clients), "open 100 64 64 1 64");
   PASSES(segcache_open(99, 0, &cache, clients), "open 99 0 0 1 0");
+  PASSES(segcache_open_for_writers(98, 64, 5, &cache, clients), "open_for_writers 98 5 64 1 64");
+  PASSES(segcache_open_for_writers(97, 2, 0, &cache, clients), "open_for_writers 97 0 2 1 2");
   PASSES(segcache_open_shape(&shape, &cache, clients), "open_shape %p 3 1 3", AT & shape);
   shape.passes = 64;
   PASSES(segcache_open_shape(&shape, &cache, clients), "open_shape %p 64 1 64", AT & shape);
   shape.passes = 2;
-  for (int i = 0; i < 4; i++) {
+  for (int i = 0; i < 6; i++) {
     memset(&cache, 1, sizeof cache);
     memset(clients, 1, sizeof clients);
-    answer = i / 2 ? SEGCACHE_OUT_OF_MEMORY : SEGCACHE_OK;
-    if (i % 2) segcache_open(100, 2, &cache, clients);
-    else segcache_open_shape(&shape, &cache, clients);
+    answer = i / 3 ? SEGCACHE_OUT_OF_MEMORY : SEGCACHE_OK;
+    open_by(i % 3, &shape, &cache, clients);
     int zeroed = is_zeroed(&cache, sizeof cache), of_one = is_zeroed(&clients[1], sizeof *clients);
     checks++;
     if (zeroed != (answer != SEGCACHE_OK) || of_one != zeroed || clients[2].raw.full != 1)
@@ -214,6 +252,7 @@ static void test_opening(void) {
   }
   memset(clients, 1, sizeof clients);
   STOPS(segcache_open(100, 65, &cache, clients), SEGCACHE_BAD_SHAPE);
+  STOPS(segcache_open_for_writers(100, 65, 1, &cache, clients), SEGCACHE_BAD_SHAPE);
   shape.passes = 65;
   STOPS(segcache_open_shape(&shape, &cache, clients), SEGCACHE_BAD_SHAPE);
 }
@@ -224,13 +263,12 @@ static void test_version(void) {
   segcache_client clients[64];
   segcache_shape shape = {4, 4, 2, 2, 8, 7};
   const uint32_t others[] = {SEGCACHE_VERSION_NUMBER - 1, SEGCACHE_VERSION_NUMBER + 1};
-  for (int i = 0; i < 4; i++) {
-    of_version = others[i / 2];
+  for (int i = 0; i < 6; i++) {
+    of_version = others[i / 3];
     answer = SEGCACHE_OK;
     memset(&cache, 1, sizeof cache);
     memset(clients, 1, sizeof clients);
-    STOPS(i % 2 ? segcache_open(100, 2, &cache, clients) : segcache_open_shape(&shape, &cache, clients),
-          SEGCACHE_OTHER_VERSION);
+    STOPS(open_by(i % 3, &shape, &cache, clients), SEGCACHE_OTHER_VERSION);
     checks += 2;
     if (segcache_version() != of_version)
       faults++, printf("the version is %u, and not %u\n", segcache_version(), of_version);
@@ -426,6 +464,7 @@ int main(void) {
   segcache_open(100, 1, &other, &foreign);
   test_reads(&client);
   test_writes(&client);
+  test_fill(&client);
   test_settings(&client);
   test_homes(&cache, &client, &other, &foreign);
   test_null_handles(&cache, &client);

@@ -99,8 +99,9 @@ static void list(void) {
   expect(segcache_cursor_free(&cursor), SEGCACHE_OK);
 }
 
-static void open_and_free(void) {
-  open_cache();
+static void open_fill_and_free(void) {
+  expect(segcache_open_for_writers(1000, 2, 1, &cache, clients), SEGCACHE_OK);
+  expect(segcache_fill(clients, 2, "k", 1, "v", 1, 0), SEGCACHE_OK);
   for (int i = 0; i < 2; i++) expect(segcache_give_back(&cache, &clients[i]), SEGCACHE_OK);
   expect(segcache_free(&cache), SEGCACHE_OK);
 }
@@ -141,7 +142,7 @@ int main(void) {
                {"count", count},
                {"close", close_cache},
                {"list", list},
-               {"open, free", open_and_free}};
+               {"open for writers, fill, free", open_fill_and_free}};
   size_t bare = used_by(nothing);
   for (size_t i = 0; i < sizeof calls / sizeof *calls; i++) {
     size_t used = used_by(calls[i].call) - bare;

@@ -54,6 +54,7 @@ impl Drop for Shared {
 pub struct Builder {
     keys: u32,
     threads: u32,
+    writers: Option<u32>,
     shape: Option<Shape>,
 }
 
@@ -74,7 +75,15 @@ impl Builder {
         self
     }
 
-    /// The shape of one table, in place of a number of keys and of threads.
+    /// How many of the threads store, whichever these are: 1 to all of them. All, if it isn't said. The share of
+    /// each client is then its part of the keys among the writers: with one writer that one has room for all keys.
+    #[must_use]
+    pub fn writers(mut self, writers: u32) -> Builder {
+        self.writers = Some(writers);
+        self
+    }
+
+    /// The shape of one table, in place of the numbers of keys, threads and writers.
     #[must_use]
     pub fn shape(mut self, shape: Shape) -> Builder {
         self.shape = Some(shape);
@@ -98,9 +107,12 @@ impl Builder {
         let (at, len) = (clients.as_mut_ptr(), clients.len());
         // SAFETY: the handles are none and apart from each other, and the length is that of the list.
         let status = unsafe {
-            match &self.shape {
-                Some(shape) => raw::segcache_raw_open_shape(shape, &mut cache, at, len),
-                None => raw::segcache_raw_open(self.keys, self.threads, &mut cache, at, len),
+            match (&self.shape, self.writers) {
+                (Some(shape), _) => raw::segcache_raw_open_shape(shape, &mut cache, at, len),
+                (None, Some(writers)) => {
+                    raw::segcache_raw_open_for_writers(self.keys, writers, &mut cache, at, len)
+                }
+                (None, None) => raw::segcache_raw_open(self.keys, self.threads, &mut cache, at, len),
             }
         };
         if status != 0 {
@@ -123,7 +135,7 @@ impl Cache {
     /// Begins to say how large a cache is to be.
     #[must_use]
     pub fn builder() -> Builder {
-        Builder { keys: 10_000, threads: 1, shape: None }
+        Builder { keys: 10_000, threads: 1, writers: None, shape: None }
     }
 
     /// Closes the cache, once its clients are dropped, and lists its content: table by table, each in the order

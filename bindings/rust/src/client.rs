@@ -29,7 +29,8 @@ pub enum Cas {
     NotFound,
 }
 
-/// How many calls of one client came to what.
+/// How many calls of one client came to what. `keys_evicted` has the keys that stood, expired ones among them. Where
+/// nothing expires it stays 0 as long as the client has room for what it stores.
 #[repr(C)]
 #[derive(Clone, Copy, Debug, Default, PartialEq, Eq)]
 #[allow(missing_docs)]
@@ -160,6 +161,20 @@ impl Client {
     /// [`Error::NoRoom`], [`Error::BucketFull`], [`Error::Busy`], [`Error::BadKey`], [`Error::BadValue`].
     pub fn put(&self, key: impl AsRef<[u8]>, value: impl AsRef<[u8]>) -> Result<(), Error> {
         done(self.write(raw::segcache_raw_put, key.as_ref(), value.as_ref()))
+    }
+
+    /// A [`Client::put`] by one of these clients, which the key chooses: so one thread fills a cache, and uses the
+    /// room of all clients. A key that is filled twice goes to the same client.
+    ///
+    /// # Errors
+    /// As [`Client::put`].
+    ///
+    /// # Panics
+    /// If there is no client.
+    pub fn fill(clients: &[Client], key: impl AsRef<[u8]>, value: impl AsRef<[u8]>) -> Result<(), Error> {
+        let with_byte = |hash: u32, byte: &u8| (hash ^ u32::from(*byte)).wrapping_mul(16_777_619);
+        let hash = key.as_ref().iter().fold(2_166_136_261, with_byte);
+        clients[(hash ^ hash >> 15) as usize % clients.len()].put(key, value)
     }
 
     /// Stores a value, and makes no room: [`Error::NoRoom`] if no row is left, as before a client's first put.

@@ -82,6 +82,28 @@ fn each_write_hands_its_arguments_on() {
 }
 
 #[test]
+fn a_key_is_filled_by_one_client() {
+    let (_cache, clients) = open(Cache::builder().threads(4));
+    calls();
+    let filled = |number: u32| {
+        clients[2].set_now(3);
+        Client::fill(&clients, number.to_string(), "v").unwrap();
+        calls().remove(0)
+    };
+    let firsts: Vec<String> = (0..100).map(filled).collect();
+    for number in 0..100 {
+        assert_eq!(filled(number), firsts[number as usize]);
+    }
+    for handle in 100..104 {
+        let now = if handle == 102 { 3 } else { 0 };
+        let number = firsts.iter().position(|call| call.starts_with(&format!("put {handle}"))).unwrap();
+        assert_eq!(firsts[number], format!("put {handle} {number} v {now}"));
+    }
+    let (_other, client) = at(0);
+    passes(|| Client::fill(std::slice::from_ref(&client), "k", "v"), "put 100 k v 0", &[]);
+}
+
+#[test]
 fn settings_and_counts_hand_their_arguments_on() {
     let (_cache, client) = at(0);
     client.set_time_to_live(12);
@@ -157,7 +179,11 @@ fn a_builder_asks_for_what_it_was_told() {
     assert_eq!(calls()[0], "open 10000 1 1");
     open(Cache::builder().keys(5).threads(64));
     assert_eq!(calls()[0], "open 5 64 64");
+    open(Cache::builder().keys(5).threads(3).writers(2));
+    assert_eq!(calls()[0], "open_for_writers 5 2 3");
     let shape = Shape { buckets: 1, overflow: 2, passes: 64, segments_each: 4, rows: 5, first_version: 6 };
+    open(Cache::builder().keys(5).threads(3).writers(2).shape(shape));
+    assert_eq!(calls()[0], format!("open_shape {shape:?} 64"));
     open(Cache::builder().keys(5).threads(2).shape(shape));
     assert_eq!(calls()[0], format!("open_shape {shape:?} 64"));
     assert_eq!(Cache::builder().threads(65).build().err(), Some(Error::BadShape));

@@ -31,6 +31,31 @@ fn a_builder_that_is_told_nothing_makes_one_client_for_10_000_keys() {
     assert!(stays(100_000) < 40_000);
 }
 
+fn found(client: &Client, keys: u32) -> usize {
+    (0..keys).filter(|key| client.get(key.to_le_bytes()).unwrap().is_some()).count()
+}
+
+#[test]
+fn one_writer_of_four_clients_has_room_for_all_keys() {
+    let (_cache, clients) = Cache::builder().keys(1_000).threads(4).writers(1).build().unwrap();
+    for _ in 0..10 {
+        (0_u32..1_000).for_each(|key| clients[2].put(key.to_le_bytes(), "v").unwrap());
+    }
+    assert_eq!(found(&clients[0], 1_000), 1_000);
+    assert_eq!(clients[2].stats().keys_evicted, 0);
+    for writers in [0, 5] {
+        let builder = Cache::builder().threads(4).writers(writers);
+        assert_eq!(builder.build().err(), Some(Error::BadShape));
+    }
+}
+
+#[test]
+fn one_thread_fills_the_room_of_all_clients() {
+    let (_cache, clients) = Cache::builder().keys(1_000).threads(4).build().unwrap();
+    (0_u32..1_000).for_each(|key| Client::fill(&clients, key.to_le_bytes(), "v").unwrap());
+    assert_eq!(found(&clients[3], 1_000), 1_000);
+}
+
 #[test]
 fn as_many_clients_as_there_may_be_share_a_cache() {
     let (_cache, clients) = Cache::builder().keys(1000).threads(64).build().unwrap();
