@@ -115,6 +115,9 @@ fn no_request_passes_over_the_limit(rt: HostRuntime) {
             &(ADDRESSES * MOST),
         );
     }
+    for client in clients.iter() {
+        same(&rt, &client.stats().keys_evicted, &0);
+    }
 }
 
 // How many events the clients take for new, each of which is seen by all of them, in several orders.

@@ -5,8 +5,8 @@ ghost use Rattle.segshards.specs.Shards.{AreOfShards};
 use crate::same::{check_that, same};
 use segclient::Shape;
 use segshards::{
-    Cache, Client, DeleteAnswer, GetAnswer, GetsAnswer, HoldAnswer, Key, Pass, PutAnswer, Value,
-    WriteAnswer, clients_stay,
+    Cache, Client, DeleteAnswer, GetAnswer, GetsAnswer, HoldAnswer, Key, Pass, PutAnswer,
+    ShardPlan, Value, WriteAnswer, clients_stay,
 };
 use std::alloc::AllocGlobal;
 use std::process::Abort;
@@ -170,4 +170,33 @@ fn each_shard_is_closed(rt: HostRuntime) {
         listed = listed.saturating_add(content.len());
     }
     same(&rt, &listed, &(KEYS as usize));
+}
+
+// One of two clients stores all keys, three times each, in a cache for one writer.
+#[test]
+fn one_writer_has_room_for_all_keys(rt: HostRuntime) {
+    let (cache, passes) = Cache::for_writers(rt.alloc(), 1_000, 2, 1).expect(&rt, "a cache");
+    let (mut first, mut second) = two_clients(&rt, &cache, passes);
+    for _ in 0..3 {
+        put_numbers(&rt, &mut first, 1_000);
+    }
+    same(&rt, &first.stats().keys_evicted, &0);
+    for number in 0..1_000 {
+        same(
+            &rt,
+            &second.get(&key_of(&rt, number)),
+            &wanted(&rt, number, 1_000),
+        );
+    }
+}
+
+// If all threads store, the plan is that of `for_keys`.
+#[test]
+fn as_many_writers_as_threads_have_the_plan_for_keys(rt: HostRuntime) {
+    for threads in 0..66 {
+        for keys in [0, 1, 7, 1_000, 262_144, 262_145, 1_000_003, u32::MAX] {
+            let plan = ShardPlan::for_writers(keys, threads, threads);
+            check_that(&rt, plan == ShardPlan::for_keys(keys, threads));
+        }
+    }
 }
