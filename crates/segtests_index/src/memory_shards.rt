@@ -1,9 +1,11 @@
-//! A cache of shards out of memory: each request of its opening, its clients and its end
-//! is refused in turn. A note makes no request.
-use crate::hoard::{RUNS, STEP, check_refused, hoard, is_none_left, leave};
-use crate::same::{check_that, same};
-use segshards::{Cache, Shape};
-use std::alloc::Global;
+//! A cache of shards out of memory: each request of its opening, its clients, a note and its end
+//! is refused in turn.
+ghost use Rattle.segshards.specs.Clients.{AreAllClients};
+
+use crate::hoard::{RUNS, STEP, check_refused, hoard, leave};
+use crate::same::same;
+use segshards::{Cache, Client, Shape, clients_stay};
+use std::alloc::{AllocError, Global};
 
 const SHAPE: Shape = Shape {
     buckets: 1,
@@ -17,11 +19,29 @@ const SHAPE: Shape = Shape {
 // How many shards the cache has.
 const SHARDS: u32 = 3;
 
-// Opens a cache, makes its clients, and closes it shard by shard.
+// The client at a place makes a note of all shards. All clients are that still.
+fn note_by_one(
+    alloc: Global,
+    cache: &Cache,
+    clients: &mut [Client<'_>],
+    place: usize,
+) -> Result<(), AllocError>
+    requires { AreAllClients cache.now.shards.items clients.old }
+    ensures { AreAllClients cache.now.shards.items clients.new }
+{
+    if place < clients.len() {
+        clients_stay();
+        clients[place].note(alloc)?;
+    }
+    Ok(())
+}
+
+// Opens a cache, makes its clients and a note, and closes it shard by shard.
 // Returns how many shards were closed, or None if memory was refused before.
 fn open_and_close(alloc: Global) -> Option<usize> {
     let (cache, passes) = Cache::of_shards(alloc, SHAPE, SHARDS).ok()?;
-    let clients = cache.clients(alloc, passes).ok()?;
+    let mut clients = cache.clients(alloc, passes).ok()?;
+    note_by_one(alloc, &cache, clients.as_mut_slice(), 1).ok()?;
     let passes = cache.into_passes(alloc, clients).ok()?;
     let shards = cache.into_whole_shards(alloc, passes).ok()?;
     let mut closed = 0usize;
@@ -49,20 +69,4 @@ fn a_cache_is_opened_and_closed_or_memory_is_wanted(rt: HostRuntime) {
     }
     drop(all);
     check_refused(&rt, refused);
-}
-
-// The notes of the shards have no bytes, and so their list has none.
-#[test]
-fn a_note_of_all_shards_needs_no_memory(rt: HostRuntime) {
-    let (cache, passes) = Cache::of_shards(rt.alloc(), SHAPE, SHARDS).expect(&rt, "a cache");
-    let mut clients = cache.clients(rt.alloc(), passes).expect(&rt, "clients");
-    let mut client = clients.pop().expect(&rt, "a client");
-    let all = hoard(rt.alloc()).expect(&rt, "memory");
-    let taken = leave(rt.alloc(), 0).expect(&rt, "memory");
-    let is_none_left = is_none_left(rt.alloc());
-    let is_made = client.note(rt.alloc()).is_ok();
-    drop(taken);
-    drop(all);
-    check_that(&rt, is_none_left);
-    check_that(&rt, is_made);
 }
