@@ -38,7 +38,7 @@ fault_of_replay replay.OutOfMemory = fault.OutOfMemory
 -- the program's fault if a trace ended with this fault
 abbrev pub fault_of_trace : TraceFault → ProgramFault
 fault_of_trace trace.Read = fault.Read
-fault_of_trace (trace.Line n) = fault.BadLine n
+fault_of_trace (trace.Line n why) = fault.BadRow n why
 fault_of_trace trace.OutOfMemory = fault.OutOfMemory
 fault_of_trace trace.TooLong = fault.TooLong
 
@@ -50,6 +50,7 @@ end_of_run (Err f) = Err (fault_of_run f)
 -- the line that the program prints
 abbrev pub fault_line : ProgramFault → List ℕ
 fault_line (fault.BadLine n) = codes "bad line " ++ decimal n ++ codes "\n"
+fault_line (fault.BadRow n why) = codes "bad line " ++ decimal n ++ codes "\n"
 fault_line fault.BadWord = codes "bad word\n"
 fault_line fault.BadArguments = codes "bad arguments: not UTF-8\n"
 fault_line (fault.BadShape f) = codes "bad shape " ++ decimal (fault_number f) ++ codes "\n"
@@ -62,6 +63,7 @@ fault_line (fault.Stopped pass) = codes "stopped pass " ++ decimal pass ++ codes
 -- the status that the program ends with: 2 for a bad line, a bad word or bad arguments, else 3
 abbrev pub fault_status : ProgramFault → ℕ
 fault_status (fault.BadLine n) = 2
+fault_status (fault.BadRow n why) = 2
 fault_status fault.BadWord = 2
 fault_status fault.BadArguments = 2
 fault_status (fault.BadShape f) = 3

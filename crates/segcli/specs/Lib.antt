@@ -5,6 +5,7 @@ pub mod Commands
 pub mod Explained
 pub mod Faults
 pub mod Given
+pub mod TraceNotes
 pub mod Notes
 pub mod Printing
 pub mod Program
@@ -13,3 +14,4 @@ pub mod Stats
 pub mod Streams
 pub mod Totals
 pub mod Replayed
+pub mod Hints

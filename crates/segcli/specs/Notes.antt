@@ -9,6 +9,7 @@ use Rattle.segcli.specs.declared.command.Command.{Command}
 use Rattle.segcli.specs.declared.command.Command.TheVariants as command
 use Rattle.segcli.specs.declared.fault.ProgramFault.{ProgramFault}
 use Rattle.segcli.specs.declared.fault.ProgramFault.TheVariants as fault
+use Rattle.segcli.specs.TraceNotes.{trace_note}
 
 -- ---- a shape
 
@@ -64,6 +65,7 @@ note_of_word _ = []
 
 abbrev pub note_of_fault : Command → ProgramFault → List ℕ
 note_of_fault asked (fault.BadShape f) = shape_note f
+note_of_fault asked (fault.BadRow n why) = trace_note why
 note_of_fault asked fault.BadWord = note_of_word asked
 note_of_fault asked _ = []
 

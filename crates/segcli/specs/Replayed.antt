@@ -1,6 +1,7 @@
 -- What the program prints of a replay.
 use Rattle.std.specs.Prelude.{◌≡◌, ◌*◌, ◌/◌, ◌%◌, ℕ, max, Bool, List, [], ◌∷◌, ◌++◌, codes, decimal, if◌then◌else◌, nat_lt}
 use Rattle.std.specs.List.{flat_map}
+use Rattle.segword.specs.Words.{Shape}
 use Rattle.segreplay.specs.declared.cache.Policy.{Policy}
 use Rattle.segreplay.specs.declared.cache.Policy.TheVariants as policy
 use Rattle.segreplay.specs.declared.counts.Counts.{Counts}
@@ -39,23 +40,29 @@ policy_text policy.Default = codes "default"
 policy_text policy.Nothing = codes "nothing"
 policy_text (policy.Cutoff least) = codes "cutoff:" ++ decimal least
 
--- the share of the gets that hit, in hundredths, with two places
+-- the share of the gets that hit, in hundredths of a hundredth
 abbrev pub share : ℕ → ℕ → ℕ
 share hits gets = hits * 10000 / max gets 1
 
 abbrev pub point : ℕ → List ℕ
 point places = if nat_lt places 10 then codes ".0" else codes "."
 
-abbrev pub rate_part : ℕ → List ℕ
-rate_part rate =
-    codes " rate=" ++ decimal (rate / 100) ++ point (rate % 100) ++ decimal (rate % 100)
+-- a share in hundredths behind a name, with two places
+abbrev pub rate_part : List ℕ → ℕ → List ℕ
+rate_part name rate =
+    name ++ decimal (rate / 100) ++ point (rate % 100) ++ decimal (rate % 100)
+
+-- how many rows all segments of all passes have
+abbrev pub rows_of : Shape → ℕ
+rows_of shape = shape.passes * shape.segments_each * shape.rows
 
 abbrev pub cache_line : CacheTotals → List ℕ
 cache_line totals =
     let c : Counts = totals.counts in
-    policy_text totals.cache.policy ++ codes " bytes=" ++ decimal totals.bytes
+    policy_text totals.cache.policy ++ codes " rows=" ++ decimal (rows_of totals.cache.shape)
+    ++ codes " bytes=" ++ decimal totals.bytes
     ++ codes " gets=" ++ decimal c.gets ++ codes " hits=" ++ decimal c.hits
-    ++ rate_part (share c.hits c.gets) ++ codes " sets=" ++ decimal c.sets
+    ++ rate_part (codes " rate=") (share c.hits c.gets) ++ codes " sets=" ++ decimal c.sets
     ++ codes " deletes=" ++ decimal c.deletes ++ codes " evicted=" ++ decimal c.evicted
     ++ codes " kept=" ++ decimal c.kept ++ codes " refused=" ++ decimal c.refused
     ++ codes " busy=" ++ decimal c.busy ++ codes "\n"
@@ -66,8 +73,10 @@ abbrev pub cache_object : CacheTotals → List ℕ
 cache_object totals =
     let c : Counts = totals.counts in
     codes "{\"policy\":\"" ++ policy_text totals.cache.policy
-    ++ codes "\",\"bytes\":" ++ decimal totals.bytes
+    ++ codes "\",\"rows\":" ++ decimal (rows_of totals.cache.shape)
+    ++ codes ",\"bytes\":" ++ decimal totals.bytes
     ++ codes ",\"gets\":" ++ decimal c.gets ++ codes ",\"hits\":" ++ decimal c.hits
+    ++ rate_part (codes ",\"rate\":") (share c.hits c.gets)
     ++ codes ",\"sets\":" ++ decimal c.sets ++ codes ",\"deletes\":" ++ decimal c.deletes
     ++ codes ",\"evicted\":" ++ decimal c.evicted ++ codes ",\"kept\":" ++ decimal c.kept
     ++ codes ",\"refused\":" ++ decimal c.refused ++ codes ",\"busy\":" ++ decimal c.busy

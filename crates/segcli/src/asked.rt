@@ -55,7 +55,7 @@ pub struct Replay<'a> {
     pub format: Format,
     /// Whether a watch looks on.
     pub progress: bool,
-    /// Whether the fault of a bad shape is explained.
+    /// Whether the fault of a bad line or a bad shape is explained.
     pub explain: bool,
 }
 

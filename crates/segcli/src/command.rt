@@ -227,6 +227,7 @@ fn perform_replay<R: Threads + Wait + AllocGlobal + Sync, S: Source, W: Sink, V:
         is_asked: asked.progress,
     };
     let replayed = replay(host.rt, host.alloc, source, &plan_of(asked), &follow)?;
+    host.watch.replayed(asked, replayed.totals.as_slice());
     let text = text_of_replay(host.alloc, asked.format, replayed.totals.as_slice())?;
     let shown = show(text.as_slice(), writer);
     end_of_replay(shown, replayed.end)

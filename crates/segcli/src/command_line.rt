@@ -85,15 +85,15 @@ writes to standard error, about twice a second, a line as
 const REPLAY: &str = "Replays a trace through a cache, and writes how often its gets hit";
 
 const AFTER_REPLAY: &str =
-    "Lines: get KEY, which puts what it misses; KEY alone, the same; set KEY; delete KEY. With --csv a line is
-TIME,KEY,OP,TTL: the clock shows TIME, and a segment that the line refills lives for TTL (0: it lasts).
-A key over 24 bytes goes by its hash. Empty lines and a header time,key,op,ttl count for nothing. A
-bad line ends the replay with status 2, behind the totals of the lines before it.
+    "Lines: get KEY, which puts what it misses; KEY, the same; set KEY; delete KEY. With --csv TIME,KEY,OP,TTL,
+Twitter's seven fields, or columns that a header names (timestamp, key, op, ttl; others are skipped).
+The clock shows TIME (from 10^12 on milliseconds), and a segment that the line refills lives for TTL (0:
+it lasts). A key over 24 bytes goes by its hash. Empty lines count for nothing. A bad line ends the
+replay with status 2, behind the totals of the lines before it; --explain says why it is bad.
 
-The totals are a line or an object for each cache: bytes of its table and its clients' queues, gets,
-hits, their rate in %, sets, deletes, evicted keys, items kept, puts refused for want of room, and
-commands that were busy. --policy all compares default, nothing and cutoff:3. --sizes compares six
-caches, each with half of the buckets and rows of the one before. All caches are there at once.
+The totals are a line or an object for each cache: its rows, its bytes with those of its clients' queues,
+gets, hits, their rate in %, sets, deletes, evicted keys, items kept, puts refused for want of room, busy
+commands. --policy all compares default, nothing and cutoff:3, --sizes six caches, each half of the last.
 
 Examples:
   segrun replay --for-keys 100000 trace
@@ -230,7 +230,11 @@ fn load<'a>(alloc: Global) -> Result<Command<'a>, AllocError>
 fn replay<'a>(alloc: Global) -> Result<Command<'a>, AllocError>
     ensures { IfOk result (Builds (alone replay_rules)) }
 {
-    let csv = flag(alloc, "csv", "The lines are TIME,KEY,OP,TTL");
+    let csv = flag(
+        alloc,
+        "csv",
+        "The lines are TIME,KEY,OP,TTL, Twitter's, or as a header names them",
+    );
     let format = choice(
         alloc,
         "format",
@@ -245,7 +249,7 @@ fn replay<'a>(alloc: Global) -> Result<Command<'a>, AllocError>
     let explain = flag(
         alloc,
         "explain",
-        "Says on standard error why a shape is bad",
+        "Says on standard error why a line or a shape is bad",
     );
     let command = Command::new(alloc, "replay")
         .about(REPLAY)

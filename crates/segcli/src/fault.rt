@@ -6,7 +6,7 @@ ghost use Rattle.segcli.specs.Printing.{PrintOutcome, IsPrinted, IsFlushed, WasF
 
 use segindex::MakeFault;
 use segload::LoadFault;
-use segreplay::{ReplayFault, TraceFault};
+use segreplay::{LineFault, ReplayFault, TraceFault};
 use segscript::{Failed, Line, RunFault, Sink, line_of, put, put_number, write_all};
 use segword::ShapeFault;
 use std::alloc::AllocError;
@@ -16,6 +16,8 @@ use std::alloc::AllocError;
 pub enum ProgramFault {
     /// This line of the script is the first bad one. Lines are counted from 1.
     BadLine(u64),
+    /// This line of the trace is the first bad one, for this reason. Lines are counted from 1.
+    BadRow(u64, LineFault),
     /// A word isn't 16 hexadecimal digits, or has no reading as an item word.
     BadWord,
     /// The arguments aren't text.
@@ -90,7 +92,7 @@ impl From<TraceFault> for ProgramFault {
     fn from(fault: TraceFault) -> ProgramFault {
         match fault {
             TraceFault::Read => ProgramFault::Read,
-            TraceFault::Line(number) => ProgramFault::BadLine(number),
+            TraceFault::Line(number, why) => ProgramFault::BadRow(number, why),
             TraceFault::OutOfMemory => ProgramFault::OutOfMemory,
             TraceFault::TooLong => ProgramFault::TooLong,
         }
@@ -113,7 +115,10 @@ impl ProgramFault {
         ensures { result ≡ fault_status self }
     {
         match self {
-            ProgramFault::BadLine(_) | ProgramFault::BadWord | ProgramFault::BadArguments => 2,
+            ProgramFault::BadLine(_)
+            | ProgramFault::BadRow(_, _)
+            | ProgramFault::BadWord
+            | ProgramFault::BadArguments => 2,
             ProgramFault::BadShape(_)
             | ProgramFault::OutOfMemory
             | ProgramFault::Read
@@ -128,7 +133,7 @@ impl ProgramFault {
         ensures { result.items ≡ fault_line self }
     {
         match self {
-            ProgramFault::BadLine(number) => {
+            ProgramFault::BadLine(number) | ProgramFault::BadRow(number, _) => {
                 let mut text = line_of(b"bad line ");
                 put_number(&mut text, number);
                 put(&mut text, b"\n");

@@ -10,6 +10,7 @@ ghost use Rattle.segcli.specs.Printing.{PrintOutcome, IsPrinted, IsFlushed, WasF
 use crate::asked::{Word, WordKind};
 use crate::command::Command;
 use crate::fault::{ProgramFault, print};
+use crate::trace_note::trace_note;
 use segscript::{Failed, Line, Sink, line_of, put, put_number, write_all};
 use segword::ShapeFault;
 
@@ -103,6 +104,7 @@ fn note_of_fault(command: &Command<'_>, fault: ProgramFault) -> Line
 {
     match fault {
         ProgramFault::BadShape(fault) => shape_note(fault),
+        ProgramFault::BadRow(_, why) => trace_note(why),
         ProgramFault::BadWord => note_of_word(command),
         _ => Line::new(),
     }

@@ -3,9 +3,10 @@ ghost use Rattle.std.specs.Prelude.{◌≡◌, ◌*◌, ◌/◌, ◌++◌, max, 
 ghost use Rattle.segload.specs.Words.{lets_all_through};
 ghost use Rattle.segcli.specs.Progress.{progress_text, rate_text, replay_line};
 
+use crate::asked::Replay;
 use crate::totals::{put, put_count};
 use segload::{Gate, Totals};
-use segreplay::Follow;
+use segreplay::{CacheTotals, Follow};
 use std::alloc::{AllocError, Global};
 use std::sync::atomic::{AtomicU64, Ordering};
 
@@ -19,6 +20,9 @@ pub trait Watch: Sync {
 
     /// The load has ended with these totals. The call is made if the load is asked for its stats.
     fn ended(&self, _totals: &Totals) {}
+
+    /// The replay has ended with these totals, which aren't written yet.
+    fn replayed(&self, _asked: &Replay<'_>, _totals: &[CacheTotals]) {}
 }
 
 /// A watch that does nothing.

@@ -3,11 +3,12 @@ ghost use Rattle.std.specs.Prelude.{◌≡◌, ◌++◌, codes, IfOk};
 ghost use Rattle.std.specs.List.{flat_map};
 ghost use Rattle.segcli.specs.Replayed.{cache_line, cache_object, IsPlanOf, next_object, point};
 ghost use Rattle.segcli.specs.Replayed.{policies_of, policy_text, rate_part, replay_json};
-ghost use Rattle.segcli.specs.Replayed.{replay_text, share, sizes_of};
+ghost use Rattle.segcli.specs.Replayed.{replay_text, rows_of, share, sizes_of};
 
 use crate::asked::{Format, Policies, Replay};
 use crate::totals::{put, put_count};
 use segreplay::{CacheTotals, Plan, Policy};
+use segword::Shape;
 use std::alloc::{AllocError, Global};
 use std::slice;
 
@@ -71,11 +72,18 @@ fn point(places: u128) -> &'static [u8]
     if places < 10 { b".0" } else { b"." }
 }
 
-// Puts a share in hundredths, with two places.
-fn put_rate(text: &mut Vec<u8>, rate: u128) -> Result<(), AllocError>
-    ensures text { IfOk result (λ _. text.new.items ≡ text.old.items ++ rate_part rate) }
+/// How many rows a shape has.
+pub(crate) fn rows_of(shape: Shape) -> u128
+    ensures { result ≡ rows_of shape }
 {
-    put_count(text, b" rate=", rate / 100)?;
+    u128::from(shape.passes) * u128::from(shape.segments_each) * u128::from(shape.rows)
+}
+
+// Puts a share in hundredths behind a name, with two places.
+fn put_rate(text: &mut Vec<u8>, name: &[u8], rate: u128) -> Result<(), AllocError>
+    ensures text { IfOk result (λ _. text.new.items ≡ text.old.items ++ rate_part name.now rate) }
+{
+    put_count(text, name, rate / 100)?;
     put_count(text, point(rate % 100), rate % 100)
 }
 
@@ -85,10 +93,11 @@ fn put_line(text: &mut Vec<u8>, totals: &CacheTotals) -> Result<(), AllocError>
 {
     let counts = totals.counts;
     put_policy(text, totals.cache.policy)?;
+    put_count(text, b" rows=", rows_of(totals.cache.shape))?;
     put_count(text, b" bytes=", totals.bytes)?;
     put_count(text, b" gets=", counts.gets)?;
     put_count(text, b" hits=", counts.hits)?;
-    put_rate(text, share(counts.hits, counts.gets))?;
+    put_rate(text, b" rate=", share(counts.hits, counts.gets))?;
     put_count(text, b" sets=", counts.sets)?;
     put_count(text, b" deletes=", counts.deletes)?;
     put_count(text, b" evicted=", counts.evicted)?;
@@ -105,9 +114,11 @@ fn put_object(text: &mut Vec<u8>, totals: &CacheTotals) -> Result<(), AllocError
     let counts = totals.counts;
     put(text, b"{\"policy\":\"")?;
     put_policy(text, totals.cache.policy)?;
-    put_count(text, b"\",\"bytes\":", totals.bytes)?;
+    put_count(text, b"\",\"rows\":", rows_of(totals.cache.shape))?;
+    put_count(text, b",\"bytes\":", totals.bytes)?;
     put_count(text, b",\"gets\":", counts.gets)?;
     put_count(text, b",\"hits\":", counts.hits)?;
+    put_rate(text, b",\"rate\":", share(counts.hits, counts.gets))?;
     put_count(text, b",\"sets\":", counts.sets)?;
     put_count(text, b",\"deletes\":", counts.deletes)?;
     put_count(text, b",\"evicted\":", counts.evicted)?;

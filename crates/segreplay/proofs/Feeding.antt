@@ -1,26 +1,32 @@
 -- A trace that is read byte by byte.
-use Rattle.std.proofs.Common.{◌≡◌, ◌≢◌, ◌≤◌, ◌<◌, ◌+◌, ℕ, List, [], ◌∷◌, ◌++◌, length, take, drop, get_or, false, true, if◌then◌else◌, Option, Some, None, Result, Ok, Err, refl, sym, ap, subst, ◌∙◌, inl, inr, append_assoc, append-nil, arith, length-append}
+use Rattle.std.proofs.Common.{◌≡◌, ◌≢◌, ◌≤◌, ◌<◌, ◌+◌, ℕ, List, [], ◌∷◌, ◌++◌, length, take, drop, get_or, false, Result, Ok, Err, refl, sym, ap, subst, ◌∙◌, inl, inr, append_assoc, append-nil, arith, length-append}
 use Rattle.std.specs.List.{flat_map}
-use Rattle.std.specs.Option.{option_map}
 use Rattle.std.proofs.lemmas.List.{take_more, take-append-drop}
 use Rattle.segclient.specs.Counting.{with_more}
 use Rattle.segscript.specs.Script.{ended, Splits}
 use Rattle.segscript.proofs.LineLemmas.{IsLine-append, Splits-byte, Splits-end}
 use Rattle.segreplay.specs.declared.fault.TraceFault.{TraceFault}
 use Rattle.segreplay.specs.declared.fault.TraceFault.TheVariants as fault
+use Rattle.segreplay.specs.declared.line.Columns.{Columns}
 use Rattle.segreplay.specs.declared.line.Form.{Form}
+use Rattle.segreplay.specs.declared.line.Form.TheVariants as form
+use Rattle.segreplay.specs.declared.line.LineFault.{LineFault}
+use Rattle.segreplay.specs.declared.line.LineFault.TheVariants as line_fault
 use Rattle.segreplay.specs.declared.line.Request.{Request}
+use Rattle.segreplay.specs.declared.line.Stated.{Stated}
+use Rattle.segreplay.specs.declared.line.Stated.TheVariants as states
 use Rattle.segreplay.specs.declared.player.Turn.{Turn}
 use Rattle.segreplay.specs.declared.reading.Reading.{Reading}
 use Rattle.segreplay.specs.declared.reading.Rules.{Rules}
-use Rattle.segreplay.specs.Lines.{is_blank, stated}
+use Rattle.segreplay.specs.Lines.{form_after, stated}
 use Rattle.segreplay.specs.Replays.{is_read_end}
-use Rattle.segreplay.specs.Traces.{EndsBad, EndsEarly, EndsTrace, Feeds, HasRead, line_after, number_after, requests_of, State, TakesLine, turn_of, turns_from}
+use Rattle.segreplay.specs.Traces.{EndsBad, EndsEarly, EndsTrace, Feeds, HasRead, line_after, number_after, requests_in, State, TakesCommand, TakesLine, TakesStated, turn_of, turns_from}
 
-state_more : (form : Form) (lines : List (List ℕ)) (line : List ℕ) (rs more : List Request) → State form lines rs → requests_of form line ≡ Some more → State form (lines ++ line ∷ []) (rs ++ more)
-state_more form [] line rs more said one = (more, [], one, refl, ap (λ l. l ++ more) said ∙ sym (append-nil more))
-state_more form (l ∷ lines) line rs more said one =
-    (said.0, said.1 ++ more, said.2, state_more form lines line said.1 more said.3 one, ap (λ l. l ++ more) said.4 ∙ append_assoc said.0 said.1 more)
+state_more : (form last : Form) (lines : List (List ℕ)) (line : List ℕ) (rs : List Request) (said : Stated) → State form lines rs last → stated last line ≡ Ok said → State form (lines ++ line ∷ []) (rs ++ requests_in said) (form_after last said)
+state_more form last [] line rs said was one =
+    (said, [], subst (λ f. stated f line ≡ Ok said) was.1 one, (refl, ap (λ f. form_after f said) was.1), ap (λ l. l ++ requests_in said) was.0 ∙ sym (append-nil (requests_in said)))
+state_more form last (l ∷ lines) line rs said was one =
+    (was.0, was.1 ++ requests_in said, was.2, state_more (form_after form was.0) last lines line was.1 said was.3 one, ap (λ l. l ++ requests_in said) was.4 ∙ append_assoc (requests_in was.0) was.1 (requests_in said))
 
 turns_more : (rules : Rules) (number : ℕ) (rs more : List Request) → turns_from rules number (rs ++ more) ≡ turns_from rules number rs ++ turns_from rules (number_after number rs) more
 turns_more rules number [] more = refl
@@ -44,9 +50,6 @@ turns_taken rules made old new rs more number was at took =
     ∙ sym (turns_more rules 0 rs more)
 
 module _ (rules : Rules) (seen : List ℕ) (made : List Turn) (old new : Reading) (here : HasRead rules seen made old) where
-  form_same : {r : _} → requests_of old.rules.form old.line.items ≡ r → requests_of rules.form old.line.items ≡ r
-  form_same {r} is = subst (λ (x : Rules). requests_of x.form old.line.items ≡ r) here.same is
-
   taken : (more : List Request) → new.turns.items ≡ old.turns.items ++ turns_from old.rules old.commands more → made ++ new.turns.items ≡ turns_from rules 0 (here.requests ++ more)
   taken more took =
       turns_taken rules made old.turns.items new.turns.items here.requests more old.commands here.turns here.commands
@@ -61,6 +64,7 @@ module _ (rules : Rules) (seen : List ℕ) (made : List Turn) (old new : Reading
 
   early : (more : List ℕ) → new.turns.items ≡ old.turns.items → EndsEarly rules (seen ++ more) (made ++ new.turns.items)
   early more same = record {
+    form = old.form;
     lines = here.lines;
     after = old.line.items ++ more;
     requests = here.requests;
@@ -70,8 +74,9 @@ module _ (rules : Rules) (seen : List ℕ) (made : List Turn) (old new : Reading
     made = kept same;
   }
 
-  bad : (more : List ℕ) (n : ℕ) → n ≡ old.number → requests_of old.rules.form old.line.items ≡ None → new.turns.items ≡ old.turns.items → EndsBad rules (seen ++ more) (made ++ new.turns.items) n
-  bad more n at none same = record {
+  bad : (more : List ℕ) (n : ℕ) (why : LineFault) → n ≡ old.number → stated old.form old.line.items ≡ Err why → new.turns.items ≡ old.turns.items → EndsBad rules (seen ++ more) (made ++ new.turns.items) n why
+  bad more n why at none same = record {
+    form = old.form;
     lines = here.lines;
     bad = old.line.items;
     after = more;
@@ -79,26 +84,32 @@ module _ (rules : Rules) (seen : List ℕ) (made : List Turn) (old new : Reading
     whole = whole more;
     each = here.splits.each;
     unbroken = here.splits.partial;
-    is_bad = inr (form_same none);
+    is_bad = inr none;
     states = here.states;
     made = kept same;
     number = at ∙ here.number;
   }
 
+  -- the lines with the one that has ended now
+  stated_now : (said : Stated) → stated old.form old.line.items ≡ Ok said → new.form ≡ form_after old.form said → State rules.form (here.lines ++ old.line.items ∷ []) (here.requests ++ requests_in said) new.form
+  stated_now said one after =
+      subst (State rules.form (here.lines ++ old.line.items ∷ []) (here.requests ++ requests_in said)) (sym after)
+      (state_more rules.form old.form here.lines old.line.items here.requests said here.states one)
+
   -- the end of a line
   pub line_fed : (end : Result (Unit {0}) TraceFault) → TakesLine old new end → Feeds rules (seen ++ 10 ∷ []) made new end
   line_fed (Ok v) took = record {
     lines = here.lines ++ old.line.items ∷ [];
-    requests = here.requests ++ took.0;
-    same = took.6 ∙ here.same;
-    splits = subst (Splits (seen ++ 10 ∷ []) (here.lines ++ old.line.items ∷ [])) (sym took.4) (Splits-end seen here.lines old.line.items here.splits);
-    short = subst (λ l. length l ≤ 4096) (sym took.4) (omega arith);
-    states = state_more rules.form here.lines old.line.items here.requests took.0 here.states (form_same took.1);
-    turns = taken took.0 took.2;
-    commands = took.3 ∙ ap (λ n. number_after n took.0) here.commands ∙ sym (after_more 0 here.requests took.0);
-    number = took.5 ∙ ap (λ n. with_more n 1) here.number ∙ sym (line_more 1 here.lines old.line.items);
+    requests = here.requests ++ requests_in took.0;
+    same = took.7 ∙ here.same;
+    splits = subst (Splits (seen ++ 10 ∷ []) (here.lines ++ old.line.items ∷ [])) (sym took.5) (Splits-end seen here.lines old.line.items here.splits);
+    short = subst (λ l. length l ≤ 4096) (sym took.5) (omega arith);
+    states = stated_now took.0 took.1 took.4;
+    turns = taken (requests_in took.0) took.2;
+    commands = took.3 ∙ ap (λ n. number_after n (requests_in took.0)) here.commands ∙ sym (after_more 0 here.requests (requests_in took.0));
+    number = took.6 ∙ ap (λ n. with_more n 1) here.number ∙ sym (line_more 1 here.lines old.line.items);
   }
-  line_fed (Err (fault.Line n)) took = bad (10 ∷ []) n took.0 took.1 took.2
+  line_fed (Err (fault.Line n why)) took = bad (10 ∷ []) n why took.0 took.1 took.2
   line_fed (Err fault.OutOfMemory) took = early (10 ∷ []) took
   line_fed (Err fault.Read) took = absurd took
   line_fed (Err fault.TooLong) took = absurd took
@@ -106,27 +117,28 @@ module _ (rules : Rules) (seen : List ℕ) (made : List Turn) (old new : Reading
   -- the end of the trace
   pub line_ended : (end : Result (Unit {0}) TraceFault) → TakesLine old new end → EndsTrace rules seen (made ++ new.turns.items) end
   line_ended (Ok v) took = record {
+    form = new.form;
     lines = here.lines;
     last = old.line.items;
-    requests = here.requests ++ took.0;
+    requests = here.requests ++ requests_in took.0;
     splits = here.splits;
-    states = state_more rules.form here.lines old.line.items here.requests took.0 here.states (form_same took.1);
-    made = taken took.0 took.2;
+    states = stated_now took.0 took.1 took.4;
+    made = taken (requests_in took.0) took.2;
   }
-  line_ended (Err (fault.Line n)) took = subst (λ s. EndsBad rules s (made ++ new.turns.items) n) (append-nil seen) (bad [] n took.0 took.1 took.2)
+  line_ended (Err (fault.Line n why)) took = subst (λ s. EndsBad rules s (made ++ new.turns.items) n why) (append-nil seen) (bad [] n why took.0 took.1 took.2)
   line_ended (Err fault.OutOfMemory) took = subst (λ s. EndsEarly rules s (made ++ new.turns.items)) (append-nil seen) (early [] took)
   line_ended (Err fault.Read) took = absurd took
   line_ended (Err fault.TooLong) took = absurd took
 
   -- a byte of a line
-  pub byte_kept : (byte : ℕ) → byte ≢ 10 → length old.line.items < 4096 → new.rules ≡ old.rules → new.line.items ≡ old.line.items ++ byte ∷ [] → new.turns.items ≡ old.turns.items → new.commands ≡ old.commands → new.number ≡ old.number → HasRead rules (seen ++ byte ∷ []) made new
-  byte_kept byte other room equal line turns commands number = record {
+  pub byte_kept : (byte : ℕ) → byte ≢ 10 → length old.line.items < 4096 → new.rules ≡ old.rules → new.form ≡ old.form → new.line.items ≡ old.line.items ++ byte ∷ [] → new.turns.items ≡ old.turns.items → new.commands ≡ old.commands → new.number ≡ old.number → HasRead rules (seen ++ byte ∷ []) made new
+  byte_kept byte other room equal form line turns commands number = record {
     lines = here.lines;
     requests = here.requests;
     same = equal ∙ here.same;
     splits = subst (Splits (seen ++ byte ∷ []) here.lines) (sym line) (Splits-byte seen here.lines old.line.items byte here.splits other);
     short = subst (λ l. length l ≤ 4096) (sym line) (let long = length-append old.line.items (byte ∷ []) in omega arith);
-    states = here.states;
+    states = subst (State rules.form here.lines here.requests) (sym form) here.states;
     turns = kept turns;
     commands = commands ∙ here.commands;
     number = number ∙ here.number;
@@ -137,8 +149,9 @@ module _ (rules : Rules) (seen : List ℕ) (made : List Turn) (old new : Reading
   byte_lost byte same = early (byte ∷ []) same
 
   -- a byte too many
-  pub byte_over : (byte : ℕ) → byte ≢ 10 → length old.line.items ≡ 4096 → new.turns.items ≡ old.turns.items → Feeds rules (seen ++ byte ∷ []) made new (Err (fault.Line old.number))
+  pub byte_over : (byte : ℕ) → byte ≢ 10 → length old.line.items ≡ 4096 → new.turns.items ≡ old.turns.items → Feeds rules (seen ++ byte ∷ []) made new (Err (fault.Line old.number line_fault.TooLong))
   byte_over byte other full same = record {
+    form = old.form;
     lines = here.lines;
     bad = old.line.items ++ byte ∷ [];
     after = [];
@@ -146,7 +159,7 @@ module _ (rules : Rules) (seen : List ℕ) (made : List Turn) (old new : Reading
     whole = whole (byte ∷ []) ∙ ap (λ l. flat_map ended here.lines ++ l) (sym (append-nil (old.line.items ++ byte ∷ [])));
     each = here.splits.each;
     unbroken = IsLine-append old.line.items (byte ∷ []) here.splits.partial (other, tt);
-    is_bad = inl (let long = length-append old.line.items (byte ∷ []) in omega arith);
+    is_bad = inl ((let long = length-append old.line.items (byte ∷ []) in omega arith), refl);
     states = here.states;
     made = kept same;
     number = here.number;
@@ -158,6 +171,7 @@ next_byte seen bytes i below = append_assoc seen (take i bytes) (get_or bytes i 
 -- the trace ends here, in the middle of a line or not
 pub stopped : (rules : Rules) (seen : List ℕ) (made : List Turn) (r : Reading) → HasRead rules seen made r → EndsEarly rules seen (made ++ r.turns.items)
 stopped rules seen made r here = record {
+  form = r.form;
   lines = here.lines;
   after = r.line.items;
   requests = here.requests;
@@ -169,7 +183,8 @@ stopped rules seen made r here = record {
 
 -- a fault before more bytes
 pub fault_later : (rules : Rules) (seen more : List ℕ) (made : List Turn) (new : Reading) (f : TraceFault) → Feeds rules seen made new (Err f) → Feeds rules (seen ++ more) made new (Err f)
-fault_later rules seen more made new (fault.Line n) fed = record {
+fault_later rules seen more made new (fault.Line n why) fed = record {
+  form = fed.form;
   lines = fed.lines;
   bad = fed.bad;
   after = fed.after ++ more;
@@ -183,6 +198,7 @@ fault_later rules seen more made new (fault.Line n) fed = record {
   number = fed.number;
 }
 fault_later rules seen more made new fault.OutOfMemory fed = record {
+  form = fed.form;
   lines = fed.lines;
   after = fed.after ++ more;
   requests = fed.requests;
@@ -196,7 +212,7 @@ fault_later rules seen more made new fault.TooLong fed = absurd fed
 
 -- a fault of bytes that were fed ends the trace
 pub fault_ends : (rules : Rules) (seen : List ℕ) (made : List Turn) (new : Reading) (f : TraceFault) → Feeds rules seen made new (Err f) → EndsTrace rules seen (made ++ new.turns.items) (Err f)
-fault_ends rules seen made new (fault.Line n) fed = fed
+fault_ends rules seen made new (fault.Line n why) fed = fed
 fault_ends rules seen made new fault.OutOfMemory fed = fed
 fault_ends rules seen made new fault.Read fed = absurd fed
 fault_ends rules seen made new fault.TooLong fed = absurd fed
@@ -216,23 +232,29 @@ fault_within rules seen made bytes i new f below fed =
 
 -- neither feeding nor the end of a line is a failure of the reader
 pub fed_not_read : (rules : Rules) (seen : List ℕ) (made : List Turn) (new : Reading) (f : TraceFault) → Feeds rules seen made new (Err f) → is_read_end (Err f) ≡ false
-fed_not_read rules seen made new (fault.Line n) fed = refl
+fed_not_read rules seen made new (fault.Line n why) fed = refl
 fed_not_read rules seen made new fault.OutOfMemory fed = refl
 fed_not_read rules seen made new fault.Read fed = absurd fed
 fed_not_read rules seen made new fault.TooLong fed = absurd fed
 
 pub taken_not_read : (old new : Reading) (end : Result (Unit {0}) TraceFault) → TakesLine old new end → is_read_end end ≡ false
 taken_not_read old new (Ok v) took = refl
-taken_not_read old new (Err (fault.Line n)) took = refl
+taken_not_read old new (Err (fault.Line n why)) took = refl
 taken_not_read old new (Err fault.OutOfMemory) took = refl
 taken_not_read old new (Err fault.Read) took = absurd took
 taken_not_read old new (Err fault.TooLong) took = absurd took
 
--- ---- a line's commands
+-- ---- what a line states
 
-pub blank_line : (form : Form) (line : List ℕ) → is_blank form line ≡ true → requests_of form line ≡ Some []
-blank_line form line blank = ap (λ b. if b then Some [] else option_map (λ x. x ∷ []) (stated form line)) blank
+pub nothing_taken : (said : Stated) (old : Reading) → said ≡ states.Nothing → TakesStated said old old (Ok tt)
+nothing_taken said old is = rw is (sym (append-nil old.turns.items), refl, refl, refl, refl)
 
-pub full_line : (form : Form) (line : List ℕ) (r : Option Request) → is_blank form line ≡ false → r ≡ stated form line → requests_of form line ≡ option_map (λ x. x ∷ []) r
-full_line form line r full is =
-    ap (λ b. if b then Some [] else option_map (λ x. x ∷ []) (stated form line)) full ∙ ap (option_map (λ x. x ∷ [])) (sym is)
+pub header_taken : (said : Stated) (columns : Columns) (old : Reading) → said ≡ states.Header columns → TakesStated said old (record old { form = form.Named columns }) (Ok tt)
+header_taken said columns old is = rw is (sym (append-nil old.turns.items), refl, refl, refl, refl)
+
+pub stated_taken : (said : Stated) (old new : Reading) (end : Result (Unit {0}) TraceFault) → stated old.form old.line.items ≡ Ok said → TakesStated said old new end → TakesCommand old new end
+stated_taken said old new (Ok v) is took = (said, is, took.0, took.1, took.2, took.3, took.4)
+stated_taken said old new (Err fault.OutOfMemory) is took = took
+stated_taken said old new (Err (fault.Line n why)) is took = absurd took
+stated_taken said old new (Err fault.Read) is took = absurd took
+stated_taken said old new (Err fault.TooLong) is took = absurd took

@@ -2,3 +2,4 @@ pub mod Parts
 pub mod Steps
 pub mod Feeding
 pub mod Lists
+pub mod Names

@@ -1,38 +1,36 @@
 -- A text that is cut at a byte, as the parts between such bytes.
-use Rattle.std.proofs.Common.{◌≡◌, ◌==◌, ◌+◌, ℕ, List, [], ◌∷◌, ◌++◌, length, false, Option, None, refl, arith}
-use Rattle.std.specs.List.{All, slice_split}
+use Rattle.std.proofs.Common.{◌≡◌, ◌==◌, ◌+◌, ◌<◌, ◌-◌, ℕ, zero, suc, List, [], ◌∷◌, ◌++◌, length, drop, get_or, false, refl, ap, ◌∙◌, sym, arith}
+use Rattle.std.specs.List.{All}
 use Rattle.std.proofs.lemmas.Bool.{eq-eqb}
-use Rattle.std.proofs.lemmas.List.Splits.{length-slice_split, slice_split_at, slice_split_none}
-use Rattle.segreplay.specs.declared.line.Verb.{Verb}
-use Rattle.segreplay.specs.Lines.{csv_request, plain_request, request_of}
-
-abbrev pub parts : ℕ → List ℕ → List (List ℕ)
-parts at text = slice_split (λ byte. byte == at) text
+use Rattle.std.proofs.lemmas.List.{drop-drop, get_or_past, length-drop}
+use Rattle.std.proofs.lemmas.List.Splits.{slice_split_at, slice_split_none}
+use Rattle.segreplay.specs.Lines.{fields_of}
 
 abbrev pub Lacks : ℕ → List ℕ → Type 0
 Lacks at text = All (λ byte. (byte == at) ≡ false) text
 
-pub one_part : (at : ℕ) (text : List ℕ) → Lacks at text → parts at text ≡ text ∷ []
+pub one_part : (at : ℕ) (text : List ℕ) → Lacks at text → fields_of at text ≡ text ∷ []
 one_part at text none = slice_split_none (λ byte. byte == at) text none
 
-pub more_parts : (at : ℕ) {whole : List ℕ} (first rest : List ℕ) → whole ≡ first ++ at ∷ rest → Lacks at first → parts at whole ≡ first ∷ parts at rest
+pub more_parts : (at : ℕ) {whole : List ℕ} (first rest : List ℕ) → whole ≡ first ++ at ∷ rest → Lacks at first → fields_of at whole ≡ first ∷ fields_of at rest
 more_parts at first rest is none = rw is (slice_split_at (λ byte. byte == at) first at rest none (eq-eqb at at refl))
 
--- three words are no line
-three_words : (a b : List ℕ) (rest : List (List ℕ)) (n : ℕ) → length rest ≡ n + 1 → plain_request (a ∷ b ∷ rest) ≡ None
-three_words a b [] n long = absurd (omega (arith, long))
-three_words a b (c ∷ rest) n long = refl
+-- the fields behind the first of those that are left
+pub one_more : (fields : List (List ℕ)) (i : ℕ) (first : List ℕ) (rest : List (List ℕ)) → drop i fields ≡ first ∷ rest → drop (i + 1) fields ≡ rest
+one_more fields i first rest at = sym (drop-drop 1 i fields) ∙ ap (drop 1) at
 
-pub no_plain : (a b rest : List ℕ) → plain_request (a ∷ b ∷ parts 32 rest) ≡ None
-no_plain a b rest = three_words a b (parts 32 rest) _ (length-slice_split (λ byte. byte == 32) rest)
+-- no field is left behind the last one
+pub no_more : (fields : List (List ℕ)) (i place : ℕ) (last : List ℕ) → drop i fields ≡ last ∷ [] → i < place → get_or fields place [] ≡ []
+no_more fields i place last at below =
+    let long : length fields - i ≡ 1 = sym (length-drop i fields) ∙ ap length at in
+    get_or_past fields place [] (omega arith)
 
--- nor are five fields
-five_fields : (a b c d : List ℕ) (rest : List (List ℕ)) (n : ℕ) → length rest ≡ n + 1 → csv_request (a ∷ b ∷ c ∷ d ∷ rest) ≡ None
-five_fields a b c d [] n long = absurd (omega (arith, long))
-five_fields a b c d (e ∷ rest) n long = refl
+at_first : (fields : List (List ℕ)) (i : ℕ) → get_or fields i [] ≡ get_or (drop i fields) 0 []
+at_first [] zero = refl
+at_first [] (suc i) = refl
+at_first (f ∷ fields) zero = refl
+at_first (f ∷ fields) (suc i) = at_first fields i
 
-pub no_csv : (a b c d rest : List ℕ) → csv_request (a ∷ b ∷ c ∷ d ∷ parts 44 rest) ≡ None
-no_csv a b c d rest = five_fields a b c d (parts 44 rest) _ (length-slice_split (λ byte. byte == 44) rest)
-
-pub same_request : {v w : Option Verb} {k l : Option (List ℕ)} {m n s t : Option ℕ} → v ≡ w → k ≡ l → m ≡ n → s ≡ t → request_of v k m s ≡ request_of w l n t
-same_request a b c d = λ i. request_of (a i) (b i) (c i) (d i)
+-- the first of the fields that are left
+pub at_field : (fields left : List (List ℕ)) (i : ℕ) → drop i fields ≡ left → get_or fields i [] ≡ get_or left 0 []
+at_field fields left i at = at_first fields i ∙ ap (λ l. get_or l 0 []) at

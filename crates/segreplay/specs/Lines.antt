@@ -1,79 +1,169 @@
--- What a line of a trace states.
-use Rattle.std.specs.Prelude.{ℕ, ◌+◌, ◌-◌, ◌*◌, ◌^◌, ◌%◌, ◌/◌, ◌==◌, ◌&&◌, ◌||◌, Bool, max, List, [], ◌∷◌, length, Option, Some, None, if◌then◌else◌, nat_lt, codes}
-use Rattle.std.specs.Char.{is_ascii_digit}
-use Rattle.std.specs.Int.{to_be_bytes, w64}
+-- What a line of a trace states: a command, the columns of the lines behind it, or nothing.
+use Rattle.std.specs.Prelude.{ℕ, ◌+◌, ◌-◌, ◌^◌, ◌%◌, ◌/◌, ◌==◌, ◌||◌, Bool, max, List, [], ◌∷◌, length, slice_index_or, Option, Some, None, Result, Ok, Err, if◌then◌else◌, codes}
 use Rattle.std.specs.List.{slice_split}
-use Rattle.std.specs.Str.{bytes_eq}
-use Rattle.segword.specs.declared.key.TheConstants.{KEY_BYTES}
 use Rattle.segword.specs.Fnv.{hash_of}
+use Rattle.segclient.specs.Counting.{with_more}
+use Rattle.segreplay.specs.declared.line.Column.{Column}
+use Rattle.segreplay.specs.declared.line.Column.TheVariants as column
+use Rattle.segreplay.specs.declared.line.Columns.{Columns}
 use Rattle.segreplay.specs.declared.line.Form.{Form}
 use Rattle.segreplay.specs.declared.line.Form.TheVariants as form
+use Rattle.segreplay.specs.declared.line.LineFault.{LineFault}
+use Rattle.segreplay.specs.declared.line.LineFault.TheVariants as fault
 use Rattle.segreplay.specs.declared.line.Request.{Request}
+use Rattle.segreplay.specs.declared.line.Stated.{Stated}
+use Rattle.segreplay.specs.declared.line.Stated.TheVariants as states
 use Rattle.segreplay.specs.declared.line.Verb.{Verb}
 use Rattle.segreplay.specs.declared.line.Verb.TheVariants as verb
+use Rattle.segreplay.specs.Words.{is_name, key_named, lasting, moment_named, number_named, trimmed, verb_named, without_return}
 
--- ---- words
+-- ---- columns
 
-abbrev pub verb_named : List ℕ → Option Verb
-verb_named text =
-    if bytes_eq text (codes "get") then Some verb.Get
-    else (if bytes_eq text (codes "set") then Some verb.Set
-    else (if bytes_eq text (codes "delete") then Some verb.Delete else None))
+-- a key and nothing more
+abbrev pub bare_columns : Columns
+bare_columns = record { fields = 1; time = None; key = 0; verb = None; life = None }
 
--- A text of at most KEY_BYTES bytes is the key itself. A longer one goes by the bytes of its hash.
-abbrev pub key_named : List ℕ → Option (List ℕ)
-key_named [] = None
-key_named text =
-    if nat_lt KEY_BYTES (length text) then Some (to_be_bytes w64 (hash_of text)) else Some text
+-- an operation and a key
+abbrev pub pair_columns : Columns
+pair_columns = record { fields = 2; time = None; key = 1; verb = Some 0; life = None }
 
--- the number below 2^32 that these digits write, behind digits that write the first one
-abbrev pub number_from : ℕ → List ℕ → Option ℕ
-number_from number [] = Some number
-number_from number (byte ∷ text) =
-    if is_ascii_digit byte && nat_lt (number * 10 + (byte - 48)) (2 ^ 32)
-    then number_from (number * 10 + (byte - 48)) text
-    else None
+-- time,key,op,ttl
+abbrev pub csv_columns : Columns
+csv_columns = record { fields = 4; time = Some 0; key = 1; verb = Some 2; life = Some 3 }
 
-abbrev pub number_named : List ℕ → Option ℕ
-number_named text = if length text == 0 then None else number_from 0 text
+-- timestamp, key, key size, value size, client, operation, time to live
+abbrev pub twitter_columns : Columns
+twitter_columns = record { fields = 7; time = Some 0; key = 1; verb = Some 5; life = Some 6 }
 
--- a time to live of 0 stands for no end
-abbrev pub lasting : Option ℕ → Option ℕ
-lasting None = None
-lasting (Some time) = Some (if time == 0 then 2 ^ 32 - 1 else time)
+-- the columns of a line with so many fields
+abbrev pub columns_of : Form → ℕ → Columns
+columns_of form.Plain fields = if fields == 1 then bare_columns else pair_columns
+columns_of form.Csv fields = if fields == 7 then twitter_columns else csv_columns
+columns_of (form.Named columns) fields = columns
+
+-- what stands between two fields: a space, or a comma
+abbrev pub separator : Form → ℕ
+separator form.Plain = 32
+separator form.Csv = 44
+separator (form.Named columns) = 44
+
+abbrev pub fields_of : ℕ → List ℕ → List (List ℕ)
+fields_of at line = slice_split (λ byte. byte == at) line
+
+-- ---- commands
+
+-- the field at this place, without the white space around it
+abbrev pub field_at : ℕ → List (List ℕ) → List ℕ
+field_at place fields = trimmed (slice_index_or fields place [])
+
+-- a line without a column of moments has moment 0
+abbrev pub moment_at : Option ℕ → List (List ℕ) → Option ℕ
+moment_at None fields = Some 0
+moment_at (Some place) fields = moment_named (field_at place fields)
+
+-- a line without a column of operations is a get
+abbrev pub verb_at : Option ℕ → List (List ℕ) → Option Verb
+verb_at None fields = Some verb.Get
+verb_at (Some place) fields = verb_named (field_at place fields)
+
+-- what a line without a column of times to live puts lasts
+abbrev pub life_at : Option ℕ → List (List ℕ) → Option ℕ
+life_at None fields = Some (2 ^ 32 - 1)
+life_at (Some place) fields = lasting (number_named (field_at place fields))
+
+-- a command, if each of its parts is one; else the first part that is none
+abbrev pub request_of : Option ℕ → Option (List ℕ) → Option Verb → Option ℕ
+    → Result Request Column
+request_of None _ _ _ = Err column.Time
+request_of (Some moment) None _ _ = Err column.Key
+request_of (Some moment) (Some key) None _ = Err column.Verb
+request_of (Some moment) (Some key) (Some verb) None = Err column.Life
+request_of (Some moment) (Some key) (Some verb) (Some time) =
+    Ok (record { verb = verb; key = key; moment = moment; time_to_live = time })
+
+-- the place of a column, if the line has it, or 0
+abbrev pub place_or_0 : Option ℕ → ℕ
+place_or_0 None = 0
+place_or_0 (Some place) = place
+
+-- which place a column has
+abbrev pub place_in : Columns → Column → ℕ
+place_in columns column.Time = place_or_0 columns.time
+place_in columns column.Key = columns.key
+place_in columns column.Verb = place_or_0 columns.verb
+place_in columns column.Life = place_or_0 columns.life
+
+-- the word of this column is none; words are counted from 1
+abbrev pub faulted : Columns → Result Request Column → Result Request LineFault
+faulted columns (Ok r) = Ok r
+faulted columns (Err part) = Err (fault.Word part (with_more (place_in columns part) 1))
+
+abbrev pub request_at : Columns → List (List ℕ) → Result Request LineFault
+request_at columns fields =
+    if length fields == columns.fields
+    then faulted columns (request_of (moment_at columns.time fields)
+    (key_named (field_at columns.key fields))
+    (verb_at columns.verb fields)
+    (life_at columns.life fields))
+    else Err (fault.Count (length fields) columns.fields)
+
+-- ---- headers
+
+-- the text is a name of this column, in any case
+abbrev pub is_named : Column → List ℕ → Bool
+is_named column.Time text = is_name text (codes "timestamp") || is_name text (codes "time")
+is_named column.Key text = is_name text (codes "key")
+is_named column.Verb text = is_name text (codes "op") || is_name text (codes "operation")
+is_named column.Life text = is_name text (codes "ttl")
+
+-- the place of the first field that names the column, the first of which has this place
+abbrev pub place_named : Column → ℕ → List (List ℕ) → Option ℕ
+place_named name place [] = None
+place_named name place (field ∷ fields) =
+    if is_named name (trimmed field) then Some place else place_named name (place + 1) fields
+
+-- a header names moments and keys at least
+abbrev pub header_of : ℕ → Option ℕ → Option ℕ → Option ℕ → Option ℕ → Option Columns
+header_of fields (Some time) (Some key) verb life =
+    Some (record { fields = fields; time = Some time; key = key; verb = verb; life = life })
+header_of _ _ _ _ _ = None
+
+-- the columns that a line names
+abbrev pub columns_named : List (List ℕ) → Option Columns
+columns_named fields = header_of (length fields)
+    (place_named column.Time 0 fields) (place_named column.Key 0 fields)
+    (place_named column.Verb 0 fields) (place_named column.Life 0 fields)
+
+-- only lines with commas have headers
+abbrev pub header_in : Form → List (List ℕ) → Option Columns
+header_in form.Plain fields = None
+header_in form.Csv fields = columns_named fields
+header_in (form.Named columns) fields = columns_named fields
 
 -- ---- lines
 
--- a command, if each of its parts is one
-abbrev pub request_of : Option Verb → Option (List ℕ) → Option ℕ → Option ℕ → Option Request
-request_of (Some verb) (Some key) (Some moment) (Some time) =
-    Some (record { verb = verb; key = key; moment = moment; time_to_live = time })
-request_of _ _ _ _ = None
+-- a line that states no command can still be a header
+abbrev pub stated_or : Result Request LineFault → Option Columns → Result Stated LineFault
+stated_or (Ok r) _ = Ok (states.Command r)
+stated_or (Err f) (Some columns) = Ok (states.Header columns)
+stated_or (Err f) None = Err f
 
--- the words between the spaces: a key alone is a get
-abbrev pub plain_request : List (List ℕ) → Option Request
-plain_request (key ∷ []) =
-    request_of (Some verb.Get) (key_named key) (Some 0) (Some (2 ^ 32 - 1))
-plain_request (name ∷ key ∷ []) =
-    request_of (verb_named name) (key_named key) (Some 0) (Some (2 ^ 32 - 1))
-plain_request _ = None
+-- what the fields of a line state
+abbrev pub fields_stated : Form → List (List ℕ) → Result Stated LineFault
+fields_stated f fields =
+    stated_or (request_at (columns_of f (length fields)) fields) (header_in f fields)
 
--- the fields between the commas
-abbrev pub csv_request : List (List ℕ) → Option Request
-csv_request (time ∷ key ∷ name ∷ life ∷ []) =
-    request_of (verb_named name) (key_named key) (number_named time)
-    (lasting (number_named life))
-csv_request _ = None
+-- what a line states
+abbrev pub stated : Form → List ℕ → Result Stated LineFault
+stated f line =
+    if length (without_return line) == 0 then Ok states.Nothing
+    else fields_stated f (fields_of (separator f) (without_return line))
 
--- the command that a line states, if it states one
-abbrev pub stated : Form → List ℕ → Option Request
-stated form.Plain line = plain_request (slice_split (λ byte. byte == 32) line)
-stated form.Csv line = csv_request (slice_split (λ byte. byte == 44) line)
-
--- whether a line states no command and isn't bad: it has no bytes, or is a CSV file's header
-abbrev pub is_blank : Form → List ℕ → Bool
-is_blank form.Plain line = length line == 0
-is_blank form.Csv line = length line == 0 || bytes_eq line (codes "time,key,op,ttl")
+-- the form of the lines behind this one
+abbrev pub form_after : Form → Stated → Form
+form_after was (states.Header columns) = form.Named columns
+form_after was states.Nothing = was
+form_after was (states.Command r) = was
 
 -- which of so many clients makes the commands of a key
 abbrev pub client_of : ℕ → List ℕ → ℕ

@@ -3,7 +3,7 @@ use Rattle.std.specs.Prelude.{ℕ, List, take, drop, Option, Some, None, if◌th
 use Rattle.std.specs.Str.{bytes_eq}
 use Rattle.segreplay.specs.declared.cache.Policy.{Policy}
 use Rattle.segreplay.specs.declared.cache.Policy.TheVariants as policy
-use Rattle.segreplay.specs.Lines.{number_named}
+use Rattle.segreplay.specs.Words.{number_named}
 
 -- a frequency has eight bits
 abbrev pub cutoff_of : Option ℕ → Option Policy

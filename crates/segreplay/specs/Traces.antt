@@ -1,36 +1,42 @@
 -- Which commands the lines of a trace state, and how far a trace is read.
-use Rattle.std.specs.Prelude.{◌≡◌, ◌⊎◌, ◌<◌, ◌≤◌, ℕ, List, [], ◌∷◌, ◌++◌, length, Option, Some, None, Result, Ok, Err, if◌then◌else◌, nat_le}
+use Rattle.std.specs.Prelude.{◌≡◌, ◌⊎◌, ◌<◌, ◌≤◌, ℕ, List, [], ◌∷◌, ◌++◌, length, Result, Ok, Err, nat_le}
 use Rattle.std.specs.List.{flat_map, AllByRecursion}
-use Rattle.std.specs.Option.{option_map}
 use Rattle.segclient.specs.Counting.{with_more}
 use Rattle.segscript.specs.Script.{ended, IsLine, Splits}
 use Rattle.segreplay.specs.declared.fault.TraceFault.{TraceFault}
 use Rattle.segreplay.specs.declared.fault.TraceFault.TheVariants as fault
 use Rattle.segreplay.specs.declared.line.Form.{Form}
+use Rattle.segreplay.specs.declared.line.LineFault.{LineFault}
+use Rattle.segreplay.specs.declared.line.LineFault.TheVariants as line_fault
 use Rattle.segreplay.specs.declared.line.Request.{Request}
+use Rattle.segreplay.specs.declared.line.Stated.{Stated}
+use Rattle.segreplay.specs.declared.line.Stated.TheVariants as states
 use Rattle.segreplay.specs.declared.player.Turn.{Turn}
 use Rattle.segreplay.specs.declared.reading.Reading.{Reading}
 use Rattle.segreplay.specs.declared.reading.Rules.{Rules}
-use Rattle.segreplay.specs.Lines.{client_of, is_blank, stated}
+use Rattle.segreplay.specs.Lines.{client_of, form_after, stated}
 
 -- ---- lines
 
--- the commands of a line: one, or none if it is blank
-abbrev pub requests_of : Form → List ℕ → Option (List Request)
-requests_of form line =
-    if is_blank form line then Some [] else option_map (λ r. r ∷ []) (stated form line)
+-- the commands that a line states: one, or none
+abbrev pub requests_in : Stated → List Request
+requests_in (states.Command r) = r ∷ []
+requests_in states.Nothing = []
+requests_in (states.Header columns) = []
 
--- these lines state these commands
-abbrev pub State : Form → List (List ℕ) → List Request → Type 0
-State form [] requests = requests ≡ []
-State form (line ∷ lines) requests =
-    (first : List Request) × (rest : List Request) × (requests_of form line ≡ Some first)
-    × State form lines rest
-    × (requests ≡ first ++ rest)
+-- These lines state these commands, of a trace that has the first form before them
+-- and the last one behind them.
+abbrev pub State : Form → List (List ℕ) → List Request → Form → Type 0
+State form [] requests last = (requests ≡ []) × (last ≡ form)
+State form (line ∷ lines) requests last =
+    (said : Stated) × (rest : List Request) × (stated form line ≡ Ok said)
+    × State (form_after form said) lines rest last
+    × (requests ≡ requests_in said ++ rest)
 
--- a bad line is too long, or isn't blank and states no command
-abbrev pub IsBad : Form → List ℕ → Type 0
-IsBad form line = (4096 < length line) ⊎ (requests_of form line ≡ None)
+-- a bad line is too long, or states nothing for this reason
+abbrev pub IsBad : Form → List ℕ → LineFault → Type 0
+IsBad form line why =
+    ((4096 < length line) × (why ≡ line_fault.TooLong)) ⊎ (stated form line ≡ Err why)
 
 -- ---- turns
 
@@ -67,13 +73,16 @@ pub record HasRead (rules : Rules) (seen : List ℕ) (made : List Turn) (r : Rea
   pub same : r.rules ≡ rules
   pub splits : Splits seen lines r.line.items
   pub short : length r.line.items ≤ 4096
-  pub states : State rules.form lines requests
+  pub states : State rules.form lines requests r.form
   pub turns : made ++ r.turns.items ≡ turns_from rules 0 requests
   pub commands : r.commands ≡ number_after 0 requests
   pub number : r.number ≡ line_after 1 lines
 
--- The n-th line is the first bad one, and these are the turns of the lines before it.
-pub record EndsBad (rules : Rules) (seen : List ℕ) (turns : List Turn) (n : ℕ) : Type 0 where
+-- The n-th line is the first bad one, for this reason.
+-- These are the turns of the lines before it.
+pub record EndsBad (rules : Rules) (seen : List ℕ) (turns : List Turn) (n : ℕ) (why : LineFault)
+    : Type 0 where
+  pub form : Form
   pub lines : List (List ℕ)
   pub bad : List ℕ
   pub after : List ℕ
@@ -81,50 +90,64 @@ pub record EndsBad (rules : Rules) (seen : List ℕ) (turns : List Turn) (n : �
   pub whole : seen ≡ flat_map ended lines ++ (bad ++ after)
   pub each : AllByRecursion IsLine lines
   pub unbroken : IsLine bad
-  pub is_bad : IsBad rules.form bad
-  pub states : State rules.form lines requests
+  pub is_bad : IsBad form bad why
+  pub states : State rules.form lines requests form
   pub made : turns ≡ turns_from rules 0 requests
   pub number : n ≡ line_after 1 lines
 
 -- These are the turns of the first lines of what came.
 pub record EndsEarly (rules : Rules) (seen : List ℕ) (turns : List Turn) : Type 0 where
+  pub form : Form
   pub lines : List (List ℕ)
   pub after : List ℕ
   pub requests : List Request
   pub whole : seen ≡ flat_map ended lines ++ after
   pub each : AllByRecursion IsLine lines
-  pub states : State rules.form lines requests
+  pub states : State rules.form lines requests form
   pub made : turns ≡ turns_from rules 0 requests
 
 -- These are the turns of the whole trace. A last line without an end counts too.
 pub record EndsWhole (rules : Rules) (seen : List ℕ) (turns : List Turn) : Type 0 where
+  pub form : Form
   pub lines : List (List ℕ)
   pub last : List ℕ
   pub requests : List Request
   pub splits : Splits seen lines last
-  pub states : State rules.form (lines ++ last ∷ []) requests
+  pub states : State rules.form (lines ++ last ∷ []) requests form
   pub made : turns ≡ turns_from rules 0 requests
 
 -- how a trace ended of which these bytes came, and the turns that it had
 abbrev pub EndsTrace : Rules → List ℕ → List Turn → Result (Unit {0}) TraceFault → Type 0
 EndsTrace rules seen turns (Ok _) = EndsWhole rules seen turns
-EndsTrace rules seen turns (Err (fault.Line n)) = EndsBad rules seen turns n
+EndsTrace rules seen turns (Err (fault.Line n why)) = EndsBad rules seen turns n why
 EndsTrace rules seen turns (Err _) = EndsEarly rules seen turns
 
 -- ---- the parts of a reading
 
--- what became of the command of a line
-abbrev pub TakesCommand : Reading → Reading → Result (Unit {0}) TraceFault → Type 0
-TakesCommand old new (Ok _) =
-    (more : List Request)
-    × (requests_of old.rules.form old.line.items ≡ Some more)
-    × (new.turns.items ≡ old.turns.items ++ turns_from old.rules old.commands more)
-    × (new.commands ≡ number_after old.commands more)
+-- what became of what a line states
+abbrev pub TakesStated : Stated → Reading → Reading → Result (Unit {0}) TraceFault → Type 0
+TakesStated said old new (Ok _) =
+    (new.turns.items ≡ old.turns.items ++ turns_from old.rules old.commands (requests_in said))
+    × (new.commands ≡ number_after old.commands (requests_in said))
+    × (new.form ≡ form_after old.form said)
     × (new.number ≡ old.number)
     × (new.rules ≡ old.rules)
-TakesCommand old new (Err (fault.Line n)) =
+TakesStated said old new (Err fault.OutOfMemory) = new.turns.items ≡ old.turns.items
+TakesStated said old new (Err _) = ⊥
+
+-- what became of the line before its end was taken
+abbrev pub TakesCommand : Reading → Reading → Result (Unit {0}) TraceFault → Type 0
+TakesCommand old new (Ok _) =
+    (said : Stated)
+    × (stated old.form old.line.items ≡ Ok said)
+    × (new.turns.items ≡ old.turns.items ++ turns_from old.rules old.commands (requests_in said))
+    × (new.commands ≡ number_after old.commands (requests_in said))
+    × (new.form ≡ form_after old.form said)
+    × (new.number ≡ old.number)
+    × (new.rules ≡ old.rules)
+TakesCommand old new (Err (fault.Line n why)) =
     (n ≡ old.number)
-    × (requests_of old.rules.form old.line.items ≡ None)
+    × (stated old.form old.line.items ≡ Err why)
     × (new.turns.items ≡ old.turns.items)
 TakesCommand old new (Err fault.OutOfMemory) = new.turns.items ≡ old.turns.items
 TakesCommand old new (Err _) = ⊥
@@ -132,10 +155,11 @@ TakesCommand old new (Err _) = ⊥
 -- what became of the line whose end has come
 abbrev pub TakesLine : Reading → Reading → Result (Unit {0}) TraceFault → Type 0
 TakesLine old new (Ok _) =
-    (more : List Request)
-    × (requests_of old.rules.form old.line.items ≡ Some more)
-    × (new.turns.items ≡ old.turns.items ++ turns_from old.rules old.commands more)
-    × (new.commands ≡ number_after old.commands more)
+    (said : Stated)
+    × (stated old.form old.line.items ≡ Ok said)
+    × (new.turns.items ≡ old.turns.items ++ turns_from old.rules old.commands (requests_in said))
+    × (new.commands ≡ number_after old.commands (requests_in said))
+    × (new.form ≡ form_after old.form said)
     × (new.line.items ≡ [])
     × (new.number ≡ with_more old.number 1)
     × (new.rules ≡ old.rules)
@@ -144,8 +168,8 @@ TakesLine old new (Err f) = TakesCommand old new (Err f)
 -- what became of bytes that were fed: all that came are `seen`, these among them
 abbrev pub Feeds : Rules → List ℕ → List Turn → Reading → Result (Unit {0}) TraceFault → Type 0
 Feeds rules seen made new (Ok _) = HasRead rules seen made new
-Feeds rules seen made new (Err (fault.Line n)) =
-    EndsBad rules seen (made ++ new.turns.items) n
+Feeds rules seen made new (Err (fault.Line n why)) =
+    EndsBad rules seen (made ++ new.turns.items) n why
 Feeds rules seen made new (Err fault.OutOfMemory) =
     EndsEarly rules seen (made ++ new.turns.items)
 Feeds rules seen made new (Err _) = ⊥

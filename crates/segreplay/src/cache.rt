@@ -9,8 +9,8 @@ ghost use Rattle.segreplay.specs.Policies.{cutoff_of};
 ghost use Rattle.segreplay.specs.declared.player.Player.{Player};
 
 use crate::fault::ReplayFault;
-use crate::line::number_of;
 use crate::player::Player;
+use crate::word::number_of;
 use segclient::Client;
 use segindex::{Index, Pass};
 use segword::{Shape, Value};

@@ -1,4 +1,5 @@
 //! Why a replay failed, or its trace ended early.
+use crate::line::LineFault;
 use segindex::MakeFault;
 use thiserror::Error;
 
@@ -19,9 +20,9 @@ pub enum TraceFault {
     /// The reader failed.
     #[error("read failed")]
     Read,
-    /// This line states no command. Lines are counted from 1.
+    /// This line states nothing, for this reason. Lines are counted from 1.
     #[error("bad line {0}")]
-    Line(u64),
+    Line(u64, LineFault),
     /// There was no memory for a list of commands.
     #[error("out of memory")]
     OutOfMemory,

@@ -9,10 +9,11 @@ mod player;
 mod reading;
 mod run;
 mod totals;
+mod word;
 
 pub use cache::{Cache, Policy};
 pub use counts::{Counts, Outcome};
 pub use fault::{ReplayFault, TraceFault};
-pub use line::{Form, Request, Verb, read_line};
+pub use line::{Column, Columns, Form, LineFault, Request, Stated, Verb, read_line};
 pub use run::{Follow, Plan, Replayed, replay};
 pub use totals::CacheTotals;

@@ -1,20 +1,47 @@
-//! Reads one line of a trace: the command that it states.
-ghost use Rattle.std.specs.Prelude.{◌≡◌, ◌∷◌, ◌++◌, ◌==◌, false, All, MatchOption};
-ghost use Rattle.std.specs.List.{slice_split};
-ghost use Rattle.segword.specs.Fnv.{hash_of};
-ghost use Rattle.segreplay.specs.Lines.{client_of, csv_request, is_blank, key_named, lasting};
-ghost use Rattle.segreplay.specs.Lines.{number_named, plain_request, request_of, stated};
-ghost use Rattle.segreplay.specs.Lines.{verb_named};
+//! Reads one line of a trace: the command that it states, or the columns that it names.
+ghost use Rattle.std.specs.Prelude.{◌≡◌, length};
+ghost use Rattle.segreplay.specs.Lines.{client_of, columns_named, columns_of, fields_of};
+ghost use Rattle.segreplay.specs.Lines.{fields_stated, header_in, is_named, life_at, moment_at};
+ghost use Rattle.segreplay.specs.Lines.{place_in, place_named, request_at, request_of, separator};
+ghost use Rattle.segreplay.specs.Lines.{stated, verb_at};
 
-use segword::{KEY_BYTES, Key, hash};
+use crate::word::{
+    count, field, is_name, key_of, lasting, moment_of, number_of, verb_of, without_return,
+};
+use segword::{Key, hash};
+
+/// Which field of a line has what. Fields are counted from 0.
+#[derive(Clone, Copy, Debug, PartialEq, Eq)]
+pub struct Columns {
+    /// How many fields a line has.
+    pub fields: usize,
+    /// Without this column, each line has moment 0.
+    pub time: Option<usize>,
+    pub key: usize,
+    /// Without this column, each line is a get.
+    pub verb: Option<usize>,
+    /// Without this column, what a line puts lasts.
+    pub life: Option<usize>,
+}
+
+/// A column that is read.
+#[derive(Clone, Copy, Debug, PartialEq, Eq)]
+pub enum Column {
+    Time,
+    Key,
+    Verb,
+    Life,
+}
 
 /// How the lines of a trace are written.
 #[derive(Clone, Copy, Debug, PartialEq, Eq)]
 pub enum Form {
     /// `get KEY`, `set KEY`, `delete KEY`, or a bare `KEY` for a get.
     Plain,
-    /// `time,key,op,ttl`.
+    /// `time,key,op,ttl`, or Twitter's seven columns.
     Csv,
+    /// As a header has named them.
+    Named(Columns),
 }
 
 #[derive(Clone, Copy, Debug, PartialEq, Eq)]
@@ -36,181 +63,256 @@ pub struct Request {
     pub time_to_live: u32,
 }
 
-// What stands before the first such byte, and what is behind it.
-fn cut(text: &[u8], at: u8) -> Option<(&[u8], &[u8])>
-    ensures { MatchOption result (All (λ byte. (byte == at) ≡ false) text.now)
-        (λ parts. (text.now ≡ parts.0.now ++ at ∷ parts.1.now)
-        × All (λ byte. (byte == at) ≡ false) parts.0.now) }
-{
-    let place = text.iter().position(|byte| *byte == at)?;
-    Some((&text[..place], &text[place + 1..]))
+/// What a line states.
+#[derive(Drop)]
+pub enum Stated {
+    /// It is empty.
+    Nothing,
+    Command(Request),
+    /// It names the columns of the lines behind it.
+    Header(Columns),
 }
 
-// The hash of bytes, as `segword` hashes keys.
-fn hash_of(text: &[u8]) -> u64
-    ensures { result ≡ hash_of text.now }
+/// Why a line states nothing.
+#[derive(Clone, Copy, Debug, PartialEq, Eq)]
+pub enum LineFault {
+    /// It has more than 4096 bytes.
+    TooLong,
+    /// It has so many words, and not so many.
+    Count(usize, usize),
+    /// The word of this column, with this number, is none. Words are counted from 1.
+    Word(Column, usize),
+}
+
+// A key and nothing more.
+const BARE: Columns = Columns {
+    fields: 1,
+    time: None,
+    key: 0,
+    verb: None,
+    life: None,
+};
+
+// An operation and a key.
+const PAIR: Columns = Columns {
+    fields: 2,
+    time: None,
+    key: 1,
+    verb: Some(0),
+    life: None,
+};
+
+// time,key,op,ttl
+const CSV: Columns = Columns {
+    fields: 4,
+    time: Some(0),
+    key: 1,
+    verb: Some(2),
+    life: Some(3),
+};
+
+// timestamp, key, key size, value size, client, operation, time to live
+const TWITTER: Columns = Columns {
+    fields: 7,
+    time: Some(0),
+    key: 1,
+    verb: Some(5),
+    life: Some(6),
+};
+
+// The columns of a line with so many fields.
+fn columns_of(form: Form, fields: usize) -> Columns
+    ensures { result ≡ columns_of form fields }
 {
-    text.iter().fold(0xcbf2_9ce4_8422_2325, |hash, byte| {
-        (hash ^ u64::from(*byte)).wrapping_mul(0x100_0000_01b3)
+    match form {
+        Form::Plain if fields == 1 => BARE,
+        Form::Plain => PAIR,
+        Form::Csv if fields == 7 => TWITTER,
+        Form::Csv => CSV,
+        Form::Named(columns) => columns,
+    }
+}
+
+// What stands between two fields.
+fn separator(form: Form) -> u8
+    ensures { result ≡ separator form }
+{
+    match form {
+        Form::Plain => b' ',
+        Form::Csv | Form::Named(_) => b',',
+    }
+}
+
+// A line and the byte between its fields.
+#[derive(Clone, Copy)]
+struct Row<'l> {
+    line: &'l [u8],
+    at: u8,
+}
+
+fn moment_at(row: Row<'_>, place: Option<usize>) -> Option<u32>
+    ensures { result ≡ moment_at place (fields_of row.entry.at row.entry.line.now) }
+{
+    match place {
+        None => Some(0),
+        Some(place) => moment_of(field(row.line, row.at, place)),
+    }
+}
+
+fn verb_at(row: Row<'_>, place: Option<usize>) -> Option<Verb>
+    ensures { result ≡ verb_at place (fields_of row.entry.at row.entry.line.now) }
+{
+    match place {
+        None => Some(Verb::Get),
+        Some(place) => verb_of(field(row.line, row.at, place)),
+    }
+}
+
+fn life_at(row: Row<'_>, place: Option<usize>) -> Option<u32>
+    ensures { result ≡ life_at place (fields_of row.entry.at row.entry.line.now) }
+{
+    match place {
+        None => Some(u32::MAX),
+        Some(place) => lasting(number_of(field(row.line, row.at, place))),
+    }
+}
+
+// The command, or the first of its parts that is none.
+fn request_of(
+    moment: Option<u32>,
+    key: Option<Key>,
+    verb: Option<Verb>,
+    time_to_live: Option<u32>,
+) -> Result<Request, Column>
+    ensures { result ≡ request_of moment key verb time_to_live }
+{
+    let Some(moment) = moment else {
+        return Err(Column::Time);
+    };
+    let Some(key) = key else {
+        return Err(Column::Key);
+    };
+    let Some(verb) = verb else {
+        return Err(Column::Verb);
+    };
+    let Some(time_to_live) = time_to_live else {
+        return Err(Column::Life);
+    };
+    Ok(Request {
+        verb,
+        key,
+        moment,
+        time_to_live,
     })
 }
 
-// The key of a text: its bytes, or those of their hash if they are too many.
-fn key_of(text: &[u8]) -> Option<Key>
-    ensures { result ≡ key_named text.now }
+// The place of a column that is read, or 0.
+fn place_in(columns: Columns, column: Column) -> usize
+    ensures { result ≡ place_in columns column }
 {
-    if text.len() <= KEY_BYTES {
-        return Key::new(text);
+    match column {
+        Column::Time => columns.time.unwrap_or(0),
+        Column::Key => columns.key,
+        Column::Verb => columns.verb.unwrap_or(0),
+        Column::Life => columns.life.unwrap_or(0),
     }
-    Key::new(&hash_of(text).to_be_bytes())
 }
 
-fn verb_of(text: &[u8]) -> Option<Verb>
-    ensures { result ≡ verb_named text.now }
+// The command that a line with these columns states.
+fn request_at(row: Row<'_>, columns: Columns, fields: usize) -> Result<Request, LineFault>
+    requires { fields ≡ length (fields_of row.at row.line.now) }
+    ensures { result ≡ request_at columns (fields_of row.entry.at row.entry.line.now) }
 {
-    if text == b"get".as_slice() {
-        return Some(Verb::Get);
+    if fields != columns.fields {
+        return Err(LineFault::Count(fields, columns.fields));
     }
-    if text == b"set".as_slice() {
-        return Some(Verb::Set);
+    let request = request_of(
+        moment_at(row, columns.time),
+        key_of(field(row.line, row.at, columns.key)),
+        verb_at(row, columns.verb),
+        life_at(row, columns.life),
+    );
+    match request {
+        Ok(request) => Ok(request),
+        Err(column) => Err(LineFault::Word(column, place_in(columns, column).saturating_add(1))),
     }
-    if text == b"delete".as_slice() {
-        return Some(Verb::Delete);
+}
+
+// Whether the text is a name of the column, in any case.
+fn is_named(column: Column, text: &[u8]) -> bool
+    ensures { result ≡ is_named column text.now }
+{
+    match column {
+        Column::Time => is_name(text, b"timestamp") || is_name(text, b"time"),
+        Column::Key => is_name(text, b"key"),
+        Column::Verb => is_name(text, b"op") || is_name(text, b"operation"),
+        Column::Life => is_name(text, b"ttl"),
+    }
+}
+
+// The place of the first field that names the column.
+fn place_of(row: Row<'_>, column: Column, fields: usize) -> Option<usize>
+    requires { fields ≡ length (fields_of row.at row.line.now) }
+    ensures { result ≡ place_named column 0 (fields_of row.entry.at row.entry.line.now) }
+{
+    for place in 0..fields {
+        if is_named(column, field(row.line, row.at, place)) {
+            return Some(place);
+        }
     }
     None
 }
 
-// The number below 2^32 of decimal digits.
-pub(crate) fn number_of(text: &[u8]) -> Option<u32>
-    ensures { result ≡ number_named text.now }
+// The columns that a line names, if it names moments and keys.
+fn columns_named(row: Row<'_>, fields: usize) -> Option<Columns>
+    requires { fields ≡ length (fields_of row.at row.line.now) }
+    ensures { result ≡ columns_named (fields_of row.entry.at row.entry.line.now) }
 {
-    if text.is_empty() {
-        return None;
-    }
-    let mut number: u32 = 0;
-    for byte in text {
-        if !byte.is_ascii_digit() {
-            return None;
-        }
-        let next = u64::from(number) * 10 + u64::from(*byte - b'0');
-        if next >= 1 << 32 {
-            return None;
-        }
-        number = next as u32;
-    }
-    Some(number)
-}
-
-// A time to live of 0 stands for none.
-fn lasting(time_to_live: Option<u32>) -> Option<u32>
-    ensures { result ≡ lasting time_to_live }
-{
-    match time_to_live {
-        Some(0) => Some(u32::MAX),
-        other => other,
-    }
-}
-
-// The command, if each of its parts is one.
-fn request_of(
-    verb: Option<Verb>,
-    key: Option<Key>,
-    moment: Option<u32>,
-    time_to_live: Option<u32>,
-) -> Option<Request>
-    ensures { result ≡ request_of verb key moment time_to_live }
-{
-    Some(Request {
-        verb: verb?,
-        key: key?,
-        moment: moment?,
-        time_to_live: time_to_live?,
+    let time = place_of(row, Column::Time, fields)?;
+    let key = place_of(row, Column::Key, fields)?;
+    Some(Columns {
+        fields,
+        time: Some(time),
+        key,
+        verb: place_of(row, Column::Verb, fields),
+        life: place_of(row, Column::Life, fields),
     })
 }
 
-fn read_plain(line: &[u8]) -> Option<Request>
-    ensures { result ≡ plain_request (slice_split (λ byte. byte == 32) line.now) }
-{
-    match cut(line, b' ') {
-        None => request_of(Some(Verb::Get), key_of(line), Some(0), Some(u32::MAX)),
-        Some((verb, key)) => read_pair(verb, key),
-    }
-}
-
-// The command of a verb and of what stands behind it.
-fn read_pair(verb: &[u8], key: &[u8]) -> Option<Request>
-    ensures { result ≡ plain_request (verb.now ∷ slice_split (λ byte. byte == 32) key.now) }
-{
-    match cut(key, b' ') {
-        None => request_of(verb_of(verb), key_of(key), Some(0), Some(u32::MAX)),
-        Some(_) => None,
-    }
-}
-
-fn read_csv(line: &[u8]) -> Option<Request>
-    ensures { result ≡ csv_request (slice_split (λ byte. byte == 44) line.now) }
-{
-    match cut(line, b',') {
-        None => None,
-        Some((time, rest)) => read_timed(time, rest),
-    }
-}
-
-// The command of a time and of what stands behind it.
-fn read_timed(time: &[u8], rest: &[u8]) -> Option<Request>
-    ensures { result ≡ csv_request (time.now ∷ slice_split (λ byte. byte == 44) rest.now) }
-{
-    match cut(rest, b',') {
-        None => None,
-        Some((key, rest)) => read_keyed(time, key, rest),
-    }
-}
-
-// The command of a time, a key, and of what stands behind them.
-fn read_keyed(time: &[u8], key: &[u8], rest: &[u8]) -> Option<Request>
-    ensures { result
-        ≡ csv_request (time.now ∷ key.now ∷ slice_split (λ byte. byte == 44) rest.now) }
-{
-    match cut(rest, b',') {
-        None => None,
-        Some((verb, life)) => read_whole(time, key, verb, life),
-    }
-}
-
-// The command of a time, a key and a verb, and of what stands behind them.
-fn read_whole(time: &[u8], key: &[u8], verb: &[u8], life: &[u8]) -> Option<Request>
-    ensures { result ≡ csv_request
-        (time.now ∷ key.now ∷ verb.now ∷ slice_split (λ byte. byte == 44) life.now) }
-{
-    match cut(life, b',') {
-        None => request_of(
-            verb_of(verb),
-            key_of(key),
-            number_of(time),
-            lasting(number_of(life)),
-        ),
-        Some(_) => None,
-    }
-}
-
-/// Whether a line states no command and isn't bad: it has no bytes, or is a CSV file's header.
-pub(crate) fn is_blank(form: Form, line: &[u8]) -> bool
-    ensures { result ≡ is_blank form line.now }
+fn header_in(form: Form, row: Row<'_>, fields: usize) -> Option<Columns>
+    requires { fields ≡ length (fields_of row.at row.line.now) }
+    ensures { result ≡ header_in form (fields_of row.entry.at row.entry.line.now) }
 {
     match form {
-        Form::Plain => line.is_empty(),
-        Form::Csv => line.is_empty() || line == b"time,key,op,ttl".as_slice(),
+        Form::Plain => None,
+        Form::Csv | Form::Named(_) => columns_named(row, fields),
     }
 }
 
-/// The command that a line states.
-pub fn read_line(form: Form, line: &[u8]) -> Option<Request>
+// What the fields of a line state.
+fn fields_stated(form: Form, row: Row<'_>) -> Result<Stated, LineFault>
+    ensures { result ≡ fields_stated form (fields_of row.entry.at row.entry.line.now) }
+{
+    let fields = count(row.line, row.at);
+    match request_at(row, columns_of(form, fields), fields) {
+        Ok(request) => Ok(Stated::Command(request)),
+        Err(fault) => match header_in(form, row, fields) {
+            Some(columns) => Ok(Stated::Header(columns)),
+            None => Err(fault),
+        },
+    }
+}
+
+/// What a line states.
+pub fn read_line(form: Form, line: &[u8]) -> Result<Stated, LineFault>
     ensures { result ≡ stated form line.now }
 {
-    match form {
-        Form::Plain => read_plain(line),
-        Form::Csv => read_csv(line),
+    let line = without_return(line);
+    if line.is_empty() {
+        return Ok(Stated::Nothing);
     }
+    let at = separator(form);
+    fields_stated(form, Row { line, at })
 }
 
 impl Request {

@@ -1,13 +1,13 @@
 //! Reads the lines of a trace, byte by byte, into turns.
 use crate::fault::TraceFault;
-use crate::line::{Form, is_blank, read_line};
+use crate::line::{Form, LineFault, Request, Stated, read_line};
 use crate::player::Turn;
 use std::alloc::{AllocError, Global};
 
 /// The most bytes of a line.
 const LINE: usize = 4096;
 
-/// Which lines a trace has, which client makes each command, and which are counted.
+/// Which lines a trace begins with, which client makes each command, and which are counted.
 #[derive(Clone, Copy, Debug)]
 pub(crate) struct Rules {
     pub(crate) form: Form,
@@ -20,6 +20,8 @@ pub(crate) struct Rules {
 #[derive(Drop)]
 pub(crate) struct Reading {
     rules: Rules,
+    // How the next line is written.
+    form: Form,
     // The bytes of the line that has no end yet, and its number.
     line: Vec<u8>,
     number: u64,
@@ -32,7 +34,7 @@ pub(crate) struct Reading {
 impl Reading {
     ghost use Rattle.std.specs.Prelude.{[], ◌∷◌, IfOk};
     ghost use Rattle.segreplay.specs.Traces.{FeedsMore, HandsOn, HasRead, TakesCommand};
-    ghost use Rattle.segreplay.specs.Traces.{TakesLine};
+    ghost use Rattle.segreplay.specs.Traces.{TakesLine, TakesStated};
 
     /// Nothing is read yet.
     pub(crate) fn new(alloc: Global, rules: Rules) -> Result<Reading, AllocError>
@@ -40,6 +42,7 @@ impl Reading {
     {
         Ok(Reading {
             rules,
+            form: rules.form,
             line: Vec::with_capacity(alloc, LINE)?,
             number: 1,
             commands: 0,
@@ -74,7 +77,7 @@ impl Reading {
             return self.end_line();
         }
         if self.line.len() == LINE {
-            return Err(TraceFault::Line(self.number));
+            return Err(TraceFault::Line(self.number, LineFault::TooLong));
         }
         match self.line.push(byte) {
             Ok(()) => Ok(()),
@@ -94,17 +97,34 @@ impl Reading {
         Ok(())
     }
 
-    // Takes the command of the line, if it states one.
+    // Takes the line, but for its end.
     fn take_line(&mut self) -> Result<(), TraceFault>
         ensures { TakesCommand self.old self.new result }
     {
-        let line = self.line.as_slice();
-        if is_blank(self.rules.form, line) {
-            return Ok(());
+        match read_line(self.form, self.line.as_slice()) {
+            Ok(stated) => self.take_stated(stated),
+            Err(fault) => Err(TraceFault::Line(self.number, fault)),
         }
-        let Some(request) = read_line(self.rules.form, line) else {
-            return Err(TraceFault::Line(self.number));
-        };
+    }
+
+    // Takes what a line has stated.
+    fn take_stated(&mut self, stated: Stated) -> Result<(), TraceFault>
+        ensures { TakesStated stated self.old self.new result }
+    {
+        match stated {
+            Stated::Nothing => Ok(()),
+            Stated::Command(request) => self.take_request(request),
+            Stated::Header(columns) => {
+                self.form = Form::Named(columns);
+                Ok(())
+            }
+        }
+    }
+
+    // Puts the turn of a command behind the others.
+    fn take_request(&mut self, request: Request) -> Result<(), TraceFault>
+        ensures { TakesStated (Stated.Command request) self.old self.new result }
+    {
         let turn = Turn {
             client: request.client(self.rules.clients),
             request,

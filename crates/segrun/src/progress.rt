@@ -1,6 +1,8 @@
 //! How far a load or a replay has come: a line on standard error, at most twice a second if there is a clock.
-//! And what a load did to the table, at its end.
-use segcli::{Pace, Totals, Watch, progress_line, replay_line, stats_text};
+//! And at its end, what a load did to the table, or which hints a replay has.
+use segcli::{
+    CacheTotals, Pace, Replay, Totals, Watch, hints_text, progress_line, replay_line, stats_text,
+};
 use std::alloc::AllocError;
 use std::io::Write;
 use std::sync::atomic::{AtomicU64, Ordering};
@@ -102,5 +104,9 @@ impl Watch for Teller<'_> {
 
     fn ended(&self, totals: &Totals) {
         self.tell(stats_text(self.rt.alloc(), totals, self.pace(totals.commands())));
+    }
+
+    fn replayed(&self, asked: &Replay<'_>, totals: &[CacheTotals]) {
+        self.tell(hints_text(self.rt.alloc(), asked, totals));
     }
 }

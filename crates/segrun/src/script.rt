@@ -42,9 +42,33 @@ pub fn run<T: Threads + Wait + AllocGlobal + Sync>(threads: &T, rt: &HostRuntime
             let passes = explain.then_some(shape.passes);
             run_file(threads, rt, passes, file, SCRIPT_HINT)
         }
-        Ok(Command::Replay(replay)) => run_file(threads, rt, None, replay.file, TRACE_HINT),
+        Ok(Command::Replay(replay)) => run_trace(threads, rt, replay.file),
         _ => run_from(threads, rt, None, rt.reader()),
     }
+}
+
+// Replays a trace of a file or of standard input.
+fn run_trace<T: Threads + Wait + AllocGlobal + Sync>(
+    threads: &T,
+    rt: &HostRuntime,
+    file: Option<&str>,
+) -> u8 {
+    match file {
+        Some(path) if path != "-" => match File::open(rt, path) {
+            Ok(file) => run_from(threads, rt, None, file),
+            Err(error) => {
+                let _ = tell_in_a_line(rt, path, &error);
+                READ_FAILED
+            }
+        },
+        _ => run_file(threads, rt, None, None, TRACE_HINT),
+    }
+}
+
+// Prints that a file can't be read, and why.
+fn tell_in_a_line(rt: &HostRuntime, path: &str, error: &io::Error) -> io::Result<()> {
+    let text = format!(in rt.alloc(); "read failed: {path}: {error}\n")?;
+    rt.stderr().write_all(text.as_bytes())
 }
 
 // Runs over a file or standard input. With passes it explains a bad line of a script.

@@ -34,13 +34,13 @@ fn each_line_is_a_command(rt: HostRuntime) {
         &rt,
         &[],
         TRACE,
-        "default bytes=3272 gets=4 hits=1 rate=25.00 sets=1 deletes=1 evicted=0 kept=0 refused=0 busy=0\n",
+        "default rows=32 bytes=3272 gets=4 hits=1 rate=25.00 sets=1 deletes=1 evicted=0 kept=0 refused=0 busy=0\n",
     );
     check_totals(
         &rt,
         &["--policy=nothing", "--value-bytes", "0"],
         b"\nget get\nget\n\nset\nset set",
-        "nothing bytes=3112 gets=3 hits=1 rate=33.33 sets=1 deletes=0 evicted=0 kept=0 refused=0 busy=0\n",
+        "nothing rows=32 bytes=3112 gets=3 hits=1 rate=33.33 sets=1 deletes=0 evicted=0 kept=0 refused=0 busy=0\n",
     );
 }
 
@@ -50,7 +50,7 @@ fn totals_are_an_object(rt: HostRuntime) {
         &rt,
         &["--policy", "cutoff:3", "--format=json"],
         TRACE,
-        "{\"policy\":\"cutoff:3\",\"bytes\":3112,\"gets\":4,\"hits\":1,\"sets\":1,\"deletes\":1,\"evicted\":0,\"kept\":0,\"refused\":0,\"busy\":0}\n",
+        "{\"policy\":\"cutoff:3\",\"rows\":32,\"bytes\":3112,\"gets\":4,\"hits\":1,\"rate\":25.00,\"sets\":1,\"deletes\":1,\"evicted\":0,\"kept\":0,\"refused\":0,\"busy\":0}\n",
     );
 }
 
@@ -60,13 +60,13 @@ fn the_first_commands_are_not_counted(rt: HostRuntime) {
         &rt,
         &["--warm=2"],
         TRACE,
-        "default bytes=3272 gets=2 hits=0 rate=0.00 sets=1 deletes=1 evicted=0 kept=0 refused=0 busy=0\n",
+        "default rows=32 bytes=3272 gets=2 hits=0 rate=0.00 sets=1 deletes=1 evicted=0 kept=0 refused=0 busy=0\n",
     );
     check_totals(
         &rt,
         &["--warm=6"],
         TRACE,
-        "default bytes=3272 gets=0 hits=0 rate=0.00 sets=0 deletes=0 evicted=0 kept=0 refused=0 busy=0\n",
+        "default rows=32 bytes=3272 gets=0 hits=0 rate=0.00 sets=0 deletes=0 evicted=0 kept=0 refused=0 busy=0\n",
     );
 }
 
@@ -76,7 +76,7 @@ fn clients_share_the_keys(rt: HostRuntime) {
         &rt,
         &["--threads=2"],
         TRACE,
-        "default bytes=5512 gets=4 hits=1 rate=25.00 sets=1 deletes=1 evicted=0 kept=0 refused=0 busy=0\n",
+        "default rows=64 bytes=5512 gets=4 hits=1 rate=25.00 sets=1 deletes=1 evicted=0 kept=0 refused=0 busy=0\n",
     );
 }
 
@@ -87,7 +87,7 @@ fn a_key_expires_by_the_clock_of_its_line(rt: HostRuntime) {
         &rt,
         &["--csv", "--policy=nothing"],
         b"time,key,op,ttl\n0,a,set,10\n9,a,get,10\n10,a,get,10\n4294967295,b,get,0\n",
-        "nothing bytes=3112 gets=3 hits=1 rate=33.33 sets=1 deletes=0 evicted=0 kept=0 refused=0 busy=0\n",
+        "nothing rows=32 bytes=3112 gets=3 hits=1 rate=33.33 sets=1 deletes=0 evicted=0 kept=0 refused=0 busy=0\n",
     );
 }
 
@@ -98,7 +98,7 @@ fn a_long_key_goes_by_its_hash(rt: HostRuntime) {
         &rt,
         &[],
         b"abcdefghijklmnopqrstuvwxy\nabcdefghijklmnopqrstuvwxy\nabcdefghijklmnopqrstuvwxz\n",
-        "default bytes=3272 gets=3 hits=1 rate=33.33 sets=0 deletes=0 evicted=0 kept=0 refused=0 busy=0\n",
+        "default rows=32 bytes=3272 gets=3 hits=1 rate=33.33 sets=0 deletes=0 evicted=0 kept=0 refused=0 busy=0\n",
     );
 }
 
@@ -110,7 +110,7 @@ fn a_full_cache_evicts(rt: HostRuntime) {
         &["replay", "--rows=1", "--policy=nothing"],
         b"a\nb\nb\na\n",
         writes(
-            b"nothing bytes=144 gets=4 hits=1 rate=25.00 sets=0 deletes=0 evicted=2 kept=0 refused=0 busy=0\n",
+            b"nothing rows=1 bytes=144 gets=4 hits=1 rate=25.00 sets=0 deletes=0 evicted=2 kept=0 refused=0 busy=0\n",
         ),
     );
 }
@@ -126,7 +126,7 @@ fn a_long_trace_is_read_to_its_end(rt: HostRuntime) {
         &rt,
         &[],
         trace.as_slice(),
-        "default bytes=3272 gets=5000 hits=4999 rate=99.98 sets=0 deletes=0 evicted=0 kept=0 refused=0 busy=0\n",
+        "default rows=32 bytes=3272 gets=5000 hits=4999 rate=99.98 sets=0 deletes=0 evicted=0 kept=0 refused=0 busy=0\n",
     );
 }
 
@@ -178,12 +178,12 @@ fn each_size_has_rows_of_its_own(rt: HostRuntime) {
         ],
         b"a\na\na\nb\nc\nd\ne\nf\ng\nh\ni\nj\nk\nl\na\nm\nn\no\np\nq\nr\ns\nt\nu\nv\nw\nx\ny\nz\na\n",
         writes(
-            b"nothing bytes=3112 gets=30 hits=4 rate=13.33 sets=0 deletes=0 evicted=0 kept=0 refused=0 busy=0
-nothing bytes=1576 gets=30 hits=3 rate=10.00 sets=0 deletes=0 evicted=12 kept=0 refused=0 busy=0
-nothing bytes=808 gets=30 hits=2 rate=6.66 sets=0 deletes=0 evicted=20 kept=0 refused=0 busy=0
-nothing bytes=424 gets=30 hits=2 rate=6.66 sets=0 deletes=0 evicted=24 kept=0 refused=0 busy=0
-nothing bytes=360 gets=30 hits=2 rate=6.66 sets=0 deletes=0 evicted=24 kept=0 refused=0 busy=0
-nothing bytes=360 gets=30 hits=2 rate=6.66 sets=0 deletes=0 evicted=24 kept=0 refused=0 busy=0
+            b"nothing rows=32 bytes=3112 gets=30 hits=4 rate=13.33 sets=0 deletes=0 evicted=0 kept=0 refused=0 busy=0
+nothing rows=16 bytes=1576 gets=30 hits=3 rate=10.00 sets=0 deletes=0 evicted=12 kept=0 refused=0 busy=0
+nothing rows=8 bytes=808 gets=30 hits=2 rate=6.66 sets=0 deletes=0 evicted=20 kept=0 refused=0 busy=0
+nothing rows=4 bytes=424 gets=30 hits=2 rate=6.66 sets=0 deletes=0 evicted=24 kept=0 refused=0 busy=0
+nothing rows=4 bytes=360 gets=30 hits=2 rate=6.66 sets=0 deletes=0 evicted=24 kept=0 refused=0 busy=0
+nothing rows=4 bytes=360 gets=30 hits=2 rate=6.66 sets=0 deletes=0 evicted=24 kept=0 refused=0 busy=0
 ",
         ),
     );
@@ -192,7 +192,7 @@ nothing bytes=360 gets=30 hits=2 rate=6.66 sets=0 deletes=0 evicted=24 kept=0 re
 // Checks that the third line is told as bad, behind the totals of the first.
 fn check_bad<R: Threads + Wait + AllocGlobal + Abort + Sync>(rt: &R, words: &[&str], trace: &[u8]) {
     let totals =
-        b"default bytes=632 gets=1 hits=0 rate=0.00 sets=0 deletes=0 evicted=0 kept=0 refused=0 busy=0\n";
+        b"default rows=8 bytes=632 gets=1 hits=0 rate=0.00 sets=0 deletes=0 evicted=0 kept=0 refused=0 busy=0\n";
     let ended = run(rt, words, trace);
     check_ended(
         rt,
@@ -209,20 +209,140 @@ fn check_bad<R: Threads + Wait + AllocGlobal + Abort + Sync>(rt: &R, words: &[&s
 #[test]
 fn a_bad_line_is_told_by_its_number(rt: HostRuntime) {
     for trace in [
-        b"a\n\nput b\nc\n".as_slice(),
+        b"a\n\ntake b\nc\n".as_slice(),
         b"a\n\nget b c",
         b"a\n\nget \n",
     ] {
         check_bad(&rt, &["replay"], trace);
     }
     for trace in [
-        b"0,a,get,0\n\n1,b,put,0\n".as_slice(),
-        b"0,a,get,0\n\ntime,key,op\n",
+        b"0,a,get,0\n\n1,b,take,0\n".as_slice(),
+        b"0,a,get,0\n\ntime,op,ttl\n",
         b"0,a,get,0\n\n-1,b,get,0\n",
         b"0,a,get,0\n\n1,b,get,0,\n",
         b"0,a,get,0\n\n4294967296,b,get,0\n",
     ] {
         check_bad(&rt, &["replay", "--csv"], trace);
+    }
+}
+
+// Checks what a replay over 32 rows counts of a trace with commas.
+fn check_csv<R: Threads + Wait + AllocGlobal + Abort + Sync>(rt: &R, trace: &[u8], counts: &str) {
+    let words = words_with(rt.alloc(), &["--csv", "--policy=nothing"]).expect(rt, "memory");
+    let ended = run(rt, words.as_slice(), trace);
+    let text = text_of(rt, &ended);
+    check_same(rt, words.as_slice(), ended.status, 0);
+    check_same(rt, words.as_slice(), text.matches(counts).count(), 1);
+}
+
+const ONE_OF_TWO: &str = "gets=2 hits=1 rate=50.00 sets=1 ";
+
+// The segment that the set refills lives for 10.
+#[test]
+fn a_header_names_the_columns(rt: HostRuntime) {
+    for trace in [
+        b"size,ttl,op,key,timestamp\n9,10,set,a,0\n9,10,get,a,9\n9,10,get,a,10\n".as_slice(),
+        b"Timestamp, Key, Operation, TTL, next\n0, a, set, 10, 1\n9, a, get, 10, 1\n10,a,get,10,1",
+        b"0,a,set,10\ntime,op,ttl,key\n9,get,10,a\nkey,time,op\na,10,get\n",
+    ] {
+        check_csv(&rt, trace, ONE_OF_TWO);
+    }
+    check_csv(&rt, b"key,time\na,0\na,1\na,2\n", "gets=3 hits=2 ");
+}
+
+#[test]
+fn seven_fields_are_those_of_twitter(rt: HostRuntime) {
+    check_csv(
+        &rt,
+        b"0,a,1,9,7,set,10\n9,a,1,9,7,get,10\n10,a,1,9,7,gets,10\n",
+        ONE_OF_TWO,
+    );
+}
+
+#[test]
+fn spaces_cases_and_returns_count_for_nothing(rt: HostRuntime) {
+    check_csv(
+        &rt,
+        b"0, a, SET, 10\r\n\r\n9 ,a,Get ,10\r\n10,a,get,10\r\n",
+        ONE_OF_TWO,
+    );
+    check_csv(&rt, b"0,a,put,10\n9,a,get,10\n10,a,get,10\n", ONE_OF_TWO);
+    check_totals(
+        &rt,
+        &["--policy=nothing"],
+        b"GET a\r\nget a\r\nPut b\r\n\r\nDELETE a\r\n",
+        "nothing rows=32 bytes=3112 gets=2 hits=1 rate=50.00 sets=1 deletes=1 evicted=0 kept=0 refused=0 busy=0\n",
+    );
+}
+
+#[test]
+fn a_time_can_have_a_fraction_or_be_in_milliseconds(rt: HostRuntime) {
+    for trace in [
+        b"0.5,a,set,10\n9.999,a,get,10\n10.0,a,get,10\n".as_slice(),
+        b"1700000000000,a,set,10\n1700000009999,a,get,10\n1700000010000,a,get,10\n",
+        b"1000000000000,a,set,10\n1000000009.5,a,get,10\n1000000010,a,get,10\n",
+    ] {
+        check_csv(&rt, trace, ONE_OF_TWO);
+    }
+}
+
+// Checks what is printed of a bad second line.
+fn check_explained<R: Threads + Wait + AllocGlobal + Abort + Sync>(
+    rt: &R,
+    words: &[&str],
+    trace: &[u8],
+    printed: &[u8],
+) {
+    let ended = run(rt, words, trace);
+    let written =
+        b"default rows=8 bytes=632 gets=1 hits=0 rate=0.00 sets=0 deletes=0 evicted=0 kept=0 refused=0 busy=0\n";
+    check_ended(
+        rt,
+        words,
+        &ended,
+        End {
+            status: 2,
+            written,
+            printed,
+        },
+    );
+}
+
+#[test]
+fn a_bad_line_is_explained(rt: HostRuntime) {
+    for (trace, printed) in [
+        (
+            b"a\ntake b\n".as_slice(),
+            b"bad line 2\nword 1: no operation has this name\n".as_slice(),
+        ),
+        (b"a\nget b c\n", b"bad line 2\nit has 3 words, not 2\n"),
+        (b"a\nget \n", b"bad line 2\nword 2: no key stands here\n"),
+    ] {
+        check_explained(&rt, &["replay", "--explain"], trace, printed);
+    }
+    for (trace, printed) in [
+        (
+            b"0,a,get,0\nnow,a,get,0\n".as_slice(),
+            b"bad line 2\nword 1: no time in seconds or milliseconds\n".as_slice(),
+        ),
+        (
+            b"0,a,get,0\n0,,get,0\n",
+            b"bad line 2\nword 2: no key stands here\n",
+        ),
+        (
+            b"0,a,get,0\n0,a,take,0\n",
+            b"bad line 2\nword 3: no operation has this name\n",
+        ),
+        (
+            b"0,a,get,0\n0,a,get,1.5\n",
+            b"bad line 2\nword 4: no time to live below 2^32\n",
+        ),
+        (
+            b"0,a,get,0\n0,a,get\n",
+            b"bad line 2\nit has 3 words, not 4\n",
+        ),
+    ] {
+        check_explained(&rt, &["replay", "--csv", "--explain"], trace, printed);
     }
 }
 
@@ -233,7 +353,7 @@ fn a_failed_reader_loses_nothing(rt: HostRuntime) {
     devices.good = Some(4);
     let ended = run_with(&rt, &words, TRACE, devices);
     let totals =
-        b"default bytes=632 gets=2 hits=1 rate=50.00 sets=0 deletes=0 evicted=0 kept=0 refused=0 busy=0\n";
+        b"default rows=8 bytes=632 gets=2 hits=1 rate=50.00 sets=0 deletes=0 evicted=0 kept=0 refused=0 busy=0\n";
     check_ended(
         &rt,
         &words,

@@ -1,5 +1,5 @@
-use Rattle.std.proofs.Common.{List, ℕ, codes, decimal}
-use Rattle.segcli.specs.Replayed.{policy_text}
+use Rattle.std.proofs.Common.{◌++◌, ◌∙◌, List, ℕ, ap, codes, decimal}
+use Rattle.segcli.specs.Replayed.{policy_text, rate_part, rows_of, share}
 use Rattle.segcli.proofs.TotalsText.{put_more, put_bytes, if_ok}
 use Rattle.segcli.proofs.replayed.put_object.Goals as goal
 
@@ -8,14 +8,18 @@ returns c =
     let totals = c.args.totals.now in
     let t = totals.counts in
     let old : List ℕ = c.args.text.now.items in
-    let zero = put_bytes old (codes "{\"policy\":\"") (policy_text totals.cache.policy) c.in_ok-put.ensures.text c.in_ok-put_policy.ensures.text in
-    let one = put_more old _ (codes "\",\"bytes\":") (decimal totals.bytes) zero c.in_ok-put_count.ensures.text in
-    let two = put_more old _ (codes ",\"gets\":") (decimal t.gets) one c.in_ok-put_count-2.ensures.text in
-    let three = put_more old _ (codes ",\"hits\":") (decimal t.hits) two c.in_ok-put_count-3.ensures.text in
-    let four = put_more old _ (codes ",\"sets\":") (decimal t.sets) three c.in_ok-put_count-4.ensures.text in
-    let five = put_more old _ (codes ",\"deletes\":") (decimal t.deletes) four c.in_ok-put_count-5.ensures.text in
-    let six = put_more old _ (codes ",\"evicted\":") (decimal t.evicted) five c.in_ok-put_count-6.ensures.text in
-    let seven = put_more old _ (codes ",\"kept\":") (decimal t.kept) six c.in_ok-put_count-7.ensures.text in
-    let eight = put_more old _ (codes ",\"refused\":") (decimal t.refused) seven c.in_ok-put_count-8.ensures.text in
-    let nine = put_more old _ (codes ",\"busy\":") (decimal t.busy) eight c.in_ok-put_count-9.ensures.text in
+    let rows = c.in_ok-put_count.ensures.text ∙ ap (λ n. c.put_policy.new.text.items ++ codes "\",\"rows\":" ++ decimal n) c.rows_of.ensures in
+    let rate = c.in_ok-put_rate.ensures.text ∙ ap (λ n. c.put_count-4.new.text.items ++ rate_part (codes ",\"rate\":") n) c.share.ensures in
+    let begun = put_bytes old (codes "{\"policy\":\"") (policy_text totals.cache.policy) c.in_ok-put.ensures.text c.in_ok-put_policy.ensures.text in
+    let zero = put_more old _ (codes "\",\"rows\":") (decimal (rows_of totals.cache.shape)) begun rows in
+    let one = put_more old _ (codes ",\"bytes\":") (decimal totals.bytes) zero c.in_ok-put_count-2.ensures.text in
+    let two = put_more old _ (codes ",\"gets\":") (decimal t.gets) one c.in_ok-put_count-3.ensures.text in
+    let three = put_more old _ (codes ",\"hits\":") (decimal t.hits) two c.in_ok-put_count-4.ensures.text in
+    let hit = put_bytes old _ (rate_part (codes ",\"rate\":") (share t.hits t.gets)) three rate in
+    let four = put_more old _ (codes ",\"sets\":") (decimal t.sets) hit c.in_ok-put_count-5.ensures.text in
+    let five = put_more old _ (codes ",\"deletes\":") (decimal t.deletes) four c.in_ok-put_count-6.ensures.text in
+    let six = put_more old _ (codes ",\"evicted\":") (decimal t.evicted) five c.in_ok-put_count-7.ensures.text in
+    let seven = put_more old _ (codes ",\"kept\":") (decimal t.kept) six c.in_ok-put_count-8.ensures.text in
+    let eight = put_more old _ (codes ",\"refused\":") (decimal t.refused) seven c.in_ok-put_count-9.ensures.text in
+    let nine = put_more old _ (codes ",\"busy\":") (decimal t.busy) eight c.in_ok-put_count-10.ensures.text in
     record { text = if_ok c.put-2.result (λ _ more. put_bytes old _ (codes "}") nine more) c.put-2.ensures.text }

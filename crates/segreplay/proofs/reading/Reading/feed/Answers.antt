@@ -18,7 +18,7 @@ returns-in-Ok c = λ rules seen made here.
     let short = here.short in
     let other = c.if-len-eq-LINE.false in
     let room : length c.args.self.now.line.items < 4096 = omega arith in
-    byte_kept rules seen made c.args.self.now _ here c.args.byte c.if-byte-eq10.false room refl c.in-Ok.ensures.items refl refl refl
+    byte_kept rules seen made c.args.self.now _ here c.args.byte c.if-byte-eq10.false room refl refl c.in-Ok.ensures.items refl refl refl
 
 pub returns-in-Err : goal.returns-in-Err
 returns-in-Err c = λ rules seen made here.

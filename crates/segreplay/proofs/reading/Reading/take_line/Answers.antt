@@ -1,32 +1,16 @@
-use Rattle.std.proofs.Common.{◌++◌, ◌∷◌, ◌∙◌, ℕ, [], nat_le, Some, None, ap, refl, sym, append-nil}
-use Rattle.segreplay.specs.Lines.{is_blank, stated}
-use Rattle.segreplay.proofs.Feeding.{blank_line, full_line}
+use Rattle.std.proofs.Common.{◌∙◌, ap, refl, sym}
+use Rattle.segreplay.specs.Lines.{stated}
+use Rattle.segreplay.proofs.Feeding.{stated_taken}
 use Rattle.segreplay.proofs.reading.Reading.take_line.Goals as goal
 
-pub returns-then-is_blank : goal.returns-then-is_blank
-returns-then-is_blank c =
+pub returns-in-Ok : goal.returns-in-Ok
+returns-in-Ok c =
     let r = c.args.self.now in
-    let blank = sym (ap (is_blank r.rules.form) c.as_slice-line.ensures.value) ∙ sym c.is_blank.ensures ∙ c.if-is_blank.true in
-    ([], blank_line r.rules.form r.line.items blank, sym (append-nil r.turns.items), refl, refl, refl)
+    let said = sym (ap (stated r.form) c.as_slice.ensures.value) ∙ sym c.read_line.ensures ∙ c.in-Ok.is in
+    stated_taken c.in-Ok.stated r c.take_stated.new.self c.take_stated.result said c.take_stated.ensures
 
-pub returns-in_default : goal.returns-in_default
-returns-in_default c =
+pub returns-in-Err : goal.returns-in-Err
+returns-in-Err c =
     let r = c.args.self.now in
-    let full = sym (ap (is_blank r.rules.form) c.as_slice-line.ensures.value) ∙ sym c.is_blank.ensures ∙ c.if-is_blank.false in
-    let said = sym c.in_default.is ∙ c.read_line.ensures ∙ ap (stated r.rules.form) c.as_slice-line.ensures.value in
-    (refl, full_line r.rules.form r.line.items None full said, refl)
-
-pub returns : goal.returns
-returns c =
-    let r = c.args.self.now in
-    let request = c.in-Some.request in
-    let full = sym (ap (is_blank r.rules.form) c.as_slice-line.ensures.value) ∙ sym c.is_blank.ensures ∙ c.if-is_blank.false in
-    let said = sym c.in-Some.is ∙ c.read_line.ensures ∙ ap (stated r.rules.form) c.as_slice-line.ensures.value in (
-      request ∷ [],
-      full_line r.rules.form r.line.items (Some request) full said,
-      c.in-Ok.ensures.items
-          ∙ ap (λ (n : ℕ). r.turns.items ++ record { request = request; client = n; is_counted = nat_le r.rules.warm r.commands } ∷ []) c.client.ensures,
-      c.saturating_add-self.ensures,
-      refl,
-      refl,
-    )
+    let said = sym (ap (stated r.form) c.as_slice.ensures.value) ∙ sym c.read_line.ensures ∙ c.in-Err.is in
+    (refl, said, refl)

@@ -1,6 +1,6 @@
 use Rattle.std.proofs.Common.{◌≡◌, ◌<◌, ◌^◌, drop}
-use Rattle.segreplay.specs.Lines.{number_from}
-use Rattle.segreplay.proofs.line.number_of.Given as goal
+use Rattle.segreplay.specs.Words.{number_from}
+use Rattle.segreplay.proofs.word.number_of.Given as goal
 
 abbrev pub invariant-loop-byte : goal.invariant-loop-byte
 invariant-loop-byte l = record {

@@ -1,0 +1,69 @@
+//! What is told on standard error of a replay that shows less than it may seem.
+use crate::cli_runs::{check_same, run_watched};
+use segcli::{CacheTotals, Replay, Watch, hints_text};
+use std::alloc::{AllocGlobal, Global};
+use std::process::Abort;
+use std::sync::Wait;
+use std::sync::atomic::AtomicU64;
+use std::sync::atomic::Ordering::SeqCst;
+use std::thread::Threads;
+
+const SMALL: &str = "the cache has at most 8 rows: --for-keys N makes room for N keys\n";
+
+const FIRST: &str = "most misses are first requests of their keys, or came after a time to live\n";
+
+/// A watch that keeps how many bytes are told of a replay.
+#[derive(Drop)]
+struct Told {
+    alloc: Global,
+    bytes: AtomicU64,
+}
+
+impl Watch for Told {
+    fn saw(&self, _made: u64, _of: u64) {}
+
+    fn replayed(&self, asked: &Replay<'_>, totals: &[CacheTotals]) {
+        if let Ok(text) = hints_text(self.alloc, asked, totals) {
+            self.bytes.store(text.len() as u64, SeqCst);
+        }
+    }
+}
+
+// Checks that these hints are told of a replay. They have different lengths.
+fn check_told<R: Threads + Wait + AllocGlobal + Abort + Sync>(
+    rt: &R,
+    words: &[&str],
+    trace: &[u8],
+    hints: &[&str],
+) {
+    let told = Told {
+        alloc: rt.alloc(),
+        bytes: AtomicU64::new(0),
+    };
+    let _ = run_watched(rt, words, trace, &told);
+    let mut wanted = 0;
+    for hint in hints {
+        wanted += hint.len() as u64;
+    }
+    check_same(rt, words, told.bytes.load(SeqCst), wanted);
+}
+
+#[test]
+fn a_small_cache_is_told(rt: HostRuntime) {
+    check_told(&rt, &["replay"], b"a\ndelete a\na\n", &[SMALL]);
+    check_told(&rt, &["replay", "--rows=9"], b"a\ndelete a\na\n", &[]);
+}
+
+// A key that was deleted is missed once more, and no key was requested first after that.
+#[test]
+fn first_requests_are_told(rt: HostRuntime) {
+    check_told(&rt, &["replay", "--for-keys=64"], b"a\na\nb\n", &[FIRST]);
+    check_told(&rt, &["replay"], b"a\na\nb\n", &[SMALL, FIRST]);
+    check_told(&rt, &["replay", "--for-keys=64"], b"a\ndelete a\na\n", &[]);
+    check_told(
+        &rt,
+        &["replay", "--for-keys=64", "--warm=1"],
+        b"a\na\nb\n",
+        &[],
+    );
+}
