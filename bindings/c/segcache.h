@@ -124,7 +124,7 @@ typedef struct segcache_shape {
 } segcache_shape;
 
 /* How many calls of one client came to what. keys_evicted has the keys that stood, expired ones among them. Where nothing
-   expires it stays 0 as long as the client has room for what it stores. */
+   expires, more than 0 says that the client had too little room for what it stored, or that a segment was held. */
 typedef struct segcache_stats_t {
   uint64_t hits, misses; /* of get and gets */
   uint64_t stored, not_stored, exists, not_found, deleted, no_room, bucket_full, busy;

@@ -30,7 +30,7 @@ pub enum Cas {
 }
 
 /// How many calls of one client came to what. `keys_evicted` has the keys that stood, expired ones among them. Where
-/// nothing expires it stays 0 as long as the client has room for what it stores.
+/// nothing expires, more than 0 says that the client had too little room for what it stored, or that a segment was held.
 #[repr(C)]
 #[derive(Clone, Copy, Debug, Default, PartialEq, Eq)]
 #[allow(missing_docs)]
