@@ -300,8 +300,8 @@ static inline uint32_t segcache_gets(segcache_client *client, const void *key, s
 }
 
 /* Gets of several keys, one after another. In a cache for more than 8,192 keys (of 4,096 buckets or more) the waits for
-   memory of 8 keys or more overlap, and each key takes less time than a single get. Fewer keys are single gets, and so
-   are any keys of a smaller cache, whose table fits into the processor's own caches.
+   memory of 8 keys or more overlap. Where gets wait for memory, each key then takes less time than a single get. Fewer
+   keys are single gets, and so are any keys of a smaller cache, whose table fits into the processor's own caches.
    Each lookup names its key by key_at and key_len, among the `len` bytes of `keys`. Afterwards it has a status of its
    own, OK, MISS, BUSY or BAD_KEY (also where its bytes aren't all in `keys`), and with OK value and value_len.
    Answers: OK, whatever the lookups have; NO_HANDLE, and they are as they were. */

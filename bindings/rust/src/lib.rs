@@ -62,8 +62,8 @@
 //! # Ok::<(), Error>(())
 //! ```
 //!
-//! [`Client::get_many`] gets several keys. In a cache for more than 8,192 keys the waits for memory of 8 keys or more overlap,
-//! and each key takes less time than a single get. Fewer keys are single gets, and so are any keys of a smaller cache.
+//! [`Client::get_many`] gets several keys. In a cache for more than 8,192 keys the waits for memory of 8 keys or more overlap.
+//! Where gets wait for memory, each key then takes less time. Fewer keys are single gets, and so are any of a smaller cache.
 //!
 //! A value that is held reads the same until the hold is dropped, whatever becomes of its key:
 //!
