@@ -41,15 +41,15 @@ too_many keys threads writers count are is_count many =
     let more : 16385 * (262144 * writers) ≤ div_ceil (keys * threads) (262144 * writers) * (262144 * writers) = mul-le-mul_right (262144 * writers) (omega (arith, is_count, many)) in
     omega (arith, times, more)
 
-module _ (keys threads writers count each : ℕ) (are : AreWriters threads writers)
-    (is_count : count ≡ max (div_ceil (keys * threads) (262144 * writers)) 1) (is_each : each ≡ div_ceil keys count) where
+module _ (keys threads writers least count each : ℕ) (are : AreWriters threads writers)
+    (is_least : least ≡ max (div_ceil (keys * threads) (262144 * writers)) 1) (over : least ≤ count) (is_each : each ≡ div_ceil keys count) where
   pub some : 1 ≤ count
-  some = omega (arith, is_count)
+  some = omega (arith, is_least, over)
 
   all_fit : keys * threads ≤ count * (262144 * writers)
   all_fit =
       let times = div_ceil_times (keys * threads) (262144 * writers) (omega (arith, are.1.0)) in
-      let more : div_ceil (keys * threads) (262144 * writers) * (262144 * writers) ≤ count * (262144 * writers) = mul-le-mul_right (262144 * writers) (omega (arith, is_count)) in
+      let more : div_ceil (keys * threads) (262144 * writers) * (262144 * writers) ≤ count * (262144 * writers) = mul-le-mul_right (262144 * writers) (omega (arith, is_least, over)) in
       omega (arith, times.0)
 
   pub each_times : (keys ≤ each * count) × (each * count < keys + count)

@@ -1,11 +1,15 @@
 //! How many shards a cache has for a number of keys, and of which shape.
-ghost use Rattle.std.specs.Prelude.{IfErr, IfOk};
+ghost use Rattle.std.specs.Prelude.{◌≤◌, IfErr, IfOk};
 
 use crate::shard::MOST_SHARDS;
 use segclient::{Shape, ShapeFault};
 
-// So many keys a shard has at most. Its buckets then have four keys each, and few have a chain.
-const KEYS_OF_SHARD: u32 = 262_144;
+// So many keys a shard has at most.
+const MOST_KEYS: u32 = 262_144;
+
+// So many it has if there may be as many shards. Its buckets then have three keys each, and six
+// rows: few of them are ever full, also where every row is alive.
+const KEYS_OF_SHARD: u32 = 200_000;
 
 /// A shape, and the number of shards that have it.
 #[derive(Clone, Copy, Debug, PartialEq, Eq)]
@@ -14,17 +18,27 @@ pub struct ShardPlan {
     pub count: u32,
 }
 
+// As many shards as are wanted, but no fewer than these, and no more than there may be.
+fn shards_for(least: u32, wanted: u64) -> u32
+    requires fits { least ≤ MOST_SHARDS }
+    ensures least { least ≤ result }
+    ensures most { result ≤ MOST_SHARDS }
+{
+    wanted.clamp(u64::from(least), MOST_SHARDS as u64) as u32
+}
+
 impl ShardPlan {
     ghost use Rattle.segshards.specs.Plan.{IsFaultOfPlan, IsPlanFor};
     ghost use Rattle.segshards.specs.Writers.{IsFaultOfWriters, IsPlanForWriters};
 
     /// Shards in which this number of keys has room to spare, for so many threads:
-    /// one for every 262,144 keys, with as many keys each.
+    /// one for every 200,000 keys, with as many keys each.
     pub fn for_keys(keys: u32, threads: u32) -> Result<ShardPlan, ShapeFault>
         ensures plan { IfOk result (IsPlanFor keys threads) }
         ensures fault { IfErr result (IsFaultOfPlan threads) }
     {
-        let count = keys.div_ceil(KEYS_OF_SHARD).max(1);
+        let least = keys.div_ceil(MOST_KEYS).max(1);
+        let count = shards_for(least, u64::from(keys.div_ceil(KEYS_OF_SHARD)));
         match Shape::for_keys(keys.div_ceil(count), threads) {
             Ok(shape) => Ok(ShardPlan { shape, count }),
             Err(fault) => Err(fault),
@@ -42,11 +56,12 @@ impl ShardPlan {
             return Err(ShapeFault::BadPasses);
         }
         let wide = u64::from(keys) * u64::from(threads);
-        let count = wide.div_ceil(u64::from(KEYS_OF_SHARD * writers)).max(1);
-        if count > MOST_SHARDS as u64 {
+        let least = wide.div_ceil(u64::from(MOST_KEYS * writers)).max(1);
+        if least > MOST_SHARDS as u64 {
             return Err(ShapeFault::TooLarge);
         }
-        let count = count as u32;
+        let wanted = wide.div_ceil(u64::from(KEYS_OF_SHARD * writers));
+        let count = shards_for(least as u32, wanted);
         let keys_each = keys.div_ceil(count);
         let chains = Shape::for_keys(keys_each, threads)?;
         let rows = Shape::for_keys((keys_each * threads).div_ceil(writers), threads)?;
