@@ -17,6 +17,7 @@ pub enum Queue {
 #[derive(Clone, Copy)]
 struct Place {
     queue: Queue,
+    is_held: bool,
     before: u32,
     after: u32,
 }
@@ -31,6 +32,8 @@ pub(crate) struct Lists {
     free: u32,
     probation: u32,
     main: u32,
+    // How many of the free ones are held.
+    held: u32,
     places: Vec<Place>,
 }
 
@@ -39,6 +42,7 @@ impl Lists {
     pub(crate) fn new(alloc: Global, segments: u32) -> Result<Lists, AllocError> {
         let place = Place {
             queue: Queue::Free,
+            is_held: false,
             before: 0,
             after: 0,
         };
@@ -48,6 +52,7 @@ impl Lists {
             free: 0,
             probation: 0,
             main: 0,
+            held: 0,
             places: vec![in alloc; place; count as usize]?,
         };
         for at in 0..count {
@@ -104,6 +109,25 @@ impl Lists {
         }
     }
 
+    // How many free segments can be refilled, as far as is known.
+    pub(crate) fn ready(&self) -> u32 {
+        self.free.saturating_sub(self.held)
+    }
+
+    // Whether a segment is held: it couldn't be refilled.
+    fn set_held(&mut self, at: u32, is_held: bool) {
+        if let Some(place) = self.places.get_mut(at as usize) {
+            if place.is_held != is_held {
+                place.is_held = is_held;
+                self.held = if is_held {
+                    self.held.wrapping_add(1)
+                } else {
+                    self.held.saturating_sub(1)
+                };
+            }
+        }
+    }
+
     fn set_count(&mut self, queue: Queue, count: u32) {
         match queue {
             Queue::Free => self.free = count,
@@ -151,11 +175,13 @@ impl Lists {
     }
 
     // The segment comes last in this queue, and is in no other.
+    // A free one that is to be free once more couldn't be refilled.
     pub(crate) fn move_to(&mut self, at: u32, queue: Queue) {
         if at >= self.segments {
             return;
         }
         let was = self.queue_of(at);
+        self.set_held(at, was == Queue::Free && queue == Queue::Free);
         self.join(self.before(at), self.after(at));
         self.set_count(was, self.count(was).saturating_sub(1));
         self.append(at, queue);

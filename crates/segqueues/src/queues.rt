@@ -172,15 +172,21 @@ impl Queues {
         if self.rows > 1 { RESERVE } else { RESERVE + 1 }
     }
 
-    /// Whether fewer segments are free than are held ready.
+    /// Whether fewer segments are free than are held ready. One of which somebody holds an item
+    /// doesn't count.
     pub fn are_few_free(&self) -> bool {
-        self.lists.count(Queue::Free) < self.reserve()
+        self.lists.ready() < self.reserve()
+    }
+
+    /// Whether a segment is free that nobody is known to hold an item of.
+    pub(crate) fn is_one_ready(&self) -> bool {
+        self.lists.ready() > 0
     }
 
     /// How many rows a write goes over, of so many at most: half of them while a free segment
     /// is left for the next writes, so that each does as little as will do.
     pub fn turns(&self, most: u32) -> u32 {
-        if self.lists.count(Queue::Free) > 0 {
+        if self.lists.ready() > 0 {
             most.div_ceil(2)
         } else {
             most
@@ -196,7 +202,7 @@ impl Queues {
     /// or will be before they need it. That is so if half of the rows of theirs are left;
     /// or where all moves on, if so many turns do that are left until then.
     pub fn can_open(&self, rows_left: u32, turns_left: u32, rows_to_go: u32) -> bool {
-        let free = self.lists.count(Queue::Free);
+        let free = self.lists.ready();
         let is_in_time = if self.moves_all() {
             turns_left > rows_to_go
         } else {

@@ -138,7 +138,7 @@ impl Queues {
     // if that gains a segment, and what moves has room.
     fn with_dead_rows(&mut self, seen: Seen, target: Option<u32>) -> Option<u32> {
         let room = self.room_in(target);
-        let has_free = self.count(Queue::Free) > 0;
+        let has_free = self.is_one_ready();
         let rows = Self::parts_of(self.rows);
         let least = seen.least?;
         let has_room = has_free || room >= least.live;

@@ -2,8 +2,8 @@
 //! its value is replaced.
 use crate::same::{check_that, same};
 use segclient::{
-    Client, DeleteAnswer, GetAnswer, GetsAnswer, Index, Key, PutAnswer, Shape, Value, WriteAnswer,
-    clients,
+    Client, DeleteAnswer, GetAnswer, GetsAnswer, HoldAnswer, Index, Key, PutAnswer, Shape, Value,
+    WriteAnswer, clients,
 };
 use std::alloc::AllocGlobal;
 use std::process::Abort;
@@ -114,6 +114,40 @@ fn no_update_of_keys_at_random_loses_one(rt: HostRuntime) {
 #[test]
 fn no_update_of_some_keys_more_often_loses_one(rt: HostRuntime) {
     same(&rt, &found_of(&rt, true), &UPDATES);
+}
+
+// How many updates of keys at random found their key, by one client.
+fn updates_by(rt: &impl Abort, client: &mut Client<'_>) -> u32 {
+    let value = Value::new(b"1").expect(rt, "a value");
+    let mut draws = Draws { state: 7 };
+    let mut found: u32 = 0;
+    for at in 0..UPDATES {
+        let number = draws.below(KEYS);
+        let is_found = update(client, &key_of(rt, number), &value, at % 4);
+        found = found.saturating_add(u32::from(is_found));
+    }
+    found
+}
+
+// One client stores all keys and updates them, while another one holds the item of one of them.
+#[test]
+fn no_update_beside_a_held_item_loses_one(rt: HostRuntime) {
+    let shape = Shape::for_keys(2 * KEYS, 2).expect(&rt, "a shape");
+    let (index, passes) = Index::new(rt.alloc(), shape).expect(&rt, "an index");
+    let mut both = clients(rt.alloc(), &index, passes).expect(&rt, "memory for clients");
+    let mut reader = both.pop().expect(&rt, "a client");
+    let mut writer = both.pop().expect(&rt, "a client");
+    let value = Value::new(b"0").expect(&rt, "a value");
+    for number in 0..KEYS {
+        let told = writer.put(&key_of(&rt, number), &value);
+        check_that(&rt, told == PutAnswer::Stored);
+    }
+    let mut found: u32 = 0;
+    if let HoldAnswer::Holding(hold) = reader.hold(&key_of(&rt, 0)) {
+        found = updates_by(&rt, &mut writer);
+        reader.release(hold);
+    }
+    same(&rt, &found, &UPDATES);
 }
 
 // A key at random is deleted, or else updated, or added if it is gone.
