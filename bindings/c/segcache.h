@@ -229,7 +229,7 @@ static inline uint32_t segcache_hand_out(uint32_t status, segcache_handle made, 
 /* Makes a cache for so many keys, and a client for each of so many threads (1 to 64). Each client stores into its own
    equal share of the room. So all keys fit if the clients store about as many each. There is a table for every 200,000
    keys, and each key belongs to one of the tables by its hash. A call on a key goes to that table alone.
-   It takes all memory at once, but for that of notes and of a close: about 167 bytes a key, and up to 42 MB more for a
+   It takes all memory at once, but for that of notes and of a close: about 177 bytes a key, and up to 34 MB more for a
    moment. `cache` and `clients[threads]` are written,
    whatever they were: if they are of a cache that is still open, that one is lost. If the answer is not OK they are
    zeroed, of more than 64 clients the first 64. Answers: OK, BAD_SHAPE, OUT_OF_MEMORY; OTHER_VERSION, if the library

@@ -142,11 +142,14 @@ fn no_update_beside_a_held_item_loses_one(rt: HostRuntime) {
         let told = writer.put(&key_of(&rt, number), &value);
         check_that(&rt, told == PutAnswer::Stored);
     }
-    let mut found: u32 = 0;
-    if let HoldAnswer::Holding(hold) = reader.hold(&key_of(&rt, 0)) {
-        found = updates_by(&rt, &mut writer);
-        reader.release(hold);
-    }
+    let found = match reader.hold(&key_of(&rt, 0)) {
+        HoldAnswer::Holding(hold) => {
+            let found = updates_by(&rt, &mut writer);
+            reader.release(hold);
+            found
+        }
+        HoldAnswer::Miss | HoldAnswer::Busy | HoldAnswer::AlreadyHolding => 0,
+    };
     same(&rt, &found, &UPDATES);
 }
 
