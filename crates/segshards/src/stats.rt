@@ -7,6 +7,7 @@ use crate::client::Client;
 use segclient::{IndexStats, Stats};
 
 impl<'c> Client<'c> {
+    ghost use Rattle.segshards.specs.Clients.{IsSame};
     ghost use Rattle.segshards.specs.Sums.{ReturnsTables, stats_of};
 
     /// The counts of its calls so far, in all shards.
@@ -23,6 +24,7 @@ impl<'c> Client<'c> {
     /// What it sees of the tables of all shards, as `segclient::Client::index_stats` says it of one.
     pub fn index_stats(&mut self) -> IndexStats
         ensures reads { ReturnsTables result self.old self.new }
+        ensures same { IsSame self.old self.new }
     {
         let mut sum = IndexStats {
             overflow_buckets: 0,

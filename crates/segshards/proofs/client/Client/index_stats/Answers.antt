@@ -1,9 +1,12 @@
 use Rattle.std.proofs.Common.{◌≡◌, ◌<◌, ◌∙◌, [], ◌∷◌, ◌++◌, ap, length, refl, rules, sym, arith}
 use Rattle.std.proofs.lemmas.List.{length-set}
+use Rattle.std.proofs.Math.Seq.{map-set_same}
 use Rattle.segclient.specs.Client as of_one
 use Rattle.segclient.specs.Made.{ReturnsTable}
+use Rattle.segshards.specs.Clients.{seat_of}
 use Rattle.segshards.specs.Sums.{table_sum}
 use Rattle.segshards.proofs.Each.{same_rest, table_more, three_next, three_none}
+use Rattle.segshards.proofs.Same.{call_same}
 use Rattle.segshards.proofs.client.Client.index_stats.Goals as goal
 
 pub loop-place-init : goal.loop-place-init
@@ -14,6 +17,7 @@ loop-place-init c = (
     rest = refl;
     made = three_none (λ a was is. of_one.MakesCall (ReturnsTable a) was is);
     sums = refl;
+    same = refl;
     clock = refl;
     holds = refl;
   },
@@ -37,6 +41,7 @@ loop-place-preserved c =
         rest = same_rest old new place is was.rest;
         made = three_next (λ a was is. of_one.MakesCall (ReturnsTable a) was is) each old new place told c.index_mut.result.now is below was.long was.rest c.index_mut.ensures.value was.made c.index_stats-stats.ensures.reads;
         sums = c.table_sum-sum.ensures ∙ ap (λ s. table_sum s told) was.sums ∙ sym (table_more each told);
+        same = map-set_same seat_of new place is c.index_mut.result.now (call_same (ReturnsTable told) c.index_mut.result.now is (λ b x y made. made.counts.keeps.settings.number) c.index_stats-stats.ensures.reads ∙ ap seat_of c.index_mut.ensures.value) ∙ was.same;
         clock = was.clock;
         holds = was.holds;
       },
