@@ -7,6 +7,7 @@ mod cli_devices;
 mod cli_given;
 #[cfg(test)]
 mod cli_help;
+#[cfg(test)]
 mod cli_hints;
 #[cfg(test)]
 mod cli_loads;
