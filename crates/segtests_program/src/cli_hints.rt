@@ -41,9 +41,9 @@ fn check_told<R: Threads + Wait + AllocGlobal + Abort + Sync>(
         bytes: AtomicU64::new(0),
     };
     let _ = run_watched(rt, words, trace, &told);
-    let mut wanted = 0;
+    let mut wanted: u64 = 0;
     for hint in hints {
-        wanted += hint.len() as u64;
+        wanted = wanted.saturating_add(hint.len() as u64);
     }
     check_same(rt, words, told.bytes.load(SeqCst), wanted);
 }
