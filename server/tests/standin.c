@@ -4,14 +4,17 @@
  * are the library's for the calls that the server makes; it has no other calls.
  *
  * It has few buckets, so that keys often share one: a cas then finds the bucket's version changed by others. It
- * evicts the oldest item once there are as many as it was opened for. */
+ * evicts the oldest item once there are as many as it was opened for.
+ *
+ * Some keys have faults, which the library seldom has: see fault_of. Each call has to have a moment, which the server
+ * begins at 2: without one the program is aborted. */
 #include "segcache.h"
 #include <pthread.h>
 #include <stdbool.h>
 #include <stdlib.h>
 #include <string.h>
 
-enum { BUCKETS = 4096 }; /* a power of two */
+enum { BUCKETS = 4096 /* a power of two */, FIRST_MOMENT = 2 };
 
 struct entry {
   struct entry *next_of_bucket, *older, *newer;
@@ -28,7 +31,8 @@ struct map {
 
 struct client {
   struct map *map;
-  bool first; /* all items count as its own */
+  bool first;          /* all items count as its own */
+  uint32_t late, made; /* calls, and how often room was made */
   segcache_stats_t counts;
 };
 
@@ -59,6 +63,35 @@ static void drop(struct map *map, struct entry *entry) {
   free(entry);
 }
 
+enum call { GETS, STORE, DELETE };
+
+/* The fault that a key's first letters ask for, or OK. `there`: the key is.
+ *
+ *   busy-  each call is Busy              late-   is Busy twice, and then goes well
+ *   slow-  a store is Busy if it's there  tight-  has no room until room was made twice
+ *   held-  a delete is Busy               full-   has no room if it's there
+ *   race-  a cas finds it changed */
+static uint32_t fault_of(struct client *client, enum call call, bool there, const uint8_t *key, size_t length) {
+  const struct {
+    const char *name;
+    bool now;
+    uint32_t status;
+  } faults[] = {{"busy-", true, SEGCACHE_BUSY},
+                {"slow-", call == STORE && there, SEGCACHE_BUSY},
+                {"held-", call == DELETE, SEGCACHE_BUSY},
+                {"late-", client->late++ % 3 < 2, SEGCACHE_BUSY},
+                {"tight-", call == STORE && client->made % 3 < 2, SEGCACHE_NO_ROOM},
+                {"full-", call == STORE && there, SEGCACHE_NO_ROOM}};
+  for (size_t i = 0; i < sizeof faults / sizeof *faults; i++) {
+    size_t known = strlen(faults[i].name);
+    if (length < known || memcmp(key, faults[i].name, known) != 0 || !faults[i].now) continue;
+    if (faults[i].status == SEGCACHE_BUSY) client->counts.busy++;
+    else client->counts.no_room++;
+    return faults[i].status;
+  }
+  return SEGCACHE_OK;
+}
+
 uint32_t segcache_raw_version(void) { return SEGCACHE_VERSION_NUMBER; }
 
 uint32_t segcache_raw_open(uint32_t keys, uint32_t threads, segcache_handle *cache, segcache_handle *clients,
@@ -84,11 +117,13 @@ uint32_t segcache_raw_gets(segcache_handle *handle, const uint8_t *key, size_t k
   struct client *client = handle->at;
   struct map *map = client->map;
   uint32_t status = SEGCACHE_MISS;
-  (void)now;
+  if (now < FIRST_MOMENT) abort();
   if (key_len < 1 || key_len > SEGCACHE_MAX_KEY) return SEGCACHE_BAD_KEY;
   pthread_mutex_lock(&map->lock);
   size_t bucket = bucket_of(key, key_len);
   const struct entry *entry = *place_of(map, bucket, key, key_len);
+  uint32_t fault = fault_of(client, GETS, entry != NULL, key, key_len);
+  if (fault != SEGCACHE_OK) return pthread_mutex_unlock(&map->lock), fault;
   if (entry != NULL) {
     *value_len = entry->value_len;
     *version = map->versions[bucket];
@@ -116,7 +151,8 @@ static uint32_t if_absent(const struct map *map, const struct entry *old, size_t
 
 static uint32_t if_same(const struct map *map, const struct entry *old, size_t bucket, uint32_t version) {
   if (old == NULL) return SEGCACHE_NOT_FOUND;
-  return map->versions[bucket] == version ? SEGCACHE_OK : SEGCACHE_EXISTS;
+  bool races = old->key_len >= 5 && memcmp(old->bytes, "race-", 5) == 0;
+  return map->versions[bucket] == version && !races ? SEGCACHE_OK : SEGCACHE_EXISTS;
 }
 
 static uint32_t store_locked(struct client *client, const uint8_t *key, size_t key_len, const uint8_t *value,
@@ -124,7 +160,8 @@ static uint32_t store_locked(struct client *client, const uint8_t *key, size_t k
   struct map *map = client->map;
   size_t bucket = bucket_of(key, key_len);
   struct entry *old = *place_of(map, bucket, key, key_len);
-  uint32_t status = may(map, old, bucket, version);
+  uint32_t status = fault_of(client, STORE, old != NULL, key, key_len);
+  if (status == SEGCACHE_OK) status = may(map, old, bucket, version);
   if (status != SEGCACHE_OK) return status;
   struct entry *entry = malloc(sizeof *entry + key_len + value_len);
   if (entry == NULL) return SEGCACHE_NO_ROOM;
@@ -144,8 +181,9 @@ static uint32_t store_locked(struct client *client, const uint8_t *key, size_t k
 }
 
 static uint32_t store_if(segcache_handle *handle, const uint8_t *key, size_t key_len, const uint8_t *value,
-                         size_t value_len, uint32_t version, condition *may) {
+                         size_t value_len, uint32_t version, condition *may, uint32_t now) {
   struct client *client = handle->at;
+  if (now < FIRST_MOMENT) abort();
   if (key_len < 1 || key_len > SEGCACHE_MAX_KEY) return SEGCACHE_BAD_KEY;
   if (value_len > SEGCACHE_MAX_VALUE) return SEGCACHE_BAD_VALUE;
   pthread_mutex_lock(&client->map->lock);
@@ -156,29 +194,28 @@ static uint32_t store_if(segcache_handle *handle, const uint8_t *key, size_t key
 
 uint32_t segcache_raw_put(segcache_handle *client, const uint8_t *key, size_t key_len, const uint8_t *value,
                           size_t value_len, uint32_t now) {
-  (void)now;
-  return store_if(client, key, key_len, value, value_len, 0, always);
+  return store_if(client, key, key_len, value, value_len, 0, always, now);
 }
 
 uint32_t segcache_raw_add(segcache_handle *client, const uint8_t *key, size_t key_len, const uint8_t *value,
                           size_t value_len, uint32_t now) {
-  (void)now;
-  return store_if(client, key, key_len, value, value_len, 0, if_absent);
+  return store_if(client, key, key_len, value, value_len, 0, if_absent, now);
 }
 
 uint32_t segcache_raw_cas(segcache_handle *client, const uint8_t *key, size_t key_len, const uint8_t *value,
                           size_t value_len, uint32_t version, uint32_t now) {
-  (void)now;
-  return store_if(client, key, key_len, value, value_len, version, if_same);
+  return store_if(client, key, key_len, value, value_len, version, if_same, now);
 }
 
 uint32_t segcache_raw_delete(segcache_handle *handle, const uint8_t *key, size_t key_len, uint32_t now) {
   struct client *client = handle->at;
   struct map *map = client->map;
-  (void)now;
+  if (now < FIRST_MOMENT) abort();
   if (key_len < 1 || key_len > SEGCACHE_MAX_KEY) return SEGCACHE_BAD_KEY;
   pthread_mutex_lock(&map->lock);
   struct entry *entry = *place_of(map, bucket_of(key, key_len), key, key_len);
+  uint32_t fault = fault_of(client, DELETE, entry != NULL, key, key_len);
+  if (fault != SEGCACHE_OK) return pthread_mutex_unlock(&map->lock), fault;
   if (entry != NULL) drop(map, entry);
   pthread_mutex_unlock(&map->lock);
   return entry == NULL ? SEGCACHE_NOT_FOUND : SEGCACHE_OK;
@@ -197,7 +234,7 @@ uint32_t segcache_raw_index_stats(segcache_handle *handle, segcache_index_stats_
   pthread_mutex_lock(&client->map->lock);
   uint32_t items = client->first ? client->map->count : 0;
   pthread_mutex_unlock(&client->map->lock);
-  *counts = (segcache_index_stats_t){.used_rows = items, .named_rows = items};
+  *counts = (segcache_index_stats_t){.used_rows = items + client->first, .named_rows = items, .overflow_buckets = 7};
   return SEGCACHE_OK;
 }
 
@@ -211,8 +248,15 @@ uint32_t segcache_raw_keep_from(segcache_handle *client, uint32_t cutoff) {
   return SEGCACHE_OK;
 }
 
-uint32_t segcache_raw_make_room(segcache_handle *client, uint32_t now) {
-  (void)client, (void)now;
+/* Only counts itself: a segment refilled, and two items kept. */
+uint32_t segcache_raw_make_room(segcache_handle *handle, uint32_t now) {
+  struct client *client = handle->at;
+  if (now < FIRST_MOMENT) abort();
+  pthread_mutex_lock(&client->map->lock);
+  client->made++;
+  client->counts.segments_refilled++;
+  client->counts.items_kept += 2;
+  pthread_mutex_unlock(&client->map->lock);
   return SEGCACHE_OK;
 }
 

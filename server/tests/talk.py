@@ -1,6 +1,8 @@
 # SPDX-License-Identifier: MIT
 """What the tests of the server share: a server at a free port, connections to it, and the count of faults."""
 
+import os
+import random
 import re
 import signal
 import socket
@@ -9,23 +11,47 @@ import time
 from contextlib import contextmanager
 
 faults = 0
+first = False  # the first fault ends the tests
+servers = []
+patience = 30  # seconds that a reply may take
 
 
 def check(right, what):
     global faults
     if not right:
         faults += 1
-        print(f"not so: {what}")
+        print(f"not so: {what}", flush=True)
+        if first:
+            leave()
+
+
+def start(words, **more):
+    """Starts a server."""
+    servers.append(server := subprocess.Popen([*words], **more))
+    return server
+
+
+def leave():
+    """Ends the tests at once, and all servers."""
+    for server in servers:
+        server.kill()
+    os._exit(1)
 
 
 def free_port():
-    with socket.socket() as free:
-        free.bind(("127.0.0.1", 0))
-        return free.getsockname()[1]
+    """A port below those that Linux gives to connections, which come and go meanwhile."""
+    while True:
+        with socket.socket() as free:
+            port = random.randrange(10000, 32000)
+            if free.connect_ex(("127.0.0.1", port)) != 0:
+                return port
 
 
-def wait_for(port):
+def wait_for(port, server=None):
+    """Waits until a server listens, which may have ended."""
     for _ in range(400):
+        if server is not None and server.poll() is not None:
+            break
         try:
             return socket.create_connection(("127.0.0.1", port)).close()
         except ConnectionRefusedError:
@@ -37,18 +63,22 @@ def wait_for(port):
 def running(command, *options, port=None):
     """A server at a port of this machine, which ends well when it is told to."""
     port = port or free_port()
-    with subprocess.Popen([*command, "-l", "127.0.0.1", "-p", str(port), *options]) as server:
+    with start([*command, "-l", "127.0.0.1", "-p", str(port), *options]) as server:
         try:
-            wait_for(port)
+            wait_for(port, server)
             yield port
         finally:
             server.send_signal(signal.SIGTERM)
-            status = server.wait(timeout=60)
+            try:
+                status = server.wait(timeout=2 * patience)
+            except subprocess.TimeoutExpired:
+                server.kill()
+                status = "no end"
             check(status == 0, f"{command[0]} ended with {status}")
 
 
 def connect(port):
-    connection = socket.create_connection(("127.0.0.1", port), timeout=30)
+    connection = socket.create_connection(("127.0.0.1", port), timeout=patience)
     connection.setsockopt(socket.IPPROTO_TCP, socket.TCP_NODELAY, 1)
     return connection
 
