@@ -2,6 +2,7 @@
 """Tests of the server's counts, of keys that are busy or have no room, and of what is given back."""
 
 import re
+import subprocess
 import time
 from pathlib import Path
 
@@ -174,6 +175,27 @@ def names(command):
         check(stats_of(connection, "settings")["verbosity"] == "2", "verbosity 9 is 2")
         say(connection, "verbosity 0\r\nversion\r\n", "OK\r\nVERSION 1.6.0-segcache\r\n")
         check(stats_of(connection, "settings")["verbosity"] == "0", "verbosity 0 is 0")
+
+
+def long_names(command):
+    """The options' long names, and what holds without them."""
+    options = """--threads 3 --listen-backlog 9 --max-reqs-per-event 8 --memory-limit 4 --conn-limit 55 --max-item-size
+                 1k --enable-shutdown --disable-cas --disable-flush-all --protocol ascii --verbose --udp-port 0"""
+    with running(command, *options.split()) as port, connect(port) as connection:
+        settings = stats_of(connection, "settings")
+        wanted = {"num_threads": "3", "tcp_backlog": "9", "reqs_per_event": "8", "maxbytes": str(4 << 20),
+                  "maxconns": "55", "shutdown_command": "yes", "cas_enabled": "no", "flush_enabled": "no",
+                  "binding_protocol": "ascii", "verbosity": "1"}
+        check(wanted.items() <= settings.items(), f"the settings are {settings}, and not {wanted}")
+    with running(command) as port, connect(port) as connection:
+        settings = stats_of(connection, "settings")
+        wanted = {"num_threads": "4", "tcp_backlog": "1024", "reqs_per_event": "256", "maxbytes": str(64 << 20),
+                  "maxconns": "1024", "shutdown_command": "no", "cas_enabled": "yes", "flush_enabled": "yes",
+                  "binding_protocol": "auto-negotiate", "verbosity": "0", "time_to_live": "0", "idle_timeout": "0"}
+        check(wanted.items() <= settings.items(), f"without options they are {settings}, and not {wanted}")
+    for words, shown in (("--help", "--memory-limit"), ("--version", "segcache-server 1.6.0-segcache\n")):
+        ran = subprocess.run([*command, words], capture_output=True, text=True, timeout=60)
+        check(ran.returncode == 0 and shown in ran.stdout, f"{words} shows {shown}")
 
 
 def sizes(command):
