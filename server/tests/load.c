@@ -2,11 +2,14 @@
 /* A load for a server of memcached's text protocol: threads, each over some connections. On each connection it
  * sends so many commands in one piece, and reads all replies before the next. It ends by itself.
  *
- *     load PORT THREADS CONNECTIONS DEPTH KEYS GETS(percent) SECONDS
+ *     load PORT THREADS CONNECTIONS DEPTH KEYS GETS(percent) SECONDS [RATE]
  *
  * Keys are drawn by Zipf's law with the exponent 0.99; a get that misses is not put. First each key is set once.
  * It prints one line of JSON: commands a second, hits, and how long a piece took, at the median and the 99th
- * percentile. */
+ * percentile.
+ *
+ * With a rate it sends so many commands a second, one in a piece, each when its time has come, on a connection that
+ * waits for no reply. A command took the time from then until its reply is there. Gets and sets are told apart. */
 #include <arpa/inet.h>
 #include <math.h>
 #include <netinet/tcp.h>
@@ -22,14 +25,23 @@
 enum { MOST_THREADS = 64, MOST_CONNECTIONS = 256, MOST_DEPTH = 256, PIECES = 1 << 21 };
 
 static int port, threads, connections, depth, keys, gets;
-static double until;
+static double rate, until;
 static double *bounds; /* the share of draws up to each key */
 
 struct worker {
   pthread_t thread;
   int sockets[MOST_CONNECTIONS];
   uint64_t seed, commands, asked, hits, faults, pieces;
-  float *took; /* microseconds of each piece */
+  float *took; /* microseconds of each piece; with a rate of each get */
+  float *took_sets;
+  uint64_t sets; /* that were timed */
+};
+
+/* A connection of a load with a rate. */
+struct call {
+  bool is_waiting, is_get;
+  double due;
+  bool is_value; /* a value was in it, so END comes behind */
 };
 
 static double now(void) {
@@ -121,6 +133,53 @@ static void *work(void *argument) {
   return NULL;
 }
 
+/* Reads what there is of a reply. It returns whether the reply is whole. Replies are below a piece of 4 KB. */
+static bool read_some(struct worker *worker, int socket, struct call *call) {
+  char buffer[4096];
+  ssize_t got = recv(socket, buffer, sizeof buffer, MSG_DONTWAIT);
+  if (got < 0) return false;
+  if (got == 0) perror("recv"), exit(1);
+  if (buffer[0] == 'V' && !call->is_value) call->is_value = true, worker->hits++;
+  if (buffer[0] != 'V' && buffer[0] != 'E' && !call->is_value && memcmp(buffer, "STORED", 6) != 0) worker->faults++;
+  return buffer[got - 1] == '\n' && (!call->is_value || (got >= 5 && memcmp(buffer + got - 5, "END\r\n", 5) == 0));
+}
+
+static void note_time(struct worker *worker, const struct call *call) {
+  float took = (float)((now() - call->due) * 1e6);
+  if (call->is_get) worker->took[worker->pieces++ % PIECES] = took;
+  else worker->took_sets[worker->sets++ % PIECES] = took;
+  worker->commands++;
+}
+
+/* Sends the command that is due on this connection. */
+static void send_due(struct worker *worker, int socket, struct call *call, double due) {
+  char piece[64];
+  bool is_get = draw(worker) % 100 < (uint64_t)gets;
+  *call = (struct call){.is_waiting = true, .is_get = is_get, .due = due};
+  worker->asked += is_get;
+  send_all(socket, piece, write_command(piece, draw_key(worker), is_get));
+}
+
+static void *work_at_rate(void *argument) {
+  struct worker *worker = argument;
+  struct call calls[MOST_CONNECTIONS] = {0};
+  double step = threads / rate, due = now() + step;
+  int next = 0;
+  while (now() < until) {
+    for (int tried = 0; tried < connections && due <= now(); tried++, next = (next + 1) % connections) {
+      if (calls[next].is_waiting) continue;
+      send_due(worker, worker->sockets[next], &calls[next], due);
+      due += step;
+    }
+    for (int i = 0; i < connections; i++) {
+      if (!calls[i].is_waiting || !read_some(worker, worker->sockets[i], &calls[i])) continue;
+      note_time(worker, &calls[i]);
+      calls[i].is_waiting = false;
+    }
+  }
+  return NULL;
+}
+
 static void fill(void) {
   struct worker worker = {0};
   char piece[64 * 100];
@@ -140,12 +199,24 @@ static int by_size(const void *left, const void *right) {
   return (a > b) - (a < b);
 }
 
+static void print_times(const char *name, float *took, size_t count) {
+  static const double shares[] = {0.5, 0.99, 0.999, 0.9999};
+  static const char *const names[] = {"p50", "p99", "p999", "p9999"};
+  qsort(took, count, sizeof *took, by_size);
+  for (int i = 0; i < 4; i++) {
+    size_t at = (size_t)((double)count * shares[i]);
+    printf(", \"%s%s_us\": %.1f", name, names[i], count > 0 ? took[at < count ? at : count - 1] : 0);
+  }
+}
+
 int main(int count, char **words) {
   static struct worker workers[MOST_THREADS];
-  if (count != 8) return fprintf(stderr, "load PORT THREADS CONNECTIONS DEPTH KEYS GETS SECONDS\n"), 2;
+  if (count != 8 && count != 9)
+    return fprintf(stderr, "load PORT THREADS CONNECTIONS DEPTH KEYS GETS SECONDS [RATE]\n"), 2;
   port = atoi(words[1]), threads = atoi(words[2]), connections = atoi(words[3]), depth = atoi(words[4]);
   keys = atoi(words[5]), gets = atoi(words[6]);
   double seconds = atof(words[7]), sum = 0;
+  rate = count == 9 ? atof(words[8]) : 0;
   if (threads < 1 || threads > MOST_THREADS || connections < 1 || connections > MOST_CONNECTIONS || depth < 1 ||
       depth > MOST_DEPTH || keys < 1 || seconds > 120)
     return fprintf(stderr, "load: too many threads, connections or commands in a piece, or too long\n"), 2;
@@ -158,24 +229,28 @@ int main(int count, char **words) {
   for (int i = 0; i < threads; i++) {
     workers[i].seed = 88172645463325252ull + (uint64_t)i * 0x9e3779b97f4a7c15ull;
     workers[i].took = malloc(PIECES * sizeof(float));
+    workers[i].took_sets = malloc(PIECES * sizeof(float));
     for (int k = 0; k < connections; k++) workers[i].sockets[k] = open_connection();
-    pthread_create(&workers[i].thread, NULL, work, &workers[i]);
+    pthread_create(&workers[i].thread, NULL, rate > 0 ? work_at_rate : work, &workers[i]);
   }
-  uint64_t commands = 0, asked = 0, hits = 0, faults = 0, pieces = 0;
+  uint64_t commands = 0, asked = 0, hits = 0, faults = 0, pieces = 0, sets = 0;
   float *took = malloc((size_t)threads * PIECES * sizeof(float));
+  float *took_sets = malloc((size_t)threads * PIECES * sizeof(float));
   for (int i = 0; i < threads; i++) {
     struct worker *worker = &workers[i];
     pthread_join(worker->thread, NULL);
     commands += worker->commands, asked += worker->asked, hits += worker->hits, faults += worker->faults;
     uint64_t kept = worker->pieces < PIECES ? worker->pieces : PIECES;
     memcpy(took + pieces, worker->took, kept * sizeof(float)), pieces += kept;
+    kept = worker->sets < PIECES ? worker->sets : PIECES;
+    memcpy(took_sets + sets, worker->took_sets, kept * sizeof(float)), sets += kept;
   }
   double elapsed = now() - start;
-  qsort(took, pieces, sizeof *took, by_size);
   printf("{\"commands\": %llu, \"commands_per_second\": %.0f, ", (unsigned long long)commands,
          (double)commands / elapsed);
-  printf("\"hits\": %.4f, \"faults\": %llu, ", asked > 0 ? (double)hits / (double)asked : 0,
-         (unsigned long long)faults);
-  printf("\"p50_us\": %.1f, \"p99_us\": %.1f}\n", took[pieces / 2], took[pieces * 99 / 100]);
+  printf("\"hits\": %.4f, \"faults\": %llu", asked > 0 ? (double)hits / (double)asked : 0, (unsigned long long)faults);
+  print_times(rate > 0 ? "get_" : "", took, pieces);
+  if (rate > 0) print_times("set_", took_sets, sets);
+  printf("}\n");
   return 0;
 }
