@@ -53,6 +53,8 @@ CONVERSATIONS = {
         ("cas a 0 0 1 99999999\r\ny\r\n", "EXISTS\r\n"),
         ("cas a 0 0 1 99999999999\r\ny\r\n", "EXISTS\r\n"),
         ("cas a 0 0 1\r\n", "ERROR\r\n"),
+        ("set a 0 0 1 noreply 5\r\n", "ERROR\r\n"),
+        ("cas a 0 0 1 1 noreply 5\r\n", "ERROR\r\n"),
         ("cas a 0 0 1 x\r\n", BAD),
         ("gets none\r\n", "END\r\n"),
     ],
@@ -209,6 +211,8 @@ CONVERSATIONS = {
         ("mg 44OG44K544OI v\r\n", "EN\r\n"),
         ("mg 44OG44K544OI b k v\r\n", "VA 2 k44OG44K544OI b\r\npo\r\n"),
         ("mg 44OG44K54*OI b k v\r\n", "CLIENT_ERROR error decoding key\r\n"),
+        ("set abcdefghi 0 0 1\r\n1\r\nmg YWJjZGVmZ2hp b v\r\n", "STORED\r\nVA 1\r\n1\r\n"),
+        ("set ijklmnop 0 0 1\r\n2\r\nmg aWprbG1ub3A= b v\r\n", "STORED\r\nVA 1\r\n2\r\n"),
         ("ms b 2000000\r\n" + "x" * 2000000 + "\r\nmg b v\r\n", TOO_LARGE + "EN\r\n"),
     ],
     "meta deletes and sums": [
