@@ -33,7 +33,7 @@ FRONT = [("mixed, 1", "mixed", 1), ("mixed, 4", "mixed", 4), ("16 gets, 1", "get
 # The programs of the tables of times.
 SHOWN = ["ours", "reference", "absl_spin", "dashmap"]
 # Those of README.md, by the names that it has for them.
-FRONT_SHOWN = {"ours": "this index", "lru_spin": "LRU, spin locks", "reference": "C++, same layout",
+FRONT_SHOWN = {"ours": "this index", "lru_spin": "LRU, spin locks", "reference": "C++ rewrite",
                "absl_spin": "Abseil, spin locks", "dashmap": "DashMap"}
 # The order of the caches in their tables. What runs in a JVM stands last.
 CACHES = ["ours", "ours_c", "lru_spin", "lru_mutex", "tbb_lru", "rust_lru", "s3fifo", "caffeine"]
