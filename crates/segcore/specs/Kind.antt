@@ -1,8 +1,8 @@
 -- The kinds of step: the one word that each touches, what that word becomes,
 -- the events that the step adds, and when a pass may take it.
-use Rattle.std.specs.Prelude.{◌≡◌, ℕ, ◌+◌, ◌%◌, ◌^◌, ◌<◌, ◌≤◌, ◌==◌, ◌⊎◌, Bool, true, false, List, [], ◌∷◌, ◌++◌, Option, Some, None, bit_or, if◌then◌else◌, ◌*◌}
+use Rattle.std.specs.Prelude.{◌≡◌, ℕ, ◌+◌, ◌%◌, ◌^◌, ◌<◌, ◌≤◌, ◌==◌, ◌⊎◌, Bool, true, false, List, [], ◌∷◌, ◌++◌, Option, Some, None, bit_or, if◌then◌else◌, ◌*◌, MatchBool}
 use prog.Atomic.{either}
-use Rattle.segword.specs.Words.{chain_word, row_width, Shape}
+use Rattle.segword.specs.Words.{chain_word, covers, most_span, row_width, Shape}
 use Rattle.segmodel.specs.declared.entry.Entry.TheVariants as entry
 use Rattle.segmodel.specs.Words.{after, bucket_of, Follows, key_of, owner, Reply, Request, tag_of}
 use Rattle.segcore.specs.declared.event.Event.{Event}
@@ -12,7 +12,7 @@ use Rattle.segcore.specs.declared.cell.Cell.TheVariants.{OfCounter, OfBucket, Of
 use Rattle.segcore.specs.Event.{AllBy, seen}
 use Rattle.segcore.specs.Bucket.{Slot, item, copy, last, fresh_position, is, bucket_after}
 use Rattle.segcore.specs.Overflow.{drawn_in}
-use Rattle.segcore.specs.Row.{row_after}
+use Rattle.segcore.specs.Row.{row_after, span_in}
 use Rattle.segcore.specs.Segment.{inside}
 use Rattle.segcore.specs.ItemWord.{packed, IsInItem}
 use Rattle.segcore.specs.Lawful.{IsSegment, Fits, IsLawful}
@@ -161,9 +161,16 @@ MayLookAt (OfBucket bucket w) = 0 < w
 MayLookAt (OfOverflow number w) = 0 < w
 MayLookAt _ = ⊥
 
+-- the row is one of the item that begins in another one, and that one where items take one row
+abbrev pub IsRowOf : List Event → ℕ → ℕ → ℕ → Type 0
+IsRowOf trace segment first row =
+    MatchBool (most_span == 1)
+    (first ≡ row)
+    (covers first (span_in trace segment first) row ≡ true)
+
 -- The row is the pass's own.
 -- Or the pass is in the row's segment, and the row was linked in this filling.
--- Or a word of a bucket whose bit the pass has names the row.
+-- Or a word of a bucket whose bit the pass has names the row, or an item that the row is of.
 abbrev pub MayRead : Shape → List Event → ℕ → ℕ → ℕ → Type 0
 MayRead shape trace pass segment row =
     (owner shape segment ≡ pass)
@@ -171,7 +178,7 @@ MayRead shape trace pass segment row =
     × ((key : List ℕ) × ((row_after trace segment row).linked ≡ Some key)))
     ⊎ ((bucket : ℕ) × (position : ℕ) × (named : Slot) × HasBit shape trace pass bucket
     × ((bucket_after shape trace bucket).items position ≡ item named) × (named.segment ≡ segment)
-    × (named.row ≡ row)))
+    × IsRowOf trace segment named.row row))
 
 -- the refused write is of the bucket, and a cache of one thread refuses it
 abbrev pub MayRefuse : Shape → List Event → ℕ → ℕ → Option (Request × Reply) → Type 0

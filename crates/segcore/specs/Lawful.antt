@@ -1,7 +1,7 @@
 -- Which event may come next after a trace, and which traces are lawful:
 -- each event could come where it stands.
-use Rattle.std.specs.Prelude.{◌≡◌, ◌≢◌, ℕ, ◌+◌, ◌*◌, ◌<◌, Bool, true, false, List, [], ◌∷◌, ◌⊎◌, Option, Some, None, MatchOption, ◌^◌}
-use Rattle.segword.specs.Words.{IsKey, IsValue, row_width, Shape}
+use Rattle.std.specs.Prelude.{◌≡◌, ◌≢◌, ℕ, ◌+◌, ◌*◌, ◌<◌, ◌==◌, Bool, true, false, List, [], ◌∷◌, ◌⊎◌, Option, Some, None, MatchBool, MatchOption, ◌^◌}
+use Rattle.segword.specs.Words.{covers, IsKey, IsValue, row_width, Shape, span_of}
 use Rattle.segmodel.specs.declared.request.Reply.TheVariants.{NotStored, Exists, NotFound}
 use Rattle.segmodel.specs.Words.{after, bucket_of, Follows, key_of, owner, Reply, standing}
 use Rattle.segmodel.specs.Words.{value_of}
@@ -10,7 +10,7 @@ use Rattle.segcore.specs.declared.event.Event.TheVariants.{Took, Bounced, Glance
 use Rattle.segcore.specs.Event.{by, entry_of, seen}
 use Rattle.segcore.specs.Bucket.{Slot, slot, nothing, item, copy, last, fresh_position, IsPosition, bucket_at, is, bucket_after}
 use Rattle.segcore.specs.Overflow.{drawn_in}
-use Rattle.segcore.specs.Row.{Row, Holds, row_after, frequency_of}
+use Rattle.segcore.specs.Row.{Row, Holds, row_after, span_in, frequency_of}
 use Rattle.segcore.specs.Segment.{inside, readers, was_used}
 use Rattle.segcore.specs.ItemWord.{IsWordOf}
 use Rattle.segcore.specs.declared.event.Leaving.TheVariants.{Deletes, Evicts}
@@ -43,6 +43,13 @@ IsOwnRow shape trace pass segment row =
     × (row < shape.rows)
     × (owner shape segment ≡ pass)
     × ((row_after trace segment row).linked ≡ None)
+
+-- so many rows from a first one on are of the pass, and not linked in this filling
+abbrev pub AreOwnRows : Shape → List Event → ℕ → ℕ → ℕ → ℕ → Type 0
+AreOwnRows shape trace pass segment first rows =
+    MatchBool (rows == 1)
+    (IsOwnRow shape trace pass segment first)
+    ((row : ℕ) → covers first rows row ≡ true → IsOwnRow shape trace pass segment row)
 
 -- a refused write leaves all as it is
 abbrev pub IsRefusal : Reply → Type 0
@@ -95,7 +102,7 @@ Suits shape trace (Filled pass segment row place word) =
     IsOwnRow shape trace pass segment row × (place < row_width)
 Suits shape trace (Linked pass request segment row position) =
     let state = bucket_after shape trace (bucket_of shape (key_of request)) in
-    IsOwnRow shape trace pass segment row
+    AreOwnRows shape trace pass segment row (span_of (key_of request) (value_of request))
     × Holds (row_after trace segment row) (key_of request) (value_of request)
     × (state.written ≡ false)
     × IsPosition state position
@@ -104,7 +111,7 @@ Suits shape trace (Linked pass request segment row position) =
     × IsValue (value_of request)
 Suits shape trace (Relinked pass key from from_row segment row position) =
     let state = bucket_after shape trace (bucket_of shape key) in
-    IsOwnRow shape trace pass segment row
+    AreOwnRows shape trace pass segment row (span_in trace segment row)
     × HoldsWhatStands shape trace key from (row_after trace segment row)
     × (state.items position ≡ item (slot key from from_row))
 Suits shape trace (Unlinked pass key position why) =

@@ -11,16 +11,17 @@ pub use Rattle.segcore.specs.ItemWord.{IsWordOf, packed}
 pub use Rattle.segcore.specs.Kind.{adds, becomes, bump, cell, chain, clear, draw, enter, fill}
 pub use Rattle.segcore.specs.Kind.{glance, HasBit, info_look, leave, link, look, May, MayRead}
 pub use Rattle.segcore.specs.Kind.{none_reading, release, relink, row_load, row_store, Step, take}
-pub use Rattle.segcore.specs.Kind.{told, unless_own}
+pub use Rattle.segcore.specs.Kind.{IsRowOf, told, unless_own}
 pub use Rattle.segcore.specs.Lawful.{Fits, HasItemOf, HoldsWhatStands, is_of_now, IsLawful, IsOther}
-pub use Rattle.segcore.specs.Lawful.{IsOwnRow, IsRefusal, IsSegment, needs, NoneAt}
+pub use Rattle.segcore.specs.Lawful.{AreOwnRows, IsOwnRow, IsRefusal, IsSegment, needs, NoneAt}
 pub use Rattle.segcore.specs.Mark.{all_drawn, chained_to, drawn, drawn_for, enters, entries}
 pub use Rattle.segcore.specs.Mark.{frequency_in, last_at, linked_in, Mark, marked, width}
 unfoldable pub use Rattle.segcore.specs.Mark.{same_key}
 pub use Rattle.segcore.specs.Overflow.{drawn_in, Home, home, home_of}
 pub use Rattle.segcore.specs.Props.{AllBy-prop, Event-set, IsLawful-prop, NoneAt-prop}
 pub use Rattle.segcore.specs.Props.{NoneRefills-prop}
-pub use Rattle.segcore.specs.Row.{frequency_of, Holds, Row, row_after, row_at, writes_row}
+pub use Rattle.segcore.specs.Row.{frequency_of, Holds, is_of_row, Row, row_after, row_alone, row_at}
+pub use Rattle.segcore.specs.Row.{span_in, words_on, writes_row}
 pub use Rattle.segcore.specs.Run.{IsRun, IsStepOf}
 pub use Rattle.segcore.specs.Search.{KeyAhead, KeyAt, KeyGone, RowAt, RowGone}
 pub use Rattle.segcore.specs.Segment.{inside, NoneRefills, readers, was_used}

@@ -1,10 +1,10 @@
 -- When words are a row, by the layout alone:
--- word 0 has the key's length in bits 7..0 and the value's in bits 23..8, the words from 1 on have the key's bytes, and those from HEAD_WORDS on the value's.
-use Rattle.std.specs.Prelude.{◌≡◌, ℕ, ◌*◌, ◌/◌, ◌%◌, ◌^◌, ◌<◌, ◌≤◌, List, length, slice_index, slice_range}
+-- word 0 has the key's length in bits 7..0 and the value's in bits 23..8, the words from 1 on have the key's bytes, and those behind them the value's.
+use Rattle.std.specs.Prelude.{◌≡◌, ℕ, ◌+◌, ◌*◌, ◌/◌, ◌%◌, ◌^◌, ◌<◌, ◌≤◌, List, length, slice_index, slice_range}
 use Rattle.segword.specs.declared.key.TheConstants.{KEY_BYTES}
-use Rattle.segword.specs.declared.row.TheConstants.{HEAD_WORDS, ROW_WORDS}
+use Rattle.segword.specs.declared.spans.TheConstants.{ITEM_WORDS}
 use Rattle.segword.specs.declared.value.TheConstants.{VALUE_BYTES}
-use Rattle.segword.specs.Row.{byte_at}
+use Rattle.segword.specs.Row.{byte_at, key_width}
 
 -- the length of the key, and that of the value, that a row's first word gives
 abbrev pub key_length : ℕ → ℕ
@@ -23,5 +23,5 @@ pub record IsRow (words : List ℕ) : Type 0 where
   pub key_fits : key_length (slice_index words 0) ≤ KEY_BYTES
   pub value_fits : value_length (slice_index words 0) ≤ VALUE_BYTES
   pub no_other_header_bit : slice_index words 0 / 2 ^ 24 ≡ 0
-  pub nothing_past_key : IsZeroFrom (slice_range words 1 HEAD_WORDS) (key_length (slice_index words 0))
-  pub nothing_past_value : IsZeroFrom (slice_range words HEAD_WORDS ROW_WORDS) (value_length (slice_index words 0))
+  pub nothing_past_key : IsZeroFrom (slice_range words 1 (1 + key_width (key_length (slice_index words 0)))) (key_length (slice_index words 0))
+  pub nothing_past_value : IsZeroFrom (slice_range words (1 + key_width (key_length (slice_index words 0))) ITEM_WORDS) (value_length (slice_index words 0))

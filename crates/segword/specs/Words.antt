@@ -1,6 +1,7 @@
 -- The words of this crate that others use, from one place.
 use Rattle.std.specs.Prelude.{ℕ}
 use Rattle.segword.specs.declared.row.TheConstants.{HEAD_WORDS, ROW_WORDS}
+use Rattle.segword.specs.declared.spans.TheConstants.{ITEM_WORDS, MOST_SPAN}
 use Rattle.segword.specs.declared.value.TheConstants.{VALUE_BYTES, VALUE_WORDS}
 pub use Rattle.segword.specs.Bytes.{IsKey, IsValue}
 pub use Rattle.segword.specs.ChainWord.{chain_word, IsChainWord}
@@ -10,10 +11,12 @@ pub use Rattle.segword.specs.ItemWord.{item_word, tag_part}
 pub use Rattle.segword.specs.Props.{either-prop, IsKey-prop, IsValid-prop, IsValue-prop, pair-prop}
 pub use Rattle.segword.specs.Props.{quadruple-prop, triple-prop}
 pub use Rattle.segword.specs.Reading.{IsProperReading, reading_word}
-pub use Rattle.segword.specs.Row.{row_of}
+pub use Rattle.segword.specs.Row.{key_width, row_of}
 pub use Rattle.segword.specs.SameItem.{IsSameItem}
 pub use Rattle.segword.specs.SegmentWord.{word_of_segment}
 pub use Rattle.segword.specs.Shape.{fault_number, IsFirstFault, IsValid, word_count}
+pub use Rattle.segword.specs.Spans.{covers, place_behind, row_behind, span, span_of, span_of_header}
+pub use Rattle.segword.specs.Spans.{value_place}
 use Rattle.segword.specs.declared.info.Info as declared_info
 use Rattle.segword.specs.declared.item.Item as declared_item
 use Rattle.segword.specs.declared.reading.Reading as declared_reading
@@ -40,6 +43,13 @@ Shape = declared_shape.Shape
 -- and how many bytes a value has at most.
 abbrev pub row_width : ℕ
 row_width = ROW_WORDS
+
+-- how many words the longest item has, in whole rows, and how many rows that are
+abbrev pub item_width : ℕ
+item_width = ITEM_WORDS
+
+abbrev pub most_span : ℕ
+most_span = MOST_SPAN
 
 abbrev pub head_width : ℕ
 head_width = HEAD_WORDS

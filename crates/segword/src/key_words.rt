@@ -1,10 +1,13 @@
 //! A key in the form in which rows hold it, for comparing it with rows word by word.
-ghost use Rattle.std.specs.Prelude.{◌≡◌, ◌↔◌, IsTrue, List, ℕ, take};
+ghost use Rattle.std.specs.Prelude.{◌≡◌, ◌↔◌, ◌<◌, ◌==◌, ◌+◌, IsTrue, List, ℕ, take, length, slice_index, if◌then◌else◌};
 ghost use Rattle.segword.specs.Bytes.{IsKey, IsValue};
 ghost use Rattle.segword.specs.Row.{row_of};
 ghost use Rattle.segword.specs.KeyWords.{key_words, key_part};
+ghost use Rattle.segword.specs.RowLayout.{key_length};
+ghost use Rattle.segword.specs.Row.{key_width};
 
-use crate::row::{HEAD_WORDS, ROW_WORDS};
+use crate::row::HEAD_WORDS;
+use crate::spans::{ITEM_WORDS, MOST_SPAN, key_width};
 use crate::{Key, Value};
 use std::marker::Model;
 
@@ -56,14 +59,73 @@ impl KeyWords {
     }
 
     /// The words of this key and a value.
-    pub fn row(&self, value: &Value) -> [u64; ROW_WORDS]
+    pub fn row(&self, value: &Value) -> [u64; ITEM_WORDS]
         ensures row { result ≡ row_of self.now value.now }
         ensures valid { IsValue value.now }
     {
-        let mut row = [0; ROW_WORDS];
+        if MOST_SPAN > 1 {
+            return self.item(value);
+        }
+        let mut row = [0; ITEM_WORDS];
         row[..HEAD_WORDS].copy_from_slice(&self.words);
         row[0] |= (value.len() as u64) << 8;
         row[HEAD_WORDS..].copy_from_slice(&value.words());
         row
+    }
+
+    // These words one by one, where an item has as many for the key as the key needs.
+    fn item(&self, value: &Value) -> [u64; ITEM_WORDS]
+        requires wide { 1 < MOST_SPAN }
+        ensures row { result ≡ row_of self.now value.now }
+        ensures valid { IsValue value.now }
+    {
+        let mut words = [0; ITEM_WORDS];
+        for place in 0..ITEM_WORDS {
+            words[place] = self.word(value, place);
+        }
+        words
+    }
+
+    /// The word at a place of this key's and a value's words, where an item has as many for the
+    /// key as the key needs.
+    #[inline(always)]
+    pub fn word(&self, value: &Value, place: usize) -> u64
+        requires wide { 1 < MOST_SPAN }
+        requires place { place < ITEM_WORDS }
+        ensures { result ≡ slice_index (row_of self.now value.now) place }
+    {
+        if place == 0 {
+            return (value.len() as u64) << 8 | self.words[0];
+        }
+        let from = self.head();
+        if place < from {
+            return self.words[place];
+        }
+        value.word(place - from)
+    }
+
+    /// How many of an item's words have the lengths and this key, where these are as many as the
+    /// key needs.
+    #[inline(always)]
+    pub fn head(&self) -> usize
+        requires wide { 1 < MOST_SPAN }
+        ensures { result ≡ 1 + key_width (length self.now) }
+    {
+        1 + key_width(self.words[0] as u32) as usize
+    }
+
+    /// Whether an item with this word at a place can be one of this key: at place 0 if its
+    /// key has this length, and at any other that has a part of a key if that part is the same.
+    #[inline(always)]
+    pub fn has_word(&self, place: usize, word: u64) -> bool
+        requires wide { 1 < MOST_SPAN }
+        requires place { place < HEAD_WORDS }
+        ensures { IsTrue result ↔ (slice_index (key_words self.now) place
+            ≡ (if place == 0 then key_length word else word)) }
+    {
+        if place == 0 {
+            return word & 0xff == self.words[0];
+        }
+        word == self.words[place]
     }
 }

@@ -46,7 +46,7 @@ pub(crate) fn full_words<const N: usize>(bytes: &[u8]) -> [u64; N]
 
 // The word of the eight bytes from `from` on.
 #[inline(always)]
-fn full_word_at(bytes: &[u8], from: usize) -> u64
+pub(crate) fn full_word_at(bytes: &[u8], from: usize) -> u64
     requires { from + 8 ≤ length bytes.now }
     ensures { result ≡ word_at bytes.now from }
 {
