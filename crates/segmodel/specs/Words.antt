@@ -21,6 +21,7 @@ pub use Rattle.segmodel.specs.Serving.{gets_answer, is_held, is_out_of_rows, is_
 pub use Rattle.segmodel.specs.Serving.{lacks_word, may_chain, may_go, placed, refill_answer}
 pub use Rattle.segmodel.specs.Serving.{reply_of_delete, reply_of_write, Serves, ServesDelete}
 pub use Rattle.segmodel.specs.Serving.{ServesEvict, ServesStore, stored, taken_out, with_key}
+pub use Rattle.segmodel.specs.Serving.{lacks_rows, span_under, with_rows}
 pub use Rattle.segmodel.specs.State.{but_for, Filling, fresh, is_among, is_in, is_in_use, is_locked}
 pub use Rattle.segmodel.specs.State.{is_named, is_stored, IsSound, State}
 pub use Rattle.segmodel.specs.Turns.{Runs, Turns}

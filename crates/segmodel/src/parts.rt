@@ -5,14 +5,15 @@ ghost use Rattle.std.specs.Map.{lookup};
 ghost use Rattle.std.specs.BTreeMap.{is_at};
 ghost use Rattle.segmodel.specs.Cache.{key_cmp, with_at, in_segment, counted};
 ghost use Rattle.segmodel.specs.State.{but_for, is_among, is_in};
-ghost use Rattle.segmodel.specs.Serving.{with_key, higher, raised, raised_in};
+ghost use Rattle.segmodel.specs.Serving.{with_rows, higher, raised, raised_in};
+ghost use Rattle.segword.specs.Words.{most_span, span_of};
 ghost use Rattle.segmodel.specs.declared.answer.SegState.TheVariants.{InUse, Evicted};
-ghost use Rattle.segmodel.specs.Segments.{HasRow, AreRoomy, KeepsRoom, AllEmpty, fillings};
+ghost use Rattle.segmodel.specs.Segments.{HasRows, AreRoomy, KeepsRoom, AllEmpty, fillings};
 ghost use Rattle.segmodel.specs.Segments.{deadlines, by_bucket};
 
 use crate::segment::Segment;
 use crate::{Cached, PlainFault, SegState};
-use segword::Key;
+use segword::{Key, MOST_SPAN, Value, span_of};
 use std::alloc::Global;
 use std::cmp::Ordering;
 use std::collections::BTreeMap;
@@ -75,18 +76,38 @@ pub fn raise_in(segments: &mut Vec<Segment>, segment: usize, key: &Key)
     raise(&found.keys, &mut found.frequencies, key);
 }
 
-// Adds a key to a segment, with the frequency of its item.
-pub fn add_row(segments: &mut Vec<Segment>, segment: usize, key: Key, frequency: u8)
-    requires { HasRow segments.old.items segment }
+// Adds a key to a segment, once for each row of its item, with the frequency of the item.
+pub fn add_row(segments: &mut Vec<Segment>, segment: usize, key: Key, value: &Value, frequency: u8)
+    requires { HasRows segments.old.items segment (span_of key value.now) }
     ensures len { vec_len segments.new ≡ vec_len segments.old }
     ensures added { fillings segments.new.items
         ≡ with_at (fillings segments.old.items) segment
-        (with_key key frequency (fillings segments.old.items segment)) }
+        (with_rows (span_of key value.now) key frequency (fillings segments.old.items segment)) }
     ensures deadlines { deadlines segments.new.items ≡ deadlines segments.old.items }
     ensures room { KeepsRoom segments.old.items segments.new.items }
 {
+    if MOST_SPAN > 1 {
+        return add_rows(segments, segment, &key, span_of(&key, value), frequency);
+    }
     segments[segment].keys.push_reserved(key);
     segments[segment].frequencies.push_reserved(frequency);
+}
+
+// Adds a key to a segment so many times, with this frequency.
+fn add_rows(segments: &mut Vec<Segment>, segment: usize, key: &Key, rows: u32, frequency: u8)
+    requires wide { 1 < most_span }
+    requires left { HasRows segments.old.items segment rows }
+    ensures len { vec_len segments.new ≡ vec_len segments.old }
+    ensures added { fillings segments.new.items
+        ≡ with_at (fillings segments.old.items) segment
+        (with_rows rows key.now frequency (fillings segments.old.items segment)) }
+    ensures deadlines { deadlines segments.new.items ≡ deadlines segments.old.items }
+    ensures room { KeepsRoom segments.old.items segments.new.items }
+{
+    for _row in 0..rows {
+        segments[segment].keys.push_reserved(key.copy());
+        segments[segment].frequencies.push_reserved(frequency);
+    }
 }
 
 // Counts one more write to a bucket.
