@@ -1,7 +1,9 @@
 -- The words of a board that was closed, and what had happened by then.
-use Rattle.std.specs.Prelude.{◌≡◌, ℕ, ◌<◌, ◌≤◌, List, ◌++◌, Some, slice_get, slice_index}
+use Rattle.std.specs.Prelude.{◌≡◌, ℕ, ◌*◌, ◌<◌, ◌≤◌, List, ◌++◌, Some, slice_get, slice_index}
 use Rattle.std.specs.Slots.{slots_items}
-use Rattle.segword.specs.Words.{IsValid, Shape}
+use Rattle.segword.specs.Words.{IsValid, place_behind, row_behind, row_width, Shape}
+use Rattle.segword.specs.Words.{span_of_header}
+use Rattle.segcore.specs.declared.cell.Cell.TheVariants.{OfRow}
 use Rattle.segcore.specs.Words.{address, Cell, Event, IsCell, IsLawful, Knows, NoneBy, word}
 use Rattle.segbase.specs.declared.closing.Words.{Words}
 use Rattle.segbase.specs.declared.board.Board.{Board}
@@ -14,6 +16,13 @@ shape_of words = words.shape
 -- the word of a cell
 abbrev pub word_of_cell : Words → Cell → ℕ
 word_of_cell words cell = slice_index (slots_items words.closed.words) (address words.shape cell)
+
+-- these are the words of a row, and of the rows behind it as far as its item goes on there
+abbrev pub HasWordsOf : Words → ℕ → ℕ → List ℕ → Type 0
+HasWordsOf words segment row found = (place : ℕ)
+    → place < row_width * span_of_header (slice_index found 0)
+    → slice_index found place
+    ≡ word_of_cell words (OfRow segment (row_behind row place) (place_behind place))
 
 -- each word is what the trace makes it
 pub record IsAtRest (words : Words) (trace : List Event) : Type 0 where

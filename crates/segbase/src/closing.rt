@@ -1,7 +1,7 @@
 //! A board at its end: its words at rest, which no pass changes any more.
 ghost use Rattle.std.specs.Prelude.{◌≡◌, ◌<◌, ◌≤◌, ◌^◌, ℕ, List, slice_index};
 ghost use Rattle.std.specs.Slots.{slots_len, IsFull};
-ghost use Rattle.segword.specs.Words.{word_count};
+ghost use Rattle.segword.specs.Words.{most_span, word_count};
 ghost use Rattle.segcore.specs.declared.event.Event.{Event};
 ghost use Rattle.segcore.specs.declared.cell.Cell.{Cell};
 ghost use Rattle.segcore.specs.declared.cell.Cell.TheVariants.{OfRow};
@@ -14,7 +14,7 @@ use crate::layout::Layout;
 use crate::pass::Pass;
 use crate::place::{Place, Spot};
 use atomic_table::{Closed, Seat};
-use segword::{ROW_WORDS, Shape};
+use segword::{ITEM_WORDS, MOST_SPAN, ROW_WORDS, Shape, span_of_header};
 use std::alloc::Global;
 
 /// The words of a board that was closed.
@@ -97,7 +97,7 @@ impl Board {
 impl Words {
     ghost use Rattle.segcore.specs.Words.{address, IsCell};
     ghost use Rattle.segbase.specs.Spots.{IsPlace, cell_at, cell_of};
-    ghost use Rattle.segbase.specs.Closing.{shape_of, word_of_cell};
+    ghost use Rattle.segbase.specs.Closing.{HasWordsOf, shape_of, word_of_cell};
 
     /// The shape of the board.
     pub fn shape(&self) -> Shape
@@ -125,19 +125,46 @@ impl Words {
         self.word(Spot::Item(place))
     }
 
-    /// The words of a row.
-    pub fn row(&self, segment: u32, row: u32) -> [u64; ROW_WORDS]
+    /// The words of a row, or of the item of several rows that begins there.
+    /// Behind them is 0.
+    pub fn row(&self, segment: u32, row: u32) -> [u64; ITEM_WORDS]
         requires segment { IsSegment (shape_of self.now) segment }
         requires row { row < (shape_of self.now).rows }
-        ensures { (place : ℕ) → place < ROW_WORDS
-            → slice_index result place ≡ word_of_cell self.now (OfRow segment row place) }
+        ensures { HasWordsOf self.now segment row result }
     {
-        let mut words = [0; ROW_WORDS];
+        if MOST_SPAN > 1 {
+            return self.item_words(segment, row);
+        }
+        let mut words = [0; ITEM_WORDS];
         for place in 0..ROW_WORDS as u8 {
             words[place as usize] = self.word(Spot::Row {
                 segment,
                 row,
                 word: place,
+            });
+        }
+        words
+    }
+
+    // The words of the item that begins in a row.
+    fn item_words(&self, segment: u32, row: u32) -> [u64; ITEM_WORDS]
+        requires wide { 1 < most_span }
+        requires segment { IsSegment (shape_of self.now) segment }
+        requires row { row < (shape_of self.now).rows }
+        ensures { HasWordsOf self.now segment row result }
+    {
+        let header = self.word(Spot::Row {
+            segment,
+            row,
+            word: 0,
+        });
+        let rows = span_of_header(header).min(MOST_SPAN as u32);
+        let mut words = [0; ITEM_WORDS];
+        for place in 0..ROW_WORDS as u32 * rows.min(self.shape.rows - row) {
+            words[place as usize] = self.word(Spot::Row {
+                segment,
+                row: row + place / ROW_WORDS as u32,
+                word: (place % ROW_WORDS as u32) as u8,
             });
         }
         words

@@ -1,5 +1,6 @@
 //! Steps at segments: their rows, and who reads in them.
-ghost use Rattle.std.specs.Prelude.{◌≡◌, ℕ, ◌*◌, ◌^◌, [], IsSome, Some};
+ghost use Rattle.std.specs.Prelude.{◌≡◌, ℕ, ◌+◌, ◌-◌, ◌*◌, ◌^◌, ◌<◌, ◌≤◌, [], IsSome, Some};
+ghost use Rattle.segword.specs.Words.{most_span};
 ghost use Rattle.segmodel.specs.Words.{after};
 ghost use Rattle.segcore.specs.declared.event.Event.TheVariants.{Filled, Entered, Left};
 ghost use Rattle.segcore.specs.Words.{enter, IsCell, leave, none_reading, row_after, row_load};
@@ -10,7 +11,7 @@ ghost use Rattle.segbase.specs.Spots.{IsRowAt};
 use crate::board::Board;
 use crate::pass::Pass;
 use crate::place::{RowPlace, Spot};
-use segword::SegmentWord;
+use segword::{ROW_WORDS, SegmentWord};
 
 // The word of a segment with this deadline in which nobody reads.
 fn unread(deadline: u32) -> u64
@@ -85,6 +86,31 @@ impl Board {
                 word: 0,
             }),
         }
+    }
+
+    /// The row so many rows behind this one, in its segment.
+    #[inline(always)]
+    pub fn row_behind(&self, row: RowPlace, rows: u32) -> RowPlace
+        requires wide { 1 < most_span }
+        requires start { IsRowAt self.now.shape row }
+        requires row { IsCell self.now.shape (OfRow row.segment (row.row + rows) 0) }
+        ensures row { (result.segment ≡ row.segment) × (result.row ≡ row.row + rows) }
+        ensures start { IsRowAt self.now.shape result }
+    {
+        RowPlace {
+            segment: row.segment,
+            row: row.row + rows,
+            start: row.start + ROW_WORDS * rows as usize,
+        }
+    }
+
+    /// How many rows its segment has from this row on.
+    #[inline(always)]
+    pub fn rows_behind(&self, row: RowPlace) -> u32
+        requires row { row.row ≤ self.now.shape.rows }
+        ensures { result ≡ self.now.shape.rows - row.row }
+    {
+        self.shape.rows - row.row
     }
 
     /// As `row_load`, for a row whose place is known.

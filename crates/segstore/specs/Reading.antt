@@ -1,7 +1,7 @@
 -- What a pass reads of a row, and what the pass does by that.
-use Rattle.std.specs.Prelude.{◌≡◌, ℕ, zero, suc, ◌+◌, ◌<◌, List, [], ◌∷◌}
-use Rattle.segword.specs.Words.{IsKey, IsValue}
-use Rattle.segcore.specs.Words.{Holds, IsSegment, MayRead, Row, row_after}
+use Rattle.std.specs.Prelude.{◌≡◌, ℕ, zero, suc, ◌+◌, ◌<◌, ◌==◌, true, List, [], ◌∷◌, MatchBool}
+use Rattle.segword.specs.Words.{covers, IsKey, IsValue, most_span, Shape}
+use Rattle.segcore.specs.Words.{Event, Holds, IsSegment, MayRead, Row, row_after, span_in}
 use Rattle.segcore.specs.declared.event.Event.TheVariants.{Entered, Left}
 use Rattle.segbase.specs.Words.{AddsAtOnce, AddsEvents, Board, number, Pass, Reads, ReadsIn, sight}
 use Rattle.segbase.specs.Words.{trace}
@@ -13,12 +13,22 @@ pub record OnlyLooks (b : Board) (p q : Pass) : Type 0 where
   pub plain : q.plain ≡ p.plain
   pub memo : (sight q).memo ≡ (sight p).memo
 
+-- the pass may read the row, and the rows behind it of the item that begins there
+abbrev pub MayReadItem : Shape → List Event → ℕ → ℕ → ℕ → Type 0
+MayReadItem shape trace pass segment row =
+    MatchBool (most_span == 1)
+    (MayRead shape trace pass segment row)
+    ((other : ℕ)
+    → covers row (span_in trace segment row) other ≡ true
+    → other < shape.rows
+    → MayRead shape trace pass segment other)
+
 -- the row is one of the table, and the pass may read it: no one changes it meanwhile
 abbrev pub IsReadable : Board → Pass → ℕ → ℕ → Type 0
 IsReadable b p segment row =
     IsSegment b.shape segment
     × (row < b.shape.rows)
-    × MayRead b.shape (trace p) (number p) segment row
+    × MayReadItem b.shape (trace p) (number p) segment row
 
 -- the pass only looked, the row is as it was, and the pass may go on reading it
 pub record ReadsRow (b : Board) (p q : Pass) (segment row : ℕ) : Type 0 where

@@ -2,14 +2,15 @@
 use Rattle.std.specs.Prelude.{ℕ, List, [], ◌∷◌, slice_index}
 use Rattle.segcore.specs.Words.{Event}
 use Rattle.segcore.specs.declared.event.Event.TheVariants.{Filled}
-use Rattle.segword.specs.Words.{row_of}
+use Rattle.segword.specs.Words.{place_behind, row_behind, row_of}
 use Rattle.segbase.specs.Words.{AddsEvents, Board, number, Pass}
 
--- the pass stored words into these places of the row, the last place first
+-- the pass stored words into these places of the item that begins in the row, the last place first
 unfoldable pub fills : ℕ → ℕ → ℕ → List ℕ → List ℕ → List Event
 fills pass segment row words [] = []
 fills pass segment row words (place ∷ places) =
-    Filled pass segment row place (slice_index words place) ∷ fills pass segment row words places
+    Filled pass segment (row_behind row place) (place_behind place) (slice_index words place)
+    ∷ fills pass segment row words places
 
 -- the pass stored some of these words into the row, and did nothing else
 abbrev pub StoresRow : Board → ℕ → ℕ → List ℕ → Pass → Pass → Type 0

@@ -1,5 +1,5 @@
 -- What a pass keeps of its own segments, and that this is so.
-use Rattle.std.specs.Prelude.{◌≡◌, ◌≢◌, ℕ, ◌<◌, ◌≤◌, nat_lt, Bool, false, is_some, Option, Some, None, option_and_then}
+use Rattle.std.specs.Prelude.{◌≡◌, ◌≢◌, ℕ, ◌+◌, ◌<◌, ◌≤◌, ◌==◌, nat_le, nat_lt, Bool, false, is_some, MatchBool, Option, Some, None, option_and_then, if◌then◌else◌}
 use Rattle.segword.specs.Words.{Shape}
 use Rattle.segmodel.specs.declared.answer.SegState.TheVariants.{InUse}
 use Rattle.segmodel.specs.Words.{after, NoneStandsIn, SegState}
@@ -38,3 +38,18 @@ is_below rows (Some used) = nat_lt used rows
 -- whether the pass can store one more: a segment is current, and not all its rows are used
 abbrev pub has_room : Shape → Pass → Bool
 has_room shape p = is_below shape.rows (used_now p)
+
+-- whether so many rows of the current segment are left
+abbrev pub are_left : ℕ → ℕ → Option ℕ → Bool
+are_left count rows None = false
+are_left count rows (Some used) = nat_le (used + count) rows
+
+-- whether the pass can store one more that takes so many rows
+abbrev pub has_room_for : Shape → ℕ → Pass → Bool
+has_room_for shape count p =
+    if count == 1 then has_room shape p else are_left count shape.rows (used_now p)
+
+-- so many rows of a segment, from this one on, are in the table
+abbrev pub AreRows : Shape → ℕ → ℕ → Type 0
+AreRows shape row count =
+    MatchBool (count == 1) (row < shape.rows) (row + count ≤ shape.rows)

@@ -10,13 +10,14 @@ pub use Rattle.segstore.specs.Locks.{SetsLock, UnlocksBucket}
 pub use Rattle.segstore.specs.Props.{IsQuiet-prop, KeepsSegments-prop}
 pub use Rattle.segstore.specs.Quiet.{is_held_in, IsHold, IsLock, IsQuiet, MayEnterAny}
 pub use Rattle.segstore.specs.Reading.{HoldsPair, IsReadable, IsReader, IsReaderIn}
-pub use Rattle.segstore.specs.Reading.{LeavesSegment, OnlyLooks}
+pub use Rattle.segstore.specs.Reading.{LeavesSegment, MayReadItem, OnlyLooks}
 pub use Rattle.segstore.specs.Reading.{ReadsRow}
 pub use Rattle.segstore.specs.Refilling.{FillsWith, Idles, IsOutcome, IsOutcomeWith, refilled}
 pub use Rattle.segstore.specs.Refilling.{refilled_aside, TakesOneStep}
 unfoldable pub use Rattle.segstore.specs.Rows.{fills}
 pub use Rattle.segstore.specs.Rows.{StoresRow}
-pub use Rattle.segstore.specs.Segments.{has_room, is_below, KeepsSegments}
+pub use Rattle.segstore.specs.Segments.{are_left, AreRows, has_room, has_room_for, is_below}
+pub use Rattle.segstore.specs.Segments.{KeepsSegments}
 pub use Rattle.segstore.specs.Sought.{IsSought}
 unfoldable pub use Rattle.segstore.specs.Taking.{bounces}
 pub use Rattle.segstore.specs.Taking.{HasCleanBit, peek, TakesToWrite, TookToWrite}

@@ -9,6 +9,7 @@ mod read;
 mod refilling;
 mod room;
 mod row;
+mod spans;
 mod write;
 
 pub use bucket::{LockAnswer, TRIES, lock_bucket, take_bucket, take_to_write, unlock_bucket};
@@ -18,4 +19,5 @@ pub use read::{Keyed, Linked, read_keyed, read_linked};
 pub use refilling::{refill, refill_aside};
 pub use room::{NoRoom, has_room, next_row};
 pub use row::{RowRef, key_of_row, pair_of_row, row_of_key, value_of_pair, value_of_row};
+pub use spans::span_of_row;
 pub use write::{copy_row, fill_row, write_row};

@@ -1,6 +1,6 @@
 //! Second looks at item words, by a pass that is in their segment, and what their rows hold.
-ghost use Rattle.std.specs.Prelude.{◌<◌, IfOk, IfErr};
-ghost use Rattle.segword.specs.Words.{IsSameItem};
+ghost use Rattle.std.specs.Prelude.{◌+◌, ◌<◌, IfOk, IfErr};
+ghost use Rattle.segword.specs.Words.{head_width, IsSameItem};
 ghost use Rattle.segcore.specs.Words.{inside};
 ghost use Rattle.segbase.specs.Words.{IsPassOf, number, trace};
 ghost use Rattle.segstore.specs.Calls.{TakesAtMost};
@@ -59,7 +59,7 @@ pub fn read_keyed(board: &Board, pass: &mut Pass, place: Place, word: u64, key: 
     requires place { IsChained board.now.shape (trace pass.old) place }
     requires inside { 0 < inside (trace pass.old) (number pass.old) (segment_part word) }
     ensures looked { OnlyLooks board.now pass.old pass.new }
-    ensures steps { TakesAtMost 5 pass.old pass.new }
+    ensures steps { TakesAtMost (1 + head_width) pass.old pass.new }
     ensures keyed { IsKeyed board.now.shape place word key.now result
         (trace pass.old) (trace pass.new) }
 {

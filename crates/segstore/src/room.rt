@@ -2,10 +2,12 @@
 ghost use Rattle.std.specs.Prelude.{◌≡◌, ◌↔◌, ◌<◌, Some, false, IfOk, IsErr};
 ghost use Rattle.segbase.specs.Words.{current_of, IsPassOf, used_of};
 ghost use Rattle.segbase.specs.declared.board.Board.{Board};
-ghost use Rattle.segstore.specs.Segments.{has_room};
+ghost use Rattle.segstore.specs.Segments.{AreRows, has_room, has_room_for};
+ghost use Rattle.segword.specs.Words.{most_span, span_of};
 
 use crate::row::RowRef;
 use segbase::{Board, Pass};
+use segword::{KeyWords, MOST_SPAN, Value};
 
 /// No segment is current, or all rows of the current one are used.
 #[derive(Clone, Copy, Debug, PartialEq, Eq)]
@@ -24,16 +26,36 @@ pub fn has_room(pass: &Pass) -> bool
     }
 }
 
-/// The row that the pass stores into next: the first of its current segment that isn't used.
-pub fn next_row(board: &Board, pass: &Pass) -> Result<RowRef, NoRoom>
+/// The row that the pass stores this key and this value into next: the first of its current
+/// segment that isn't used, if as many are left as their item takes.
+pub fn next_row(board: &Board, pass: &Pass, key: &KeyWords, value: &Value) -> Result<RowRef, NoRoom>
     ensures next { IfOk result (λ next.
         (current_of pass.now ≡ Some next.segment) × (used_of pass.now next.segment ≡ Some next.row)
-        × (next.row < board.now.shape.rows)) }
-    ensures no_room { IsErr result ↔ (has_room board.now.shape pass.now ≡ false) }
+        × AreRows board.now.shape next.row (span_of key.now value.now)) }
+    ensures no_room { IsErr result
+        ↔ (has_room_for board.now.shape (span_of key.now value.now) pass.now ≡ false) }
 {
+    if MOST_SPAN > 1 {
+        return next_rows(board, pass, key.span(value));
+    }
     let segment = pass.current().ok_or(NoRoom)?;
     match pass.used(segment) {
         Some(row) if row < board.shape().rows => Ok(RowRef { segment, row }),
+        _ => Err(NoRoom),
+    }
+}
+
+// The first of so many rows that the pass stores into next.
+fn next_rows(board: &Board, pass: &Pass, rows: u32) -> Result<RowRef, NoRoom>
+    requires wide { 1 < most_span }
+    ensures next { IfOk result (λ next.
+        (current_of pass.now ≡ Some next.segment) × (used_of pass.now next.segment ≡ Some next.row)
+        × AreRows board.now.shape next.row rows) }
+    ensures no_room { IsErr result ↔ (has_room_for board.now.shape rows pass.now ≡ false) }
+{
+    let segment = pass.current().ok_or(NoRoom)?;
+    match pass.used(segment) {
+        Some(row) if row + rows <= board.shape().rows => Ok(RowRef { segment, row }),
         _ => Err(NoRoom),
     }
 }

@@ -1,14 +1,16 @@
 //! Rows that a pass may read, word by word.
 ghost use Rattle.std.specs.Prelude.{◌≡◌, ℕ, ◌+◌, ◌≤◌, ◌↔◌, List, IfSome, IsSome, Some};
-ghost use Rattle.segword.specs.Words.{IsKey, IsValue};
+ghost use Rattle.segword.specs.Words.{head_width, IsKey, IsValue, value_width};
 ghost use Rattle.segcore.specs.Words.{Holds, row_after};
 ghost use Rattle.segbase.specs.Words.{IsPassOf, trace};
 ghost use Rattle.segstore.specs.Calls.{TakesAtMost};
 ghost use Rattle.segstore.specs.Reading.{HoldsPair, IsReadable, ReadsRow, words_at};
 
+use crate::spans::{item_of_key, key_of_item, pair_of_item, value_of_item};
 use segbase::{Board, Pass};
 use segword::{
-    HEAD_WORDS, Key, KeyWords, ROW_WORDS, Value, read_key, read_row, read_value, value_in_row,
+    HEAD_WORDS, Key, KeyWords, MOST_SPAN, ROW_WORDS, Value, read_key, read_row, read_value,
+    value_in_row,
 };
 
 /// A row of a segment.
@@ -58,13 +60,16 @@ pub fn row_of_key(
     requires pass { IsPassOf board.now pass.old }
     requires readable { IsReadable board.now pass.old segment row }
     ensures reads { ReadsRow board.now pass.old pass.new segment row }
-    ensures steps { TakesAtMost 4 pass.old pass.new }
+    ensures steps { TakesAtMost head_width pass.old pass.new }
     ensures header { IfSome result (λ word.
         word ≡ (row_after (trace pass.new) segment row).words 0) }
     ensures key { (held value : List ℕ) → IsKey held → IsValue value
         → Holds (row_after (trace pass.new) segment row) held value
         → IsSome result ↔ (held ≡ key.now) }
 {
+    if MOST_SPAN > 1 {
+        return item_of_key(board, pass, RowRef { segment, row }, key);
+    }
     let words = load_words(board, pass, segment, row, 0);
     if !key.begins(&words) {
         return None;
@@ -79,10 +84,13 @@ pub fn value_of_row(board: &Board, pass: &mut Pass, segment: u32, row: u32, head
     requires readable { IsReadable board.now pass.old segment row }
     requires header { header ≡ (row_after (trace pass.old) segment row).words 0 }
     ensures reads { ReadsRow board.now pass.old pass.new segment row }
-    ensures steps { TakesAtMost 4 pass.old pass.new }
+    ensures steps { TakesAtMost value_width pass.old pass.new }
     ensures value { (key value : List ℕ) → IsKey key → IsValue value
         → Holds (row_after (trace pass.new) segment row) key value → result ≡ value }
 {
+    if MOST_SPAN > 1 {
+        return value_of_item(board, pass, RowRef { segment, row }, header);
+    }
     let words = load_words(board, pass, segment, row, VALUE_WORD);
     read_value(header, &words)
 }
@@ -96,10 +104,13 @@ pub fn value_of_pair(board: &Board, pass: &mut Pass, segment: u32, row: u32, hea
     requires header { header ≡ (row_after (trace pass.old) segment row).words 0 }
     requires pair { HoldsPair (row_after (trace pass.old) segment row) }
     ensures reads { ReadsRow board.now pass.old pass.new segment row }
-    ensures steps { TakesAtMost 4 pass.old pass.new }
+    ensures steps { TakesAtMost value_width pass.old pass.new }
     ensures value { (key value : List ℕ) → IsKey key → IsValue value
         → Holds (row_after (trace pass.new) segment row) key value → result ≡ value }
 {
+    if MOST_SPAN > 1 {
+        return value_of_item(board, pass, RowRef { segment, row }, header);
+    }
     let words = load_words(board, pass, segment, row, VALUE_WORD);
     value_in_row(header, &words)
 }
@@ -112,6 +123,9 @@ pub fn key_of_row(board: &Board, pass: &mut Pass, segment: u32, row: u32) -> Opt
     ensures key { (key value : List ℕ) → IsKey key → IsValue value
         → Holds (row_after (trace pass.new) segment row) key value → result ≡ Some key }
 {
+    if MOST_SPAN > 1 {
+        return key_of_item(board, pass, RowRef { segment, row });
+    }
     read_key(&load_words(board, pass, segment, row, 0))
 }
 
@@ -123,5 +137,8 @@ pub fn pair_of_row(board: &Board, pass: &mut Pass, segment: u32, row: u32) -> Op
     ensures pair { (key value : List ℕ) → IsKey key → IsValue value
         → Holds (row_after (trace pass.new) segment row) key value → result ≡ Some (key, value) }
 {
+    if MOST_SPAN > 1 {
+        return pair_of_item(board, pass, RowRef { segment, row });
+    }
     read_row(&load_words(board, pass, segment, row, 0))
 }

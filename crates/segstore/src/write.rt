@@ -1,17 +1,18 @@
 //! Rows written before an item names them.
 ghost use Rattle.std.specs.Prelude.{◌≡◌, ◌≢◌, ◌<◌, ◌↔◌, ℕ, List, slice_index, Some, false, IfOk, IsErr};
-ghost use Rattle.segword.specs.Words.{IsValue};
-ghost use Rattle.segcore.specs.Words.{Holds, IsOwnRow, row_after};
+ghost use Rattle.segword.specs.Words.{IsValue, span_of};
+ghost use Rattle.segcore.specs.Words.{AreOwnRows, Holds, IsOwnRow, row_after, span_in};
 ghost use Rattle.segbase.specs.Words.{current_of, IsPassOf, number, sight, trace, used_of};
 ghost use Rattle.segbase.specs.Spots.{IsRowAt};
 ghost use Rattle.segstore.specs.Reading.{IsReadable};
 ghost use Rattle.segstore.specs.Rows.{FillsRow, StoresRow};
-ghost use Rattle.segstore.specs.Segments.{KeepsSegments, has_room};
+ghost use Rattle.segstore.specs.Segments.{KeepsSegments, has_room_for};
 
 use crate::room::{NoRoom, next_row};
 use crate::row::{RowRef, load_words};
+use crate::spans::{copy_rows, fill_rows};
 use segbase::{Board, Pass, RowPlace};
-use segword::{Key, KeyWords, ROW_WORDS, Value};
+use segword::{Key, KeyWords, MOST_SPAN, ROW_WORDS, Value};
 
 /// Writes a key and a value into the row that the pass stores into next.
 /// It returns the row's segment and the row. The call doesn't count the row as used.
@@ -28,56 +29,75 @@ pub fn write_row(
     ensures moved { IfOk result (λ row.
         FillsRow board.now row.0 row.1 key.now value.now pass.old pass.new) }
     ensures own { IfOk result (λ row.
-        IsOwnRow board.now.shape (trace pass.new) (number pass.new) row.0 row.1) }
+        AreOwnRows board.now.shape (trace pass.new) (number pass.new) row.0 row.1
+        (span_of key.now value.now)) }
     ensures holds { IfOk result (λ row.
         Holds (row_after (trace pass.new) row.0 row.1) key.now value.now) }
     ensures plain { pass.new.plain ≡ pass.old.plain }
     ensures memo { (sight pass.new).memo ≡ (sight pass.old).memo }
-    ensures no_room { IsErr result ↔ (has_room board.now.shape pass.old ≡ false) }
+    ensures no_room { IsErr result
+        ↔ (has_room_for board.now.shape (span_of key.now value.now) pass.old ≡ false) }
     ensures untouched { IsErr result → pass.new ≡ pass.old }
 {
-    let row = next_row(board, pass)?;
-    fill_row(board, pass, row, &KeyWords::new(key), value);
+    let words = KeyWords::new(key);
+    let row = next_row(board, pass, &words, value)?;
+    fill_row(board, pass, row, &words, value);
     Ok((row.segment, row.row))
 }
 
-/// Writes a key and a value into a row of the pass's own that no item named in this filling.
-/// The call doesn't count the row as used.
+/// Writes a key and a value into a row of the pass's own that no item named in this filling, and
+/// into as many behind it as their item takes. The call doesn't count the rows as used.
 pub fn fill_row(board: &Board, pass: &mut Pass, row: RowRef, key: &KeyWords, value: &Value)
     requires pass { IsPassOf board.now pass.old }
-    requires own { IsOwnRow board.now.shape (trace pass.old) (number pass.old) row.segment row.row }
+    requires own { AreOwnRows board.now.shape (trace pass.old) (number pass.old)
+        row.segment row.row (span_of key.now value.now) }
     ensures moved { FillsRow board.now row.segment row.row key.now value.now pass.old pass.new }
-    ensures own { IsOwnRow board.now.shape (trace pass.new) (number pass.new) row.segment row.row }
+    ensures own { AreOwnRows board.now.shape (trace pass.new) (number pass.new)
+        row.segment row.row (span_of key.now value.now) }
     ensures holds { Holds (row_after (trace pass.new) row.segment row.row) key.now value.now }
     ensures valid { IsValue value.now }
     ensures plain { pass.new.plain ≡ pass.old.plain }
     ensures memo { (sight pass.new).memo ≡ (sight pass.old).memo }
 {
+    if MOST_SPAN > 1 {
+        return fill_rows(board, pass, row, key, value);
+    }
     store_words(board, pass, row.segment, row.row, &key.row(value));
 }
 
-/// Writes into a row of the pass's own, that no item named in this filling, the pair that another
-/// row has. The call doesn't count the row as used.
+/// Writes into a row of the pass's own, that no item named in this filling, and into as many behind
+/// it as the item takes, the pair that another row has. The call doesn't count the rows as used.
 pub fn copy_row(board: &Board, pass: &mut Pass, from: RowRef, to: RowRef)
     requires pass { IsPassOf board.now pass.old }
     requires readable { IsReadable board.now pass.old from.segment from.row }
-    requires own { IsOwnRow board.now.shape (trace pass.old) (number pass.old) to.segment to.row }
+    requires own { AreOwnRows board.now.shape (trace pass.old) (number pass.old)
+        to.segment to.row (span_in (trace pass.old) from.segment from.row) }
     ensures moved { (words : List ℕ)
         × StoresRow board.now to.segment to.row words pass.old pass.new }
-    ensures own { IsOwnRow board.now.shape (trace pass.new) (number pass.new) to.segment to.row }
+    ensures own { AreOwnRows board.now.shape (trace pass.new) (number pass.new)
+        to.segment to.row (span_in (trace pass.old) from.segment from.row) }
     ensures holds { (key value : List ℕ)
         → Holds (row_after (trace pass.old) from.segment from.row) key value
         → Holds (row_after (trace pass.new) to.segment to.row) key value }
     ensures plain { pass.new.plain ≡ pass.old.plain }
     ensures memo { (sight pass.new).memo ≡ (sight pass.old).memo }
 {
+    if MOST_SPAN > 1 {
+        return copy_rows(board, pass, from, to);
+    }
     let words = load_words(board, pass, from.segment, from.row, 0);
     store_words(board, pass, to.segment, to.row, &words);
 }
 
 // Makes a row of the pass's own, that no item named in this filling, have these words.
 #[inline(always)]
-fn store_words(board: &Board, pass: &mut Pass, segment: u32, row: u32, words: &[u64; ROW_WORDS])
+pub(crate) fn store_words(
+    board: &Board,
+    pass: &mut Pass,
+    segment: u32,
+    row: u32,
+    words: &[u64; ROW_WORDS],
+)
     requires pass { IsPassOf board.now pass.old }
     requires own { IsOwnRow board.now.shape (trace pass.old) (number pass.old) segment row }
     ensures moved { StoresRow board.now segment row words.now pass.old pass.new }

@@ -1,13 +1,14 @@
 //! A key in the form in which rows hold it, for comparing it with rows word by word.
-ghost use Rattle.std.specs.Prelude.{◌≡◌, ◌↔◌, ◌<◌, ◌==◌, ◌+◌, IsTrue, List, ℕ, take, length, slice_index, if◌then◌else◌};
+ghost use Rattle.std.specs.Prelude.{◌≡◌, ◌↔◌, ◌<◌, ◌≤◌, ◌==◌, ◌+◌, IsTrue, List, ℕ, take, length, slice_index, if◌then◌else◌};
 ghost use Rattle.segword.specs.Bytes.{IsKey, IsValue};
 ghost use Rattle.segword.specs.Row.{row_of};
 ghost use Rattle.segword.specs.KeyWords.{key_words, key_part};
 ghost use Rattle.segword.specs.RowLayout.{key_length};
 ghost use Rattle.segword.specs.Row.{key_width};
+ghost use Rattle.segword.specs.Spans.{span_of};
 
 use crate::row::HEAD_WORDS;
-use crate::spans::{ITEM_WORDS, MOST_SPAN, key_width};
+use crate::spans::{ITEM_WORDS, MOST_SPAN, key_width, span};
 use crate::{Key, Value};
 use std::marker::Model;
 
@@ -56,6 +57,18 @@ impl KeyWords {
         let mut head = *words;
         head[0] &= 0xff;
         head == self.words
+    }
+
+    /// How many rows the item of this key and a value takes.
+    #[inline(always)]
+    pub fn span(&self, value: &Value) -> u32
+        ensures rows { result ≡ span_of self.now value.now }
+        ensures some { 1 ≤ result }
+    {
+        if MOST_SPAN == 1 {
+            return 1;
+        }
+        span(self.words[0] as u32, value.len() as u32)
     }
 
     /// The words of this key and a value.
