@@ -1,16 +1,16 @@
 //! Items of several rows, where keys and values are longer: read and written row after row.
 //! Each function has the contract of the one that calls it, in `row.rt`, `write.rt` or here.
 ghost use Rattle.std.specs.Prelude.{◌≡◌, ℕ, ◌<◌, ◌↔◌, List, IfSome, IsSome, Some};
-ghost use Rattle.segword.specs.Words.{head_width, IsKey, IsValue, most_span, span_of, value_width};
-ghost use Rattle.segcore.specs.Words.{AreOwnRows, Holds, row_after, span_in};
+ghost use Rattle.segword.specs.Words.{head_width, IsKey, IsValue, most_span, place_behind};
+ghost use Rattle.segword.specs.Words.{row_behind, span_of, value_width};
+ghost use Rattle.segcore.specs.Words.{AreOwnRows, Holds, IsOwnRow, row_after, span_in};
 ghost use Rattle.segbase.specs.Words.{IsPassOf, number, sight, trace};
 ghost use Rattle.segbase.specs.Spots.{IsRowAt};
 ghost use Rattle.segstore.specs.Calls.{TakesAtMost};
 ghost use Rattle.segstore.specs.Reading.{IsReadable, ReadsRow};
 ghost use Rattle.segstore.specs.Rows.{FillsRow, StoresRow};
 
-use crate::row::{RowRef, load_words};
-use crate::write::store_words;
+use crate::row::RowRef;
 use segbase::{Board, Pass, RowPlace};
 use segword::{
     HEAD_WORDS, Key, KeyWords, ROW_WORDS, VALUE_WORDS, Value, read_key, read_value, span_of_header,
@@ -162,23 +162,32 @@ pub(crate) fn fill_rows(board: &Board, pass: &mut Pass, row: RowRef, key: &KeyWo
     ensures plain { pass.new.plain ≡ pass.old.plain }
     ensures memo { (sight pass.new).memo ≡ (sight pass.old).memo }
 {
-    for behind in 0..key.span(value) {
-        let words = row_of_item(key, value, behind);
-        store_words(board, pass, row.segment, row.row + behind, &words);
+    let at = board.row_at(row.segment, row.row);
+    for place in 0..ROW * key.span(value) {
+        store_place(board, pass, at, place, key.word(value, place as usize));
     }
 }
 
-// The words of one of an item's rows.
+// Stores a word of an item, by its place in it, unless the row has it.
 #[inline(always)]
-fn row_of_item(key: &KeyWords, value: &Value, behind: u32) -> [u64; ROW_WORDS]
+fn store_place(board: &Board, pass: &mut Pass, at: RowPlace, place: u32, word: u64)
     requires wide { 1 < most_span }
-    requires row { behind < span_of key.now value.now }
+    requires pass { IsPassOf board.now pass.old }
+    requires start { IsRowAt board.now.shape at }
+    requires own { IsOwnRow board.now.shape (trace pass.old) (number pass.old)
+        at.segment (row_behind at.row place) }
+    ensures own { IsOwnRow board.now.shape (trace pass.new) (number pass.new)
+        at.segment (row_behind at.row place) }
+    ensures word { (row_after (trace pass.new) at.segment (row_behind at.row place)).words
+        (place_behind place) ≡ word }
+    ensures plain { pass.new.plain ≡ pass.old.plain }
+    ensures memo { (sight pass.new).memo ≡ (sight pass.old).memo }
 {
-    let mut words = [0; ROW_WORDS];
-    for place in 0..ROW_WORDS {
-        words[place] = key.word(value, ROW_WORDS * behind as usize + place);
+    let row = board.row_behind(at, place / ROW);
+    let place = (place % ROW) as u8;
+    if board.row_load_at(pass, row, place) != word {
+        board.row_store_at(pass, row, place, word);
     }
-    words
 }
 
 // Copies the rows of the item that begins in a row, one after the other.
@@ -198,8 +207,10 @@ pub(crate) fn copy_rows(board: &Board, pass: &mut Pass, from: RowRef, to: RowRef
     ensures plain { pass.new.plain ≡ pass.old.plain }
     ensures memo { (sight pass.new).memo ≡ (sight pass.old).memo }
 {
-    for behind in 0..span_of_row(board, pass, from) {
-        let words = load_words(board, pass, from.segment, from.row + behind, 0);
-        store_words(board, pass, to.segment, to.row + behind, &words);
+    let source = board.row_at(from.segment, from.row);
+    let target = board.row_at(to.segment, to.row);
+    for place in 0..ROW * span_of_row(board, pass, from) {
+        let word = load_place(board, pass, source, place);
+        store_place(board, pass, target, place, word);
     }
 }

@@ -12,7 +12,7 @@ use crate::room::{NoRoom, next_row};
 use crate::row::{RowRef, load_words};
 use crate::spans::{copy_rows, fill_rows};
 use segbase::{Board, Pass, RowPlace};
-use segword::{Key, KeyWords, MOST_SPAN, ROW_WORDS, Value};
+use segword::{ITEM_WORDS, Key, KeyWords, MOST_SPAN, ROW_WORDS, Value};
 
 /// Writes a key and a value into the row that the pass stores into next.
 /// It returns the row's segment and the row. The call doesn't count the row as used.
@@ -91,13 +91,7 @@ pub fn copy_row(board: &Board, pass: &mut Pass, from: RowRef, to: RowRef)
 
 // Makes a row of the pass's own, that no item named in this filling, have these words.
 #[inline(always)]
-pub(crate) fn store_words(
-    board: &Board,
-    pass: &mut Pass,
-    segment: u32,
-    row: u32,
-    words: &[u64; ROW_WORDS],
-)
+fn store_words(board: &Board, pass: &mut Pass, segment: u32, row: u32, words: &[u64; ITEM_WORDS])
     requires pass { IsPassOf board.now pass.old }
     requires own { IsOwnRow board.now.shape (trace pass.old) (number pass.old) segment row }
     ensures moved { StoresRow board.now segment row words.now pass.old pass.new }
@@ -115,7 +109,7 @@ pub(crate) fn store_words(
 
 // Stores one of the words, unless the row has it: a load costs less than a store that others see.
 #[inline(always)]
-fn store_word(board: &Board, pass: &mut Pass, at: RowPlace, words: &[u64; ROW_WORDS], place: u8)
+fn store_word(board: &Board, pass: &mut Pass, at: RowPlace, words: &[u64; ITEM_WORDS], place: u8)
     requires pass { IsPassOf board.now pass.old }
     requires start { IsRowAt board.now.shape at }
     requires own { IsOwnRow board.now.shape (trace pass.old) (number pass.old) at.segment at.row }

@@ -73,6 +73,21 @@ pub fn write_row(
     segstore::write_row(board, &mut pass, key, value)
 }
 
+/// Writes the pair so, and reads it out of its row, or returns None if there is no room.
+pub fn write_and_read(
+    board: &Board,
+    mut pass: Pass,
+    key: &Key,
+    value: &Value,
+) -> Option<(Key, Value)>
+    requires quiet { IsQuiet board.now pass }
+{
+    let Ok((segment, row)) = segstore::write_row(board, &mut pass, key, value) else {
+        return None;
+    };
+    segstore::pair_of_row(board, &mut pass, segment, row)
+}
+
 /// Stores the value.
 pub fn set(board: &Board, pass: &mut Pass, key: &Key, value: &Value) -> WriteAnswer
     requires { IsQuiet board.now pass.old }

@@ -9,11 +9,15 @@ mod boards;
 #[cfg(test)]
 mod calls;
 #[cfg(test)]
+mod pairs;
+#[cfg(test)]
 mod policy;
 #[cfg(test)]
 mod readers;
 #[cfg(test)]
 mod same;
+#[cfg(test)]
+mod spans;
 #[cfg(test)]
 mod storing;
 #[cfg(test)]

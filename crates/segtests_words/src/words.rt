@@ -1,17 +1,13 @@
 //! Tables and texts that no contract has: hashes and words known from outside, and the limits.
 use crate::same::same;
 use segword::{
-    Chain, Info, Item, Key, KeyWords, Reading, SegmentWord, Shape, ShapeFault, Value, bucket_of,
-    hash, read_key, read_row, read_value, row_words, same_item, tag_of,
+    Chain, Info, Item, Key, Reading, SegmentWord, Shape, ShapeFault, bucket_of, hash, same_item,
+    tag_of,
 };
 use std::process::Abort;
 
 fn key(rt: &impl Abort, bytes: &[u8]) -> Key {
     Key::new(bytes).expect(rt, "a key")
-}
-
-fn value(rt: &impl Abort, bytes: &[u8]) -> Value {
-    Value::new(bytes).expect(rt, "a value")
 }
 
 #[test]
@@ -150,104 +146,6 @@ fn a_word_has_one_of_three_readings_or_none(rt: HostRuntime) {
     for word in [0x0001_0001, 0x000f_ffff_ffff_ffff] {
         same(&rt, &Reading::unpack(word), &None);
     }
-}
-
-#[test]
-fn keys_and_values_have_their_limits(rt: HostRuntime) {
-    let bytes = [0xffu8; 33];
-    for (length, is_key, is_value) in [
-        (0usize, false, true),
-        (1, true, true),
-        (24, true, true),
-        (25, false, true),
-        (32, false, true),
-        (33, false, false),
-    ] {
-        let part = bytes.get(..length).expect(&rt, "a part");
-        let found = (Key::new(part).is_some(), Value::new(part).is_some());
-        assert_eq!(rt; found, (is_key, is_value), "{length}");
-    }
-    let short = key(&rt, b"ab").copy();
-    let empty = value(&rt, b"").copy();
-    let copies = (short.as_bytes(), empty.as_bytes());
-    same(&rt, &copies, &(b"ab".as_slice(), b"".as_slice()));
-}
-
-#[test]
-fn rows_have_the_bytes_of_the_pair_in_order(rt: HostRuntime) {
-    let two = row_words(&key(&rt, b"ab"), &value(&rt, b"xyz"));
-    same(&rt, &two, &[0x302, 0x6261, 0, 0, 0x7a_7978, 0, 0, 0]);
-    let full = row_words(
-        &key(&rt, b"abcdefghijklmnopqrstuvwx"),
-        &value(&rt, b"0123456789abcdef0123456789ABCDEF"),
-    );
-    same(
-        &rt,
-        &full,
-        &[
-            0x2018,
-            0x6867_6665_6463_6261,
-            0x706f_6e6d_6c6b_6a69,
-            0x7877_7675_7473_7271,
-            0x3736_3534_3332_3130,
-            0x6665_6463_6261_3938,
-            0x3736_3534_3332_3130,
-            0x4645_4443_4241_3938,
-        ],
-    );
-    let empty = row_words(&key(&rt, b"abcdefghi"), &value(&rt, b""));
-    same(
-        &rt,
-        &empty,
-        &[9, 0x6867_6665_6463_6261, 0x69, 0, 0, 0, 0, 0],
-    );
-}
-
-#[test]
-fn words_of_every_length_are_read_back(rt: HostRuntime) {
-    let text = b"abcdefghijklmnopqrstuvwxyz012345";
-    for length in 1..33usize {
-        let front = text.get(..length).expect(&rt, "a text");
-        let sought = key(&rt, front.get(..length.min(24)).expect(&rt, "a text"));
-        let words = row_words(&sought, &value(&rt, front));
-        let (read, stored) = read_row(&words).expect(&rt, "a row");
-        same(
-            &rt,
-            &(read.as_bytes(), stored.as_bytes()),
-            &(sought.as_bytes(), front),
-        );
-        let [header, a, b, c, d, e, f, g] = words;
-        let found = [
-            KeyWords::new(&sought).begins(&[header, a, b, c]),
-            KeyWords::new(&sought).begins(&[header, a ^ 1, b, c]),
-            read_key(&[header, a, b, c]).is_some(),
-            read_value(header, &[d, e, f, g]).as_bytes() == front,
-        ];
-        assert_eq!(rt; found, [true, false, true, true], "{length}");
-    }
-}
-
-#[test]
-fn words_that_no_pair_has_are_no_row(rt: HostRuntime) {
-    let last = 0xff00_0000_0000_0000;
-    for words in [
-        [0u64, 0, 0, 0, 0, 0, 0, 0],
-        [0x19, 0, 0, 0, 0, 0, 0, 0],
-        [0x2101, 0, 0, 0, 0, 0, 0, 0],
-        [0x1_0001, 0, 0, 0, 0, 0, 0, 0],
-        [2, 0x63_6261, 0, 0, 0, 0, 0, 0],
-        [0x17, 0, 0, last, 0, 0, 0, 0],
-        [0x1f18, 0, 0, 0, 0, 0, 0, last],
-        [1, 0x61, 0, 0, 1, 0, 0, 0],
-    ] {
-        assert!(rt; read_row(&words).is_none(), "{words:?}");
-    }
-    // No length but 1 to 24 is a key's.
-    assert!(rt; read_key(&[0x21, 0, 0, 0]).is_none());
-    let (read, stored) = read_row(&[0x101, 0x61, 0, 0, 0x7a, 0, 0, 0]).expect(&rt, "a row");
-    let row = (read.as_bytes(), stored.as_bytes());
-    same(&rt, &row, &(b"a".as_slice(), b"z".as_slice()));
-    assert!(rt; read_row(&[0x2018, 0, 0, last, 0, 0, 0, last]).is_some());
 }
 
 #[test]
