@@ -21,7 +21,7 @@ pub record HasRoomForWriters (keys writers : ℕ) (shape : Shape) : Type 0 where
   pub wide : ℕ
   pub least : writers * wide < keys * shape.passes + writers
   pub few : word_count shape
-      ≤ (2 * ROW_WORDS + 9) * (keys + wide) + 132 * (ROW_WORDS + 1) * shape.passes + 40
+      ≤ (2 * ROW_WORDS + 11) * (keys + wide) + 132 * (ROW_WORDS + 1) * shape.passes + 40
 
 -- The shards have room for so many keys together, as many each, if so many of the threads store
 -- them, whichever these are, and each of these as many. Each shard has a pass for each thread.

@@ -237,9 +237,11 @@ fn faults_have_texts_and_numbers(rt: HostRuntime) {
 fn a_shape_for_so_many_keys_has_room_to_spare(rt: HostRuntime) {
     for (keys, passes, buckets, segments_each, rows) in [
         (0, 1, 1, 64, 1),
-        (64, 4, 16, 64, 1),
+        (64, 4, 32, 64, 1),
         (65, 1, 32, 64, 3),
-        (100_000, 3, 32_768, 64, 1042),
+        (48, 1, 16, 64, 2),
+        (49, 1, 32, 64, 2),
+        (100_000, 3, 65_536, 64, 1042),
         (425_984, 1, 65_536, 208, 4096),
         (425_984, 64, 65_536, 64, 208),
     ] {
