@@ -1,8 +1,8 @@
 //! Items of several rows, where keys and values are longer: read and written row after row.
 //! Each function has the contract of the one that calls it, in `row.rt`, `write.rt` or here.
-ghost use Rattle.std.specs.Prelude.{◌≡◌, ℕ, ◌<◌, ◌↔◌, List, IfSome, IsSome, Some};
-ghost use Rattle.segword.specs.Words.{head_width, IsKey, IsValue, most_span, place_behind};
-ghost use Rattle.segword.specs.Words.{row_behind, span_of, value_width};
+ghost use Rattle.std.specs.Prelude.{◌≡◌, ℕ, ◌*◌, ◌<◌, ◌↔◌, List, IfSome, IsSome, Some};
+ghost use Rattle.segword.specs.Words.{head_width, IsKey, IsValue, item_width, most_span};
+ghost use Rattle.segword.specs.Words.{place_behind, row_behind, span_of, value_width};
 ghost use Rattle.segcore.specs.Words.{AreOwnRows, Holds, IsOwnRow, row_after, span_in};
 ghost use Rattle.segbase.specs.Words.{IsPassOf, number, sight, trace};
 ghost use Rattle.segbase.specs.Spots.{IsRowAt};
@@ -78,6 +78,7 @@ pub(crate) fn key_of_item(board: &Board, pass: &mut Pass, row: RowRef) -> Option
     requires pass { IsPassOf board.now pass.old }
     requires readable { IsReadable board.now pass.old row.segment row.row }
     ensures reads { ReadsRow board.now pass.old pass.new row.segment row.row }
+    ensures steps { TakesAtMost head_width pass.old pass.new }
     ensures key { (key value : List ℕ) → IsKey key → IsValue value
         → Holds (row_after (trace pass.new) row.segment row.row) key value → result ≡ Some key }
 {
@@ -105,7 +106,8 @@ pub(crate) fn pair_of_item(board: &Board, pass: &mut Pass, row: RowRef) -> Optio
     Some((key, value_of_item(board, pass, row, header)))
 }
 
-// How many rows the item takes that begins in a row, by its word 0.
+/// How many rows the item takes that begins in a row, by its word 0.
+/// It may be called where items take several rows.
 pub fn span_of_row(board: &Board, pass: &mut Pass, row: RowRef) -> u32
     requires wide { 1 < most_span }
     requires pass { IsPassOf board.now pass.old }
@@ -155,6 +157,7 @@ pub(crate) fn fill_rows(board: &Board, pass: &mut Pass, row: RowRef, key: &KeyWo
     requires own { AreOwnRows board.now.shape (trace pass.old) (number pass.old)
         row.segment row.row (span_of key.now value.now) }
     ensures moved { FillsRow board.now row.segment row.row key.now value.now pass.old pass.new }
+    ensures steps { TakesAtMost (2 * item_width) pass.old pass.new }
     ensures own { AreOwnRows board.now.shape (trace pass.new) (number pass.new)
         row.segment row.row (span_of key.now value.now) }
     ensures holds { Holds (row_after (trace pass.new) row.segment row.row) key.now value.now }
@@ -176,6 +179,7 @@ fn store_place(board: &Board, pass: &mut Pass, at: RowPlace, place: u32, word: u
     requires start { IsRowAt board.now.shape at }
     requires own { IsOwnRow board.now.shape (trace pass.old) (number pass.old)
         at.segment (row_behind at.row place) }
+    ensures steps { TakesAtMost 2 pass.old pass.new }
     ensures own { IsOwnRow board.now.shape (trace pass.new) (number pass.new)
         at.segment (row_behind at.row place) }
     ensures word { (row_after (trace pass.new) at.segment (row_behind at.row place)).words
@@ -199,6 +203,7 @@ pub(crate) fn copy_rows(board: &Board, pass: &mut Pass, from: RowRef, to: RowRef
         to.segment to.row (span_in (trace pass.old) from.segment from.row) }
     ensures moved { (words : List ℕ)
         × StoresRow board.now to.segment to.row words pass.old pass.new }
+    ensures steps { TakesAtMost (3 * item_width) pass.old pass.new }
     ensures own { AreOwnRows board.now.shape (trace pass.new) (number pass.new)
         to.segment to.row (span_in (trace pass.old) from.segment from.row) }
     ensures holds { (key value : List ℕ)
@@ -209,7 +214,9 @@ pub(crate) fn copy_rows(board: &Board, pass: &mut Pass, from: RowRef, to: RowRef
 {
     let source = board.row_at(from.segment, from.row);
     let target = board.row_at(to.segment, to.row);
-    for place in 0..ROW * span_of_row(board, pass, from) {
+    let header = load_place(board, pass, source, 0);
+    store_place(board, pass, target, 0, header);
+    for place in 1..ROW * span_of_header(header) {
         let word = load_place(board, pass, source, place);
         store_place(board, pass, target, place, word);
     }

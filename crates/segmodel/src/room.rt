@@ -1,0 +1,87 @@
+//! Whether the plain cache has rows left in the segment that it fills.
+ghost use Rattle.std.specs.Prelude.{◌≡◌, ◌<◌, length, true, false, Some, IfSome, IfNone};
+ghost use Rattle.segword.specs.Words.{most_span, span_of};
+
+use crate::parts::used_rows;
+use crate::plain::Plain;
+use segword::{Key, MOST_SPAN, Value, span_of};
+
+impl Plain {
+    ghost use Rattle.segmodel.specs.Plain.{filling_in, HasLeft, is_used_up, lacks_room, span_at};
+
+    // The segment that is filled, if it has a row left.
+    pub(crate) fn room(&self) -> Option<u32>
+        ensures current { IfSome result (λ segment. self.now.current ≡ Some segment) }
+        ensures left { IfSome result (λ segment.
+            length (filling_in self.now segment).keys < self.now.shape.rows) }
+        ensures some { IfSome result (λ segment. is_used_up self.now ≡ false) }
+        ensures none { IfNone result (is_used_up self.now ≡ true) }
+    {
+        let segment = self.current?;
+        if self.shape.rows as usize <= used_rows(&self.segments, segment as usize) {
+            return None;
+        }
+        Some(segment)
+    }
+
+    // The segment that is filled, if it has rows left for this key and this value.
+    pub(crate) fn room_for(&self, key: &Key, value: &Value) -> Option<u32>
+        ensures current { IfSome result (λ segment. self.now.current ≡ Some segment) }
+        ensures left { IfSome result (λ segment.
+            HasLeft self.now segment (span_of key.now value.now)) }
+        ensures some { IfSome result (λ segment.
+            lacks_room self.now (span_of key.now value.now) ≡ false) }
+        ensures none { IfNone result (lacks_room self.now (span_of key.now value.now) ≡ true) }
+    {
+        if MOST_SPAN > 1 {
+            return self.room_of(span_of(key, value));
+        }
+        self.room()
+    }
+
+    // The segment that is filled, if it has so many rows left.
+    fn room_of(&self, rows: u32) -> Option<u32>
+        requires wide { 1 < most_span }
+        ensures current { IfSome result (λ segment. self.now.current ≡ Some segment) }
+        ensures left { IfSome result (λ segment. HasLeft self.now segment rows) }
+        ensures some { IfSome result (λ segment. lacks_room self.now rows ≡ false) }
+        ensures none { IfNone result (lacks_room self.now rows ≡ true) }
+    {
+        let segment = self.current?;
+        let used = used_rows(&self.segments, segment as usize);
+        if (self.shape.rows as usize) < used + rows as usize {
+            return None;
+        }
+        Some(segment)
+    }
+
+    // The segment that is filled, if it has rows left for the item under a row's key.
+    pub(crate) fn room_at(&self, segment: u32, row: usize) -> Option<u32>
+        requires own { segment < self.now.shape.segments_each }
+        requires used { row < length (filling_in self.now segment).keys }
+        ensures current { IfSome result (λ to. self.now.current ≡ Some to) }
+        ensures left { IfSome result (λ to. HasLeft self.now to (span_at self.now segment row)) }
+        ensures some { IfSome result (λ to.
+            lacks_room self.now (span_at self.now segment row) ≡ false) }
+        ensures none { IfNone result (lacks_room self.now (span_at self.now segment row) ≡ true) }
+    {
+        if MOST_SPAN > 1 {
+            return self.room_of(self.span_at(segment, row));
+        }
+        self.room()
+    }
+
+    // How many rows the item under a row's key takes.
+    fn span_at(&self, segment: u32, row: usize) -> u32
+        requires wide { 1 < most_span }
+        requires own { segment < self.now.shape.segments_each }
+        requires used { row < length (filling_in self.now segment).keys }
+        ensures { result ≡ span_at self.now segment row }
+    {
+        let key = &self.segments[segment as usize].keys[row];
+        match self.items.get(key) {
+            Some(item) => span_of(key, &item.value),
+            None => 1,
+        }
+    }
+}
