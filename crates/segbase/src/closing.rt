@@ -1,10 +1,9 @@
 //! A board at its end: its words at rest, which no pass changes any more.
-ghost use Rattle.std.specs.Prelude.{◌≡◌, ◌<◌, ◌≤◌, ◌^◌, ℕ, List, slice_index};
+ghost use Rattle.std.specs.Prelude.{◌≡◌, ◌<◌, ◌≤◌, ◌^◌, List};
 ghost use Rattle.std.specs.Slots.{slots_len, IsFull};
 ghost use Rattle.segword.specs.Words.{most_span, word_count};
 ghost use Rattle.segcore.specs.declared.event.Event.{Event};
 ghost use Rattle.segcore.specs.declared.cell.Cell.{Cell};
-ghost use Rattle.segcore.specs.declared.cell.Cell.TheVariants.{OfRow};
 ghost use Rattle.segcore.specs.Words.{IsSegment};
 ghost use Rattle.segbase.specs.Spots.{IsLayoutOf};
 

@@ -1,6 +1,6 @@
 -- The state of a segment's rows after a trace: the words of each,
 -- which key was linked to it in this filling, and the frequency of its item.
-use Rattle.std.specs.Prelude.{◌≡◌, ℕ, ◌+◌, ◌*◌, ◌<◌, ◌==◌, ◌&&◌, Bool, false, nat_lt, List, [], ◌∷◌, Option, Some, None, slice_index, if◌then◌else◌}
+use Rattle.std.specs.Prelude.{◌≡◌, ℕ, ◌*◌, ◌<◌, ◌==◌, ◌&&◌, Bool, false, nat_lt, List, [], ◌∷◌, Option, Some, None, slice_index, if◌then◌else◌}
 use Rattle.segword.specs.Words.{covers, most_span, place_behind, row_behind, row_of, row_width}
 use Rattle.segword.specs.Words.{span_of, span_of_header}
 use Rattle.segmodel.specs.Words.{key_of, with_at}

@@ -1,6 +1,6 @@
 //! How many rows an item takes: one, or in a build for longer keys and values as many as it needs,
 //! one behind the other.
-ghost use Rattle.std.specs.Prelude.{◌≡◌, ◌≤◌, length};
+ghost use Rattle.std.specs.Prelude.{◌≡◌, ◌≤◌};
 ghost use Rattle.segword.specs.Row.{key_width};
 ghost use Rattle.segword.specs.Spans.{span, span_of, span_of_header, value_place};
 
