@@ -4,7 +4,7 @@ ghost use Rattle.segcore.specs.Words.{HasBit};
 ghost use Rattle.segstore.specs.Taking.{TakesToWrite};
 ghost use Rattle.segbase.specs.Words.{IsPassOf, number, trace, view};
 ghost use Rattle.segstore.specs.Quiet.{IsQuiet};
-ghost use Rattle.segstore.specs.Calls.{memo};
+ghost use Rattle.segstore.specs.Calls.{memo, TakesAtMost};
 ghost use Rattle.segstore.specs.Locks.{LocksBucket, SetsLock, UnlocksBucket};
 ghost use Rattle.segstore.specs.Taking.{TakesBucket};
 
@@ -72,6 +72,7 @@ pub fn take_bucket(board: &Board, pass: &mut Pass, bucket: u32) -> bool
     requires pass { IsPassOf board.now pass.old }
     requires bucket { bucket < board.now.shape.buckets }
     ensures takes { TakesBucket board.now bucket result pass.old pass.new }
+    ensures steps { TakesAtMost TRIES pass.old pass.new }
     ensures same { (pass.new.plain ≡ pass.old.plain) × (memo pass.new ≡ memo pass.old) }
 {
     for tries in 0..TRIES {
@@ -88,6 +89,7 @@ pub fn take_to_write(board: &Board, pass: &mut Pass, bucket: u32) -> bool
     requires pass { IsQuiet board.now pass.old }
     requires bucket { bucket < board.now.shape.buckets }
     ensures takes { TakesToWrite board.now bucket result pass.old pass.new }
+    ensures steps { TakesAtMost TRIES pass.old pass.new }
 {
     pass.locked() != Some(bucket) && take_bucket(board, pass, bucket)
 }

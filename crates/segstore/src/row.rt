@@ -120,6 +120,7 @@ pub fn key_of_row(board: &Board, pass: &mut Pass, segment: u32, row: u32) -> Opt
     requires pass { IsPassOf board.now pass.old }
     requires readable { IsReadable board.now pass.old segment row }
     ensures reads { ReadsRow board.now pass.old pass.new segment row }
+    ensures steps { TakesAtMost 4 pass.old pass.new }
     ensures key { (key value : List ℕ) → IsKey key → IsValue value
         → Holds (row_after (trace pass.new) segment row) key value → result ≡ Some key }
 {

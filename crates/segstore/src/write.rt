@@ -1,9 +1,11 @@
 //! Rows written before an item names them.
-ghost use Rattle.std.specs.Prelude.{◌≡◌, ◌≢◌, ◌<◌, ◌↔◌, ℕ, List, slice_index, Some, false, IfOk, IsErr};
-ghost use Rattle.segword.specs.Words.{IsValue, span_of};
+ghost use Rattle.std.specs.Prelude.{◌≡◌, ◌≢◌, ◌<◌, ◌*◌, ◌↔◌, ℕ, List, slice_index, Some, false};
+ghost use Rattle.std.specs.Prelude.{IfOk, IsErr};
+ghost use Rattle.segword.specs.Words.{IsValue, item_width, span_of};
 ghost use Rattle.segcore.specs.Words.{AreOwnRows, Holds, IsOwnRow, row_after, span_in};
 ghost use Rattle.segbase.specs.Words.{current_of, IsPassOf, number, sight, trace, used_of};
 ghost use Rattle.segbase.specs.Spots.{IsRowAt};
+ghost use Rattle.segstore.specs.Calls.{TakesAtMost};
 ghost use Rattle.segstore.specs.Reading.{IsReadable};
 ghost use Rattle.segstore.specs.Rows.{FillsRow, StoresRow};
 ghost use Rattle.segstore.specs.Segments.{KeepsSegments, has_room_for};
@@ -52,6 +54,7 @@ pub fn fill_row(board: &Board, pass: &mut Pass, row: RowRef, key: &KeyWords, val
     requires own { AreOwnRows board.now.shape (trace pass.old) (number pass.old)
         row.segment row.row (span_of key.now value.now) }
     ensures moved { FillsRow board.now row.segment row.row key.now value.now pass.old pass.new }
+    ensures steps { TakesAtMost (2 * item_width) pass.old pass.new }
     ensures own { AreOwnRows board.now.shape (trace pass.new) (number pass.new)
         row.segment row.row (span_of key.now value.now) }
     ensures holds { Holds (row_after (trace pass.new) row.segment row.row) key.now value.now }
@@ -74,6 +77,7 @@ pub fn copy_row(board: &Board, pass: &mut Pass, from: RowRef, to: RowRef)
         to.segment to.row (span_in (trace pass.old) from.segment from.row) }
     ensures moved { (words : List ℕ)
         × StoresRow board.now to.segment to.row words pass.old pass.new }
+    ensures steps { TakesAtMost (3 * item_width) pass.old pass.new }
     ensures own { AreOwnRows board.now.shape (trace pass.new) (number pass.new)
         to.segment to.row (span_in (trace pass.old) from.segment from.row) }
     ensures holds { (key value : List ℕ)
@@ -95,6 +99,7 @@ fn store_words(board: &Board, pass: &mut Pass, segment: u32, row: u32, words: &[
     requires pass { IsPassOf board.now pass.old }
     requires own { IsOwnRow board.now.shape (trace pass.old) (number pass.old) segment row }
     ensures moved { StoresRow board.now segment row words.now pass.old pass.new }
+    ensures steps { TakesAtMost (2 * ROW_WORDS) pass.old pass.new }
     ensures own { IsOwnRow board.now.shape (trace pass.new) (number pass.new) segment row }
     ensures words { (place : ℕ) → place < ROW_WORDS
         → (row_after (trace pass.new) segment row).words place ≡ slice_index words.now place }
@@ -115,6 +120,7 @@ fn store_word(board: &Board, pass: &mut Pass, at: RowPlace, words: &[u64; ITEM_W
     requires own { IsOwnRow board.now.shape (trace pass.old) (number pass.old) at.segment at.row }
     requires place { place < ROW_WORDS }
     ensures moved { StoresRow board.now at.segment at.row words.now pass.old pass.new }
+    ensures steps { TakesAtMost 2 pass.old pass.new }
     ensures own { IsOwnRow board.now.shape (trace pass.new) (number pass.new) at.segment at.row }
     ensures word { (row_after (trace pass.new) at.segment at.row).words place ≡ slice_index words.now place }
     ensures others { (other : ℕ) → other ≢ place

@@ -1,6 +1,6 @@
-use Rattle.std.proofs.Common.{ap, ◌∙◌, inl}
+use Rattle.std.proofs.Common.{ap, ◌∙◌, inl, arith}
 use Rattle.segcore.specs.Words.{Row}
-use Rattle.segstore.proofs.Looks.{loaded, may_load}
+use Rattle.segstore.proofs.Looks.{loaded, may_load, one_step}
 use Rattle.segstore.proofs.Rows.{other_word, own_looked, own_stored, stored_word, stores_nothing, stores_one}
 use Rattle.segstore.proofs.write.store_word.Goals as goal
 
@@ -49,3 +49,11 @@ returns-clause-others c = let own = c.requires.own in λ other apart.
     let reads = loaded c.args.board.now c.args.pass.now c.row_load_at.new.pass c.args.at.segment c.args.at.row c.args.place _ (own.0, own.1, inl own.2) c.row_load_at.ensures.step in
     other_word c.args.board.now c.row_load_at.new.pass c.row_store_at.new.pass c.args.at.segment c.args.at.row c.args.place _ other c.row_store_at.ensures.did owned.2 apart
     ∙ ap (λ (x : Row). x.words other) reads.same
+
+pub returns-then-row_load_at-word-clause-steps : goal.returns-then-row_load_at-word-clause-steps
+returns-then-row_load_at-word-clause-steps c = let one = one_step c.args.board.now c.args.pass.now c.row_load_at.new.pass _ _ c.row_load_at.ensures.step in omega (arith, one)
+
+pub returns-clause-steps : goal.returns-clause-steps
+returns-clause-steps c =
+    let load = one_step c.args.board.now c.args.pass.now c.row_load_at.new.pass _ _ c.row_load_at.ensures.step in
+    let store = one_step c.args.board.now c.row_load_at.new.pass c.row_store_at.new.pass _ _ c.row_store_at.ensures.step.1 in omega (arith, load, store)

@@ -13,6 +13,7 @@ row_at-at-requires c = let own = c.requires.own in record { row = (own.0, own.1,
 pub loop-place-init : goal.loop-place-init
 loop-place-init c = let at = c.row_at-at.result in let is = c.row_at-at.ensures.row in record {
   moved = stores_nothing c.args.board.now c.args.pass.now c.args.pass.now at.segment at.row c.args.words.now (stays c.args.board.now c.args.pass.now c.requires.pass);
+  steps = omega arith;
   own = rw (is.0, is.1) c.requires.own;
   holds = λ j lt. absurd (omega (arith, lt));
   plain = refl;
@@ -22,6 +23,7 @@ loop-place-init c = let at = c.row_at-at.result in let is = c.row_at-at.ensures.
 pub loop-place-preserved : goal.loop-place-preserved
 loop-place-preserved c = let i = c.loop-place.invariant in let w = c.store_word.ensures in let at = c.row_at-at.result in record {
   moved = stores_then c.args.board.now c.args.pass.now c.loop-place.pass c.store_word.new.pass at.segment at.row c.args.words.now i.moved w.moved;
+  steps = (let before = i.steps in let more = w.steps in omega (arith, before, more));
   own = w.own;
   holds = λ j lt. ⊎_elim
       (λ same. ap (row_after (trace c.store_word.new.pass) at.segment at.row).words same ∙ (w.word ∙ ap (slice_index c.args.words.now) (sym same)))
