@@ -1,9 +1,13 @@
--- Worked examples: what the answers to writes leave as it was, and what a set isn't told.
-use Rattle.std.proofs.Common.{◌≡◌}
+-- Worked examples: what the answers to writes leave as it was, what a set isn't told, and how many steps they take.
+use Rattle.std.proofs.Common.{◌≡◌, [], arith}
 use Rattle.segword.specs.Words.{Shape}
 use Rattle.segmodel.specs.declared.answer.WriteAnswer.TheVariants as write
+use Rattle.segmodel.specs.declared.answer.DeleteAnswer.TheVariants as delete
+use Rattle.segmodel.specs.declared.request.Request.TheVariants.{Set, Cas}
 use Rattle.segmodel.specs.Words.{Request}
 use Rattle.segbase.specs.Words.{Pass}
+use Rattle.segstore.specs.Words.{step_count, TakesAtMost}
+use Rattle.segwrite.specs.Steps.{most_steps_of_delete, most_steps_of_write}
 use Rattle.segwrite.specs.Writes.{IsSetAnswer, IsWriteAnswer}
 
 -- a write that lacks a row changes nothing, not even what the pass has seen
@@ -19,3 +23,23 @@ exists set = set
 
 not_found : ¬ (IsSetAnswer write.NotFound)
 not_found set = set
+
+-- ---- steps
+
+-- a set that finds a word takes 477 at most, and no more
+set_in_steps : (p q : Pass) → step_count p ≡ 5 → step_count q ≡ 482 → TakesAtMost (most_steps_of_write (Set [] [] 0)) p q
+set_in_steps p q before after = omega (arith, before, after)
+
+set_in_no_more : (p q : Pass) → step_count p ≡ 5 → step_count q ≡ 483 → ¬ (TakesAtMost (most_steps_of_write (Set [] [] 0)) p q)
+set_in_no_more p q before after took = absurd (omega (arith, before, after, took))
+
+-- a cas that finds one 480
+cas_in_no_more : (p q : Pass) → step_count p ≡ 5 → step_count q ≡ 486 → ¬ (TakesAtMost (most_steps_of_write (Cas [] [] 0 0)) p q)
+cas_in_no_more p q before after took = absurd (omega (arith, before, after, took))
+
+-- a delete 463, or 207 where the key is absent
+delete_in_no_more : (p q : Pass) → step_count p ≡ 5 → step_count q ≡ 469 → ¬ (TakesAtMost (most_steps_of_delete delete.Deleted) p q)
+delete_in_no_more p q before after took = absurd (omega (arith, before, after, took))
+
+absent_in_no_more : (p q : Pass) → step_count p ≡ 5 → step_count q ≡ 213 → ¬ (TakesAtMost (most_steps_of_delete delete.NotFound) p q)
+absent_in_no_more p q before after took = absurd (omega (arith, before, after, took))

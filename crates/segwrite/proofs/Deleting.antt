@@ -1,5 +1,5 @@
 -- A delete, from the take of the bit to its answer.
-use Rattle.std.proofs.Common.{◌≡◌, ◌≢◌, ℕ, true, false, is_some, List, [], ◌∷◌, Option, Some, None, Bool, refl, sym, ap, ◌∙◌, subst}
+use Rattle.std.proofs.Common.{◌≡◌, ◌≢◌, ℕ, true, false, is_some, List, [], ◌∷◌, Option, Some, None, Bool, refl, sym, ap, ◌∙◌, subst, arith}
 use Rattle.std.specs.Prelude.{IsSome}
 use Rattle.std.proofs.lemmas.Bool.{eq-eqb}
 use Rattle.segword.specs.Words.{Shape}
@@ -15,9 +15,10 @@ use Rattle.segbase.specs.Words.{AddsAtOnce, AddsEvents, Board, HasItemOf, IsPass
 use Rattle.segbase.specs.Words.{position, seen, trace}
 use Rattle.segbase.proofs.Moves.{moved_on, moved_then}
 use Rattle.segstore.specs.Words.{HasCleanBit, Idles, IsQuiet, MayEnterAny, memo, peek, TakesToWrite}
-use Rattle.segstore.specs.Words.{TookToWrite}
+use Rattle.segstore.specs.Words.{TakesAtMost, TookToWrite}
 use Rattle.segstore.proofs.Refills.{idles}
 use Rattle.segwrite.specs.Words.{Target}
+use Rattle.segwrite.specs.Steps.{most_steps_to_remove, most_tries_for_bit}
 use Rattle.segwrite.specs.Writes.{Deletes, EntersForKey}
 use Rattle.segwrite.specs.Writing.{IsInChain, IsEarlier, IsTarget, Finds, own_word}
 use Rattle.segwrite.specs.Refusing.{reply_now, RefusesUnderBit, Removes, RemovesPresent}
@@ -144,13 +145,13 @@ module _ (b : Board) (request : Request) (key : List ℕ) (now : ℕ) (bucket : 
 -- ---- the answer
 
 -- the bit can't be had
-pub deletes_nothing : (b : Board) (key : List ℕ) (now : ℕ) (p q : Pass) → TakesToWrite b (bucket_of b.shape key) false p q → Deletes b key now delete.Busy p q
-deletes_nothing b key now p q busy = record { on = busy.0; answer = (busy.1, busy.2); locked = λ has. refl; costs = record { takes = λ other. absurd (other refl); draws_nothing = busy.3; enters = enters_none b.shape key p q busy.4; reads_nothing = λ told. busy.4 } }
+pub deletes_nothing : (b : Board) (key : List ℕ) (now : ℕ) (p q : Pass) → TakesToWrite b (bucket_of b.shape key) false p q → TakesAtMost most_tries_for_bit p q → Deletes b key now delete.Busy p q
+deletes_nothing b key now p q busy steps = record { on = busy.0; answer = (busy.1, busy.2); locked = λ has. refl; costs = record { takes = λ other. absurd (other refl); steps = (omega (arith, steps)); draws_nothing = busy.3; enters = enters_none b.shape key p q busy.4; reads_nothing = λ told. busy.4 } }
 
 deletion_entry : (z : Shape) (key : List ℕ) (now at : ℕ) → IsEntry z (bucket_of z key) (λ pass. Unlinked pass key at (leaving.Deletes now)) (λ pass. Wrote pass (Delete key now) reply.Deleted None)
 deletion_entry z key now at = record { at = λ pass. refl; adds = λ pass. refl; of = λ pass. refl; still = λ pass. tt; calm = λ pass. tt; undrawn = λ pass. tt; untried = λ pass. tt }
 
-module _ (b : Board) (key : List ℕ) (now : ℕ) (p q s : Pass) (quiet : IsQuiet b p) (took : TookToWrite b (bucket_of b.shape key) p q) where
+module _ (b : Board) (key : List ℕ) (now : ℕ) (p q s : Pass) (quiet : IsQuiet b p) (took : TookToWrite b (bucket_of b.shape key) p q) (tries : TakesAtMost most_tries_for_bit p q) where
   abbrev own_bucket : ℕ
   own_bucket = bucket_of b.shape key
 
@@ -172,31 +173,33 @@ module _ (b : Board) (key : List ℕ) (now : ℕ) (p q s : Pass) (quiet : IsQuie
     enters_once peeks up = enters_for b.shape key into p s peeks
         (came_wider b.shape key (number q) (number p) into (trace p) (trace q) (trace g) (trace s) took.takes.2.same (moved_on b _ p q took.takes.2) up look.came)
 
-    pub deletes_present : (told : DeleteAnswer) → RemovesPresent b (Delete key now) told g s → Deletes b key now told p s
-    deletes_present delete.Deleted (at, gives) =
+    pub deletes_present : (told : DeleteAnswer) → RemovesPresent b (Delete key now) told g s → TakesAtMost (most_steps_to_remove told) q s → Deletes b key now told p s
+    deletes_present delete.Deleted (at, gives) steps =
         let is = deletion_entry b.shape key now at in let act : ℕ → Event = (λ pass. Unlinked pass key at (leaving.Deletes now)) in let entry : ℕ → Entry = (λ pass. Wrote pass (Delete key now) reply.Deleted None) in record {
           on = entered_on b own_bucket true act entry is p g g s quiet had still gives;
           answer = (entered b own_bucket true act entry is p g g s quiet had still gives, plain_back b own_bucket true act entry is p g g s quiet had still gives, memo_back b own_bucket true act entry is p g g s quiet had still gives);
           locked = λ has. absurd (took.unlocked has);
           costs = record {
+            steps = (omega (arith, tries, steps));
             takes = λ other. entered_taking b own_bucket true act entry is p g g s quiet had still gives;
             draws_nothing = entered_undrawn b own_bucket true act entry is p g g s quiet had still gives;
             enters = enters_once (entered_peeking b own_bucket true act entry is p g g s quiet had still gives) (moved_on b _ g s gives.moved);
             reads_nothing = λ (busy : delete.Deleted ≡ delete.Busy). cc;
           };
         }
-    deletes_present delete.NotFound refuses = record {
+    deletes_present delete.NotFound refuses steps = record {
       on = refused_goes_on b (Delete key now) reply.NotFound p g g s quiet had still refuses;
       answer = refused_replied b (Delete key now) reply.NotFound p g g s quiet had still refuses;
       locked = λ has. absurd (took.unlocked has);
       costs = record {
+        steps = (omega (arith, tries, steps));
         takes = λ other. refused_takes b (Delete key now) reply.NotFound p g g s quiet had still refuses;
         draws_nothing = refused_undrawn b (Delete key now) reply.NotFound p g g s quiet had still refuses;
         enters = enters_once (refused_peeking b (Delete key now) reply.NotFound p g g s quiet had still refuses) (moved_on b _ g s refuses.moved);
         reads_nothing = λ (busy : delete.NotFound ≡ delete.Busy). cc;
       };
     }
-    deletes_present delete.Busy none = absurd none
+    deletes_present delete.Busy none steps = absurd none
 
-  pub deletes : (told : DeleteAnswer) → Removes b (Delete key now) told q s → Deletes b key now told p s
-  deletes told (g, look, removes) = deletes_present g look told removes
+  pub deletes : (told : DeleteAnswer) → Removes b (Delete key now) told q s → TakesAtMost (most_steps_to_remove told) q s → Deletes b key now told p s
+  deletes told (g, look, removes) steps = deletes_present g look told removes steps

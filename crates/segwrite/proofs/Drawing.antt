@@ -6,7 +6,7 @@ use Rattle.segcore.proofs.Limits.{drawn_few}
 use Rattle.segbase.specs.Words.{AddsAtOnce, Board, CounterMissed, depth_to_draw, IsPassOf, number}
 use Rattle.segbase.specs.Words.{Pass, trace}
 use Rattle.segbase.proofs.Moves.{did_quiet, did_has}
-use Rattle.segstore.specs.Words.{HasCleanBit, memo}
+use Rattle.segstore.specs.Words.{HasCleanBit, memo, step_count, TakesAtMost}
 use Rattle.segwrite.specs.Growing.{bucket_seen, DrawsSpare}
 use Rattle.segwrite.proofs.Linking.{did_after, did_nothing}
 
@@ -16,9 +16,10 @@ pub record Drawing (b : Board) (from : ℕ) (first p : Pass) : Type 0 where
   pub plain : p.plain ≡ first.plain
   pub memo : memo p ≡ memo first
   pub drawn : from ≤ drawn_in (trace p)
+  pub steps : TakesAtMost from first p
 
 pub drawing_first : (b : Board) (p : Pass) → IsPassOf b p → Drawing b 0 p p
-drawing_first b p is = record { did = did_nothing b p is; plain = refl; memo = refl; drawn = omega arith }
+drawing_first b p is = record { did = did_nothing b p is; plain = refl; memo = refl; drawn = omega arith; steps = omega arith }
 
 module _ (b : Board) (bucket from : ℕ) (first p q : Pass) (d : Drawing b from first p) (clean : HasCleanBit b first bucket) where
   same : bucket_seen b bucket p ≡ bucket_seen b bucket first
@@ -28,8 +29,8 @@ module _ (b : Board) (bucket from : ℕ) (first p q : Pass) (d : Drawing b from 
   may_draw short left = let long = ap (λ (u : Bucket). u.chained) same in
       (did_has b first p bucket d.did clean.bit, ap (λ (u : Bucket). u.spare) same ∙ clean.undrawn, refl, omega (arith, short, long), left, d.drawn)
 
-  pub drawing_later : (counter : ℕ) → CounterMissed b from counter p q → q.plain ≡ p.plain → memo q ≡ memo p → Drawing b counter first q
-  drawing_later counter missed plain kept = record { did = did_after b [] first p q d.did missed.did; plain = plain ∙ d.plain; memo = kept ∙ d.memo; drawn = let e = missed.is in omega arith }
+  pub drawing_later : (counter : ℕ) → CounterMissed b from counter p q → step_count q ≡ step_count p + 1 → q.plain ≡ p.plain → memo q ≡ memo p → Drawing b counter first q
+  drawing_later counter missed one plain kept = record { did = did_after b [] first p q d.did missed.did; plain = plain ∙ d.plain; memo = kept ∙ d.memo; drawn = (let e = missed.is in omega arith); steps = (let before = d.steps in let over = missed.over in omega (arith, before, over, one)) }
 
   pub drawn_now : AddsAtOnce b (Drew (number p) bucket (depth_to_draw b bucket p) from ∷ []) p q → q.plain ≡ p.plain → memo q ≡ memo p → DrawsSpare b bucket (Some from) first q
   drawn_now drew plain kept = (
@@ -46,3 +47,6 @@ none_left b bucket from first p d over = (
   record { moved = d.did.moved; plain = d.plain; memo = d.memo },
   (let few = drawn_few b.shape (trace p) d.did.moved.pass.lawful in let low = d.drawn in omega (arith, over, few, low)),
 )
+
+pub drawn_steps : (b : Board) (from : ℕ) (first p : Pass) → Drawing b from first p → TakesAtMost b.shape.overflow first p
+drawn_steps b from first p d = let few = drawn_few b.shape (trace p) d.did.moved.pass.lawful in let low = d.drawn in let most = d.steps in omega (arith, few, low, most)

@@ -1,7 +1,9 @@
 -- One turn of the search for a key's word: the word is looked at, and its row is read where it may be the key's.
 use Rattle.std.proofs.Common.{◌≡◌, ℕ, ◌+◌, ◌-◌, ◌*◌, ◌/◌, ◌<◌, ◌≤◌, eqb, List, [], Option, Some, None, refl, sym, ap, ◌∙◌, subst, inr, arith}
 use mir.Val.{bool_byte}
-use Rattle.segword.specs.Words.{IsSameItem}
+use Rattle.std.proofs.lemmas.Bool.{eq-eqb, ne_eqb}
+use Rattle.std.specs.Prelude.{MatchOption}
+use Rattle.segword.specs.Words.{IsSameItem, Shape}
 use Rattle.segmodel.specs.Words.{bucket_of}
 use Rattle.segcore.specs.Words.{bucket_after, HasBit, IsItemAt, item, Slot, word as word_at}
 use Rattle.segbase.specs.Words.{Board, cell_at, HasItemOf, IsWordOfContent, number, Pass, Place}
@@ -9,7 +11,7 @@ use Rattle.segbase.specs.Words.{position, trace}
 use Rattle.segstore.specs.Words.{Idles}
 use Rattle.segwrite.specs.Words.{Target}
 use Rattle.segwrite.specs.Writing.{IsInChain, IsEarlier, IsTarget, Updates, Finds}
-use Rattle.segstore.specs.Words.{IsNext}
+use Rattle.segstore.specs.Words.{IsNext, LeadsNowhere, LeadsTo, next_word}
 use Rattle.segwrite.specs.Growing.{IsChainEnd, Searches, or_end}
 use Rattle.segwrite.proofs.Places.{idles_then, idle_bucket, idle_bit, same_position}
 use Rattle.segwrite.proofs.Searching.{Searching, Passed, IsFirstEmpty, searching_later, reads_later, passes}
@@ -106,3 +108,32 @@ module _ (b : Board) (key : List ℕ) (first p q : Pass) (place : Place) (word :
           with_end : (o : Option Target) → new ≡ o → Finds b key o r → Searches b key (or_end (record { place = place; word = word; buckets = buckets }) o) r
           with_end None none found = (found, last_is buckets same none is deep)
           with_end (Some target) some found = found
+
+-- ---- from word to word, and from bucket to bucket
+
+-- below word 7 the next word of the bucket comes next
+pub next_inner : (z : Shape) (place : Place) (here : ℕ) → place.word < 7 → IsNext z place here (Some (next_word place))
+next_inner z place here lt = record { inner = λ lt. refl; last = λ le. absurd (omega (arith, lt, le)) }
+
+-- behind word 7 word 1 of another bucket
+pub next_first : (z : Shape) (place : Place) (here : ℕ) (next : Option Place) (after : Place) → place.word ≡ 7 → IsNext z place here next → next ≡ Some after → after.word ≡ 1
+next_first z place here next after last is same = let to = subst (λ o. MatchOption o (LeadsNowhere here) (LeadsTo z here)) same (is.last (omega (arith, last))) in ap (λ (x : Place). x.word) to.3
+
+-- the last word of a bucket
+pub at_last : (b : Board) (key : List ℕ) (first p : Pass) (bucket word : ℕ) (empty : Option Target) → word ≡ 7 → Searching b key first p (record { bucket = bucket; word = word }) empty → Searching b key first p (record { bucket = bucket; word = 7 }) empty
+at_last b key first p bucket word empty last s = subst (λ w. Searching b key first p (record { bucket = bucket; word = w }) empty) last s
+
+pub deep_last : (b : Board) (p : Pass) (bucket word buckets : ℕ) → word ≡ 7 → buckets ≡ position b.shape (trace p) (record { bucket = bucket; word = word }) / 8 + 1 → buckets ≡ position b.shape (trace p) (record { bucket = bucket; word = 7 }) / 8 + 1
+deep_last b p bucket word buckets last deep = subst (λ w. buckets ≡ position b.shape (trace p) (record { bucket = bucket; word = w }) / 8 + 1) last deep
+
+-- at the first word of the next bucket
+pub at_first : (b : Board) (key : List ℕ) (first p : Pass) (after : Place) (empty : Option Target) → after.word ≡ 1 → Searching b key first p after empty → Searching b key first p (record { bucket = after.bucket; word = 1 }) empty
+at_first b key first p after empty one s = subst (λ w. Searching b key first p (record { bucket = after.bucket; word = w }) empty) one s
+
+pub deep_inner : (b : Board) (p : Pass) (bucket word buckets : ℕ) → 1 ≤ word → buckets + bool_byte (eqb (word + 1) 1) ≡ position b.shape (trace p) (record { bucket = bucket; word = word + 1 }) / 8 + 1 → buckets ≡ position b.shape (trace p) (record { bucket = bucket; word = word + 1 }) / 8 + 1
+deep_inner b p bucket word buckets some deep = let same = ap bool_byte (ne_eqb (word + 1) 1 (λ e. omega (arith, e, some))) in omega (arith, deep, same)
+
+pub deep_first : (b : Board) (p : Pass) (after : Place) (buckets : ℕ) → after.word ≡ 1 → buckets + bool_byte (eqb after.word 1) ≡ position b.shape (trace p) after / 8 + 1 → buckets + 1 ≡ position b.shape (trace p) (record { bucket = after.bucket; word = 1 }) / 8 + 1
+deep_first b p after buckets one deep =
+    let same = ap bool_byte (eq-eqb after.word 1 one) in
+    subst (λ w. buckets + 1 ≡ position b.shape (trace p) (record { bucket = after.bucket; word = w }) / 8 + 1) one (omega (arith, deep, same))

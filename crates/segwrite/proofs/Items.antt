@@ -1,5 +1,5 @@
 -- What a word of a chain, read under the bucket's bit, says of the item there.
-use Rattle.std.proofs.Common.{◌≡◌, ◌≢◌, ◌↔◌, ℕ, ◌+◌, ◌*◌, ◌/◌, ◌%◌, ◌^◌, ◌<◌, ◌≤◌, List, [], refl, sym, ap, ◌∙◌, subst, inr, arith}
+use Rattle.std.proofs.Common.{◌≡◌, ◌↔◌, ℕ, ◌+◌, ◌*◌, ◌/◌, ◌%◌, ◌^◌, ◌<◌, ◌≤◌, List, [], refl, sym, ap, ◌∙◌, subst, inr, arith}
 use Rattle.segword.specs.Words.{IsKey, IsValid, IsValue, Item, item_word, Shape}
 use Rattle.segmodel.specs.Words.{tag_of}
 use Rattle.segcore.specs.Words.{bucket_after, Content, copy, Event, HasBit, Holds, IsLawful}
@@ -77,7 +77,9 @@ row_tells z h b n key read found l name tells =
     let same = tells a.key stands.value stands.valid.0 stands.valid.1 row in
     (λ y. (a, name.here, same.0 y), λ has. same.1 (ap (λ (x : Slot). x.key) (same_item a has.0 (sym name.here ∙ has.1)) ∙ has.2))
 
--- and a word with another tag is not the key's
-pub other_tag : (z : Shape) (h : List Event) (b n tag : ℕ) (key : List ℕ) (read : Item) → IsNamed z h b n read → tag ≡ tag_of key → read.tag ≢ tag → ¬ ((a : Slot) × ((bucket_after z h b).items n ≡ item a) × (a.key ≡ key))
-other_tag z h b n tag key read name is other has =
-    other (name.tag ∙ (ap (λ (x : Slot). tag_of x.key) (same_item name.slot has.0 (sym name.here ∙ has.1)) ∙ (ap tag_of has.2 ∙ sym is)))
+-- the word of the key's item has the key's tag
+pub tag_is : (z : Shape) (h : List Event) (b n word : ℕ) (key : List ℕ) → IsValid z → IsLawful z h → IsWordOfContent ((bucket_after z h b).items n) word → ((a : Slot) × ((bucket_after z h b).items n ≡ item a) × (a.key ≡ key)) → word / 2 ^ 52 ≡ tag_of key
+tag_is z h b n word key v l reads has =
+    let a = has.0 in let stands = (coherent z h l).items b n a has.1 in
+    let is = (subst (λ x. IsWordOfContent x word) has.1 reads).0 in
+    ap (λ w. w / 2 ^ 52) is.2 ∙ (tag_of_word (tag_of a.key) is.0 a.segment a.row is.1 (low_segment z a.segment v stands.within.0) (low_row z a.row v stands.within.1) ∙ ap tag_of has.2)

@@ -55,7 +55,7 @@ last_later b e p q bucket place word is d bit at leaves l =
     }
 
 -- the word that stood there when an exchange failed
-pub last_missed : (b : Board) (p q : Pass) (bucket : ℕ) (place : Place) (word found : ℕ) → HasBit b.shape (trace p) (number p) bucket → IsLast b bucket place word p → Missed b place word found p q → IsLast b bucket place found q × (word < found)
+pub last_missed : (b : Board) (p q : Pass) (bucket : ℕ) (place : Place) (word found : ℕ) → HasBit b.shape (trace p) (number p) bucket → IsLast b bucket place word p → Missed b place word found p q → IsLast b bucket place found q × IsSameItem word found × (word < found)
 last_missed b p q bucket place word found bit l m =
     let z = b.shape in let a = l.named in
     let same = moved_bucket b [] p q bucket m.did.moved bit tt in
@@ -77,6 +77,7 @@ last_missed b p q bucket place word found bit l m =
         );
         earlier = subst (λ y. IsSameItem found y × (found ≤ y)) m.is ((subst (λ t. 1 ≤ t) high.0.1 high.0.0, refl, refl), omega arith);
       },
+      high.0,
       high.1,
     )
 
@@ -213,6 +214,7 @@ module _ (b : Board) (bucket overflow : ℕ) (place : Place) (word : ℕ) (p r q
         },
         high.0,
         high.1,
+        high.2,
       )
 
 -- ---- until one comes about

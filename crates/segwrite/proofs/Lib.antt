@@ -1,3 +1,4 @@
+pub mod Steps
 pub mod Lengthening
 pub mod Items
 pub mod Places

@@ -9,7 +9,8 @@ use Rattle.segcore.specs.Event as event
 use Rattle.segcore.specs.Words.{Bucket, count, drew, Event, HasBit, HasNoEmptyWord, last, NoneAt}
 use Rattle.segbase.specs.Words.{AddsEvents, Board, IsPassOf, number, Pass, Place, seen, trace}
 use Rattle.segbase.proofs.Moves.{moved_on, moved_then}
-use Rattle.segstore.specs.Words.{HasCleanBit, Idles, memo}
+use Rattle.segstore.specs.Words.{HasCleanBit, Idles, memo, TakesAtMost}
+use Rattle.segwrite.specs.Steps.{most_steps_of_draw, most_steps_of_growth, most_steps_of_room}
 use Rattle.segstore.proofs.Keeping.{AreCalm}
 use Rattle.segwrite.specs.declared.find.Found.{Found}
 use Rattle.segwrite.specs.declared.find.Found.TheVariants.{Word, Full}
@@ -149,3 +150,19 @@ module _ (b : Board) (key : List ℕ) (p q r : Pass) (i : Idles b p q) (is : IsP
     where
       full : Idles b q r × CannotGrow b k r → Idles b q r × CannotGrow b k r × HasFullChain b key r
       full m = (m.0, m.1, (searches_still b [] key (Full end) q r is clean.bit m.0.moved tt found).0)
+
+  -- how many steps the room took: none, or those of a chain that grew in need
+  pub room_steps : (found : Found) (room : Option Target) (target : Target) → room ≡ Some target → Searches b key found q → MakesRoom b k found room q r → TakesAtMost (most_steps_of_room b.shape found room) q r
+      → TakesAtMost 0 q r ⊎ (TakesAtMost (most_steps_of_growth b.shape) q r × DrewInNeed b.shape key (number q) (trace q) (trace r))
+  room_steps (Word word) room target given found makes steps = inl steps
+  room_steps (Full end) room target given found makes steps = inr (
+    subst (λ o. TakesAtMost (most_steps_of_room b.shape (Full end) o) q r) given steps,
+    needed (subst (λ o. MakesRoom b k (Full end) o q r) given makes),
+  )
+    where
+      needed : Lengthens b k target q r → DrewInNeed b.shape key (number q) (trace q) (trace r)
+      needed l = l.could key refl found.0.absent
+
+  pub unroomed_steps : (found : Found) (room : Option Target) → room ≡ None → MakesRoom b k found room q r → TakesAtMost (most_steps_of_room b.shape found room) q r → TakesAtMost (most_steps_of_draw b.shape) q r
+  unroomed_steps (Word word) room none makes steps = absurd (none-some word (sym none ∙ makes.0))
+  unroomed_steps (Full end) room none makes steps = subst (λ o. TakesAtMost (most_steps_of_room b.shape (Full end) o) q r) none steps

@@ -1,5 +1,5 @@
 -- A write of a key, from the take of the bit to its answer: what was found, what the cache replies, and each way in which it ends.
-use Rattle.std.proofs.Common.{◌≡◌, ◌≢◌, ℕ, ◌^◌, ◌<◌, true, false, is_some, List, [], ◌∷◌, Option, Some, None, refl, sym, ap, ◌∙◌, subst}
+use Rattle.std.proofs.Common.{◌≡◌, ◌≢◌, ℕ, ◌+◌, ◌^◌, ◌<◌, true, false, is_some, List, [], ◌∷◌, Option, Some, None, refl, sym, ap, ◌∙◌, subst, inl, inr, ⊎_elim}
 use Rattle.std.proofs.lemmas.Option.{same_Some, none-some}
 use Rattle.segword.specs.Words.{IsKey}
 use Rattle.segmodel.specs.declared.request.Reply.TheVariants.{Stored}
@@ -13,7 +13,7 @@ use Rattle.segbase.specs.Words.{AddsAtOnce, Board, current_of, IsPassOf, locked_
 use Rattle.segbase.specs.Words.{used_of}
 use Rattle.segstore.specs.Words.{DrawsNothing, GoesOn, has_room, HasCleanBit, Idles, IsQuiet}
 use Rattle.segstore.specs.Words.{KeepsSegments, MayEnterAny, memo, peek, ReadsNothing, TakesOneBit}
-use Rattle.segstore.specs.Words.{TakesToWrite, TookToWrite}
+use Rattle.segstore.specs.Words.{TakesAtMost, TakesToWrite, TookToWrite}
 use Rattle.segstore.proofs.Keeping.{same_used, keeps_plain}
 use Rattle.segwrite.specs.declared.find.Found.{Found}
 use Rattle.segwrite.specs.Words.{Target}
@@ -24,28 +24,31 @@ use Rattle.segstore.proofs.Refills.{idles}
 use Rattle.segstore.proofs.Peeking.{PeeksInto}
 use Rattle.segwrite.specs.Presence.{depends_on_key, PeeksFor}
 use Rattle.segwrite.specs.Writes.{CostsOfAnswer, EntersForKey, IsWriteAnswer, Writes, UsesRow}
-use Rattle.segwrite.specs.Full.{GrowsFor}
+use Rattle.segwrite.specs.Full.{DrewInNeed, GrowsFor}
+use Rattle.segwrite.specs.Steps.{most_steps_of_draw, most_steps_of_growth, most_steps_of_refusal, most_steps_of_room}
+use Rattle.segwrite.specs.Steps.{most_steps_of_write, most_tries_for_bit, WritesInSteps}
 use Rattle.segwrite.specs.Writing.{Finds, IsTarget, HasFullChain}
 use Rattle.segwrite.specs.Growing.{Searches, target_of, CannotGrow, IsAsFound, MakesRoom}
 use Rattle.segwrite.specs.Storing.{IsNextRow, Requests, StoresUnderBit}
 use Rattle.segwrite.specs.Refusing.{request_of, IsToldBy, reply_now, RefusesUnderBit}
-use Rattle.segwrite.proofs.Lengthening.{grows_none}
+use Rattle.segwrite.proofs.Lengthening.{grows_none, in_need_wider}
+use Rattle.segwrite.proofs.Steps.{told_steps}
 use Rattle.segwrite.proofs.Refused.{asks, adds_absent, refused_goes_on, refused_undrawn, refused_peeking, refused_takes, refused_answer}
 use Rattle.segwrite.proofs.Presence.{began, may_enter, taken_moved, peek_nowhere, enters_for, enters_none, came_wider, none_present, unread_if}
-use Rattle.segwrite.proofs.Rooms.{searches_still, finds_of, as_found, DrawsOnce, HasRoom, has_room as room_for, no_room}
+use Rattle.segwrite.proofs.Rooms.{searches_still, finds_of, as_found, DrawsOnce, HasRoom, has_room as room_for, no_room, room_steps, unroomed_steps}
 use Rattle.segwrite.proofs.Sets.{found_clean, may_free, full_goes_on, full_undrawn, full_peeking, full_takes, full_answer, stored_goes_on, stored_answer, stored_first, stored_peeking, stored_takes, stored_grows}
 use Rattle.segstore.proofs.UnderBit.{moved_at}
 use Rattle.segstore.proofs.UnderWrite.{HasBegun, begun, took_keeps}
 
 -- all that follows where there is room, and the bit was taken
 writes_with : (b : Board) (request : Request) (told : WriteAnswer) (p s : Pass) → ¬ (has_room b.shape p ≡ false) → locked_of p ≢ Some (bucket_of b.shape (key_of request)) → told ≢ write.NoRoom → told ≢ write.Busy
-    → GoesOn b p s → IsWriteAnswer b.shape request told p s → CostsOfAnswer b.shape request told p s → GrowsFor b.shape request p s → EntersForKey b.shape (key_of request) p s → (depends_on_key request ≡ false → ReadsNothing p s) → Writes b request told p s
-writes_with b request told p s room unlocked some free on answer of_answer grows enters unread = record {
+    → GoesOn b p s → IsWriteAnswer b.shape request told p s → CostsOfAnswer b.shape request told p s → WritesInSteps b.shape request told p s → GrowsFor b.shape request p s → EntersForKey b.shape (key_of request) p s → (depends_on_key request ≡ false → ReadsNothing p s) → Writes b request told p s
+writes_with b request told p s room unlocked some free on answer of_answer steps grows enters unread = record {
   on = on;
   answer = answer;
   no_room = (λ none. absurd (some none), λ none. absurd (room none));
   locked = λ has locked. absurd (unlocked locked);
-  costs = record { of_answer = of_answer; grows = grows; enters = enters; reads_nothing = unread };
+  costs = record { of_answer = of_answer; steps = steps; grows = grows; enters = enters; reads_nothing = unread };
 }
 
 -- what a refusal by the cache, or for lack of a word, costs
@@ -60,14 +63,15 @@ refusal_costs b request write.BucketFull p s unstored some free takes none = (ta
 refusal_costs b request write.Busy p s unstored some free takes none = absurd (free refl)
 
 -- the bit can't be had
-pub ends_busy : (b : Board) (request : Request) (p q : Pass) → ¬ (has_room b.shape p ≡ false) → TakesToWrite b (bucket_of b.shape (key_of request)) false p q → Writes b request write.Busy p q
-ends_busy b request p q room busy = record {
+pub ends_busy : (b : Board) (request : Request) (p q : Pass) → ¬ (has_room b.shape p ≡ false) → TakesToWrite b (bucket_of b.shape (key_of request)) false p q → TakesAtMost most_tries_for_bit p q → Writes b request write.Busy p q
+ends_busy b request p q room busy steps = record {
   on = busy.0;
   answer = (busy.1, busy.2);
   no_room = ((λ (e : write.Busy ≡ write.NoRoom). cc), λ none. absurd (room none));
   locked = λ has locked. refl;
   costs = record {
     of_answer = (busy.3, busy.4);
+    steps = steps;
     grows = grows_none b.shape request p q busy.3;
     enters = enters_none b.shape (key_of request) p q busy.4;
     reads_nothing = λ is_set. busy.4;
@@ -127,18 +131,20 @@ module _ (b : Board) (w : When) (request : Request) (key value words : List ℕ)
     unread_set s peeks is_set = unread_if into p s (looks.none is_set) peeks
 
     -- the cache refuses it
-    pub ends_refused : ¬ (has_room b.shape p ≡ false) → (answer : WriteAnswer) (s : Pass) → refusal ≡ Some answer → RefusesUnderBit b request (reply_now b g request) g s → Writes b request answer p s
-    ends_refused room answer s is refuses =
+    pub ends_refused : ¬ (has_room b.shape p ≡ false) → (answer : WriteAnswer) (s : Pass) → refusal ≡ Some answer → RefusesUnderBit b request (reply_now b g request) g s → TakesAtMost (most_steps_of_refusal request) p s → Writes b request answer p s
+    ends_refused room answer s is refuses steps =
         let why = subst (IsToldBy (reply_now b g request)) is told in
         let undrawn = refused_undrawn b request (reply_now b g request) p g g s quiet had_it still refuses in
         let peeks = refused_peeking b request (reply_now b g request) p g g s quiet had_it still refuses in
         let some : answer ≢ write.NoRoom = λ none. none-some (reply_now b g request) (sym (ap reply_of_write none) ∙ why.0) in
         let free : answer ≢ write.Busy = λ busy. none-some (reply_now b g request) (sym (ap reply_of_write busy) ∙ why.0) in
+        let word : answer ≢ write.BucketFull = λ full. none-some (reply_now b g request) (sym (ap reply_of_write full) ∙ why.0) in
         let unstored : answer ≢ write.Stored = λ stored. subst IsRefusal (same_Some (reply_now b g request) Stored (sym why.0 ∙ ap reply_of_write stored)) why.1 in
         writes_with b request answer p s room took_it.unlocked some free
         (refused_goes_on b request (reply_now b g request) p g g s quiet had_it still refuses)
         (refused_answer b request (reply_now b g request) p g g s quiet had_it still refuses answer why.0 why.1)
         (refusal_costs b request answer p s unstored some free (refused_takes b request (reply_now b g request) p g g s quiet had_it still refuses) undrawn)
+        (told_steps b.shape request answer p s unstored some word free steps)
         (grows_none b.shape request p s undrawn)
         (enters_once s (moved_on b _ g s refuses.moved) peeks) (unread_set s peeks)
 
@@ -153,7 +159,7 @@ module _ (b : Board) (w : When) (request : Request) (key value words : List ℕ)
     pub may_make : IsPassOf b g × HasCleanBit b g bucket × IsAsFound b bucket found g
     may_make = (looks.peeks.moved.pass, clean_now, subst (λ n. IsAsFound b n found g) (sym at_home) (as_found b (key_of request) found g found_now))
 
-    module _ (r : Pass) (room : Option Target) (makes : MakesRoom b bucket found room g r) where
+    module _ (r : Pass) (room : Option Target) (makes : MakesRoom b bucket found room g r) (drawn : TakesAtMost (most_steps_of_room b.shape found room) g r) where
       made : MakesRoom b k found room g r
       made = subst (λ n. MakesRoom b n found room g r) at_home makes
 
@@ -166,8 +172,8 @@ module _ (b : Board) (w : When) (request : Request) (key value words : List ℕ)
         pub may_end : IsPassOf b r × May b.shape (trace r) (number r) (release bucket false None)
         may_end = (none.0.moved.pass, may_free b bucket p g r quiet had none.0)
 
-        pub ends_full : ¬ (has_room b.shape p ≡ false) → (s : Pass) → refusal ≡ None → AddsAtOnce b (Freed (number r) bucket false ∷ []) r s → (bucket_after b.shape (trace s) bucket).holder ≡ None → s.plain ≡ r.plain → memo s ≡ memo r → Writes b request write.BucketFull p s
-        ends_full rows s unrefused freed free plain same =
+        pub ends_full : ¬ (has_room b.shape p ≡ false) → (s : Pass) → refusal ≡ None → AddsAtOnce b (Freed (number r) bucket false ∷ []) r s → (bucket_after b.shape (trace s) bucket).holder ≡ None → s.plain ≡ r.plain → memo s ≡ memo r → (TakesAtMost (most_steps_of_draw b.shape) g r → TakesAtMost (most_steps_of_refusal request + most_steps_of_draw b.shape) p s) → Writes b request write.BucketFull p s
+        ends_full rows s unrefused freed free plain same steps =
             let stored = subst (IsToldBy (reply_now b g request)) unrefused told in
             let freed' = subst (λ n. AddsAtOnce b (Freed (number r) n false ∷ []) r s) at_home freed in
             let free' = subst (λ n. (bucket_after b.shape (trace s) n).holder ≡ None) at_home free in
@@ -179,6 +185,7 @@ module _ (b : Board) (w : When) (request : Request) (key value words : List ℕ)
             let peeks = full_peeking b (key_of request) p g r s quiet had_it none.0 none.2 none.1 freed' free' plain same in
             writes_with b request write.BucketFull p s rows took_it.unlocked (λ e. cc) (λ e. cc) (full_goes_on b (key_of request) p g r s quiet had_it none.0 none.2 none.1 freed' free' plain same) (answer.0, adds, answer.1)
             (full_takes b (key_of request) p g r s quiet had_it none.0 none.2 none.1 freed' free' plain same, undrawn)
+            (steps (unroomed_steps b (key_of request) g g r still looks.peeks.moved.pass clean_there found room unmade made drawn))
             (grows_none b.shape request p s undrawn)
             (enters_once s (begins_on (trace g) (trace r) (trace s) (moved_on b [] g r none.0.moved) (moved_on b _ r s freed.moved)) peeks) (unread_set s peeks)
 
@@ -204,8 +211,8 @@ module _ (b : Board) (w : When) (request : Request) (key value words : List ℕ)
             (there.ready.moved.pass, (keeps, (row_is, (requests, (key_of_words, (tagged, (there.ready.clean, there.target_is)))))))
 
         pub ends_stored : ¬ (has_room b.shape p ≡ false) → refusal ≡ None → (segment row : ℕ) (t s : Pass) → StoresUnderBit b request segment row r t → KeepsSegments b t → UsesRow segment r t
-            → AddsAtOnce b (Freed (number t) bucket true ∷ []) t s → (bucket_after b.shape (trace s) bucket).holder ≡ None → s.plain ≡ t.plain → memo s ≡ memo t → Writes b request write.Stored p s
-        ends_stored rows unrefused segment row t s done kept uses freed free plain same =
+            → AddsAtOnce b (Freed (number t) bucket true ∷ []) t s → (bucket_after b.shape (trace s) bucket).holder ≡ None → s.plain ≡ t.plain → memo s ≡ memo t → (TakesAtMost 0 g r → TakesAtMost (most_steps_of_write request) p s) → (TakesAtMost (most_steps_of_growth b.shape) g r → TakesAtMost (most_steps_of_write request + most_steps_of_growth b.shape) p s) → Writes b request write.Stored p s
+        ends_stored rows unrefused segment row t s done kept uses freed free plain same steps grown =
             let freed' = subst (λ n. AddsAtOnce b (Freed (number t) n true ∷ []) t s) at_home freed in
             let free' = subst (λ n. (bucket_after b.shape (trace s) n).holder ≡ None) at_home free in
             let answer = stored_answer b request segment row p g r t s quiet had_it there.own there.ready done kept uses freed' free' plain same in
@@ -218,5 +225,9 @@ module _ (b : Board) (w : When) (request : Request) (key value words : List ℕ)
               stored_takes b request segment row p g r t s quiet had_it there.own there.ready done kept uses freed' free' plain same,
               stored_first b request segment row p g r t s quiet had_it there.own there.ready done kept uses freed' free' plain same,
             )
+            (⊎_elim
+            (λ none. inl (steps none))
+            (λ more. inr (grown more.0, in_need_wider b.shape (key_of request) (number p) (trace g) (trace r) (trace p) (trace s) (moved_on b _ p g had_it.moved) (begins_on (trace r) (trace t) (trace s) (moved_on b _ r t done.2) (moved_on b _ t s freed.moved)) (subst (λ n. DrewInNeed b.shape (key_of request) n (trace g) (trace r)) had.moved.same more.1)))
+            (room_steps b (key_of request) g g r still looks.peeks.moved.pass clean_there found room target given found_now made drawn))
             (stored_grows b request segment row p g r t s quiet had_it there.own there.ready done kept uses freed' free' plain same (seen g) draws adds)
             (enters_once s (begins_on (trace g) (trace r) (trace s) (moved_on b _ g r there.ready.moved) (begins_on (trace r) (trace t) (trace s) (moved_on b _ r t done.2) (moved_on b _ t s freed.moved))) peeks) (unread_set s peeks)

@@ -2,6 +2,7 @@
 -- An overflow bucket is drawn, and the item of the chain's last word is copied to word 1 of it.
 -- Then that last word leads on to the overflow bucket.
 use Rattle.std.specs.Prelude.{◌≡◌, ℕ, ◌+◌, ◌*◌, ◌<◌, ◌⊎◌, List, [], ◌∷◌, ◌++◌, map, false, Option, Some, None, Result, Ok, Err}
+use Rattle.segword.specs.Words.{IsSameItem}
 use Rattle.segmodel.specs.Words.{after, bucket_of, IsSameAt}
 use Rattle.segcore.specs.declared.event.Event.TheVariants.{Drew, Put, Chained}
 use Rattle.segcore.specs.Words.{Bucket, bucket_after, drawn_in, Event, HasBit, HasNoEmptyWord, home}
@@ -107,6 +108,7 @@ TriesToJoin b bucket overflow place word (Err found) p q =
     Prepares b (puts (number p) bucket (word ∷ [])) bucket p q
     × HasSpare b bucket overflow q
     × IsLast b bucket place found q
+    × IsSameItem word found
     × (word < found)
 
 abbrev pub Joins : Board → ℕ → ℕ → Pass → Pass → Type 0

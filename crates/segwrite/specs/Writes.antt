@@ -13,10 +13,11 @@ use Rattle.segbase.specs.Words.{Board, count, current_of, locked_of, marked, num
 use Rattle.segbase.specs.Words.{Pass, SinceFirst, trace, with_own}
 use Rattle.segcore.specs.Mark as mark
 use Rattle.segstore.specs.Words.{AddsEntry, ChangesNothing, DrawsNothing, GoesOn, has_room, IsBusy}
-use Rattle.segstore.specs.Words.{memo, RaisesNothing, ReadsNothing, TakesOneBit}
+use Rattle.segstore.specs.Words.{memo, RaisesNothing, ReadsNothing, TakesAtMost, TakesOneBit}
 use Rattle.segwrite.specs.Presence.{CameIn, depends_on_key}
 use Rattle.segwrite.specs.FirstEmpty.{TookFirstEmpty}
 use Rattle.segwrite.specs.Full.{WasFull, GrowsFor}
+use Rattle.segwrite.specs.Steps.{most_steps_of_delete, WritesInSteps}
 
 -- ---- writes
 
@@ -96,6 +97,7 @@ CostsOfAnswer shape request _ p q =
 pub record CostsOfWrite (shape : Shape) (request : Request) (told : WriteAnswer) (p q : Pass)
     : Type 0 where
   pub of_answer : CostsOfAnswer shape request told p q
+  pub steps : WritesInSteps shape request told p q
   pub grows : GrowsFor shape request p q
   pub enters : EntersForKey shape (key_of request) p q
   pub reads_nothing : depends_on_key request ≡ false → ReadsNothing p q
@@ -104,6 +106,7 @@ pub record CostsOfWrite (shape : Shape) (request : Request) (told : WriteAnswer)
 pub record CostsOfDelete (shape : Shape) (key : List ℕ) (told : DeleteAnswer) (p q : Pass)
     : Type 0 where
   pub takes : told ≢ delete.Busy → TakesOneBit (bucket_of shape key) p q
+  pub steps : TakesAtMost (most_steps_of_delete told) p q
   pub draws_nothing : DrawsNothing p q
   pub enters : EntersForKey shape key p q
   pub reads_nothing : told ≡ delete.Busy → ReadsNothing p q

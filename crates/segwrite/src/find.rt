@@ -1,18 +1,19 @@
 //! The word of a key's chain that a write changes, or the end of the chain if there is none.
 //! One walk along the chain, under the bucket's bit, finds it.
-ghost use Rattle.std.specs.Prelude.{◌≡◌, ◌↔◌, IsTrue, List, ℕ};
+ghost use Rattle.std.specs.Prelude.{◌≡◌, ◌↔◌, ◌*◌, IsTrue, List, ℕ};
 ghost use Rattle.segmodel.specs.Words.{bucket_of};
 ghost use Rattle.segcore.specs.Words.{HasBit};
 ghost use Rattle.segwrite.specs.Writing.{own_word, IsInChain, Finds};
 ghost use Rattle.segbase.specs.Words.{content_for, HasItemOf, IsPassOf, IsWordOfContent};
 ghost use Rattle.segbase.specs.Words.{number, trace};
-ghost use Rattle.segstore.specs.Words.{Idles, IsSought, MayEnterAny};
+ghost use Rattle.segstore.specs.Words.{Idles, IsSought, MayEnterAny, TakesAtMost};
 ghost use Rattle.segwrite.specs.Presence.{IsPresentWord, Peeks};
 ghost use Rattle.segwrite.specs.Growing.{Searches};
+ghost use Rattle.segwrite.specs.Steps.{most_steps_of_search};
 
 use segbase::{Board, Pass, Place};
 use segstore::{Sought, enter_segment, leave_segment, next_place, row_of_key};
-use segword::Item;
+use segword::{Item, LAST_WORD};
 
 /// A word of a chain, and what stood there: the item of a key,
 /// or 0 if the key doesn't stand and the word is free for it.
@@ -94,6 +95,7 @@ pub(crate) fn find(board: &Board, pass: &mut Pass, sought: &Sought) -> Option<Ta
     requires sought { IsSought board.now.shape sought.now }
     requires bit { HasBit board.now.shape (trace pass.old) (number pass.old) sought.now.bucket }
     ensures idles { Idles board.now pass.old pass.new }
+    ensures steps { TakesAtMost most_steps_of_search pass.old pass.new }
     ensures finds { Finds board.now sought.now.key result pass.new }
 {
     search(board, pass, sought).target()
@@ -106,35 +108,46 @@ pub(crate) fn search(board: &Board, pass: &mut Pass, sought: &Sought) -> Found
     requires sought { IsSought board.now.shape sought.now }
     requires bit { HasBit board.now.shape (trace pass.old) (number pass.old) sought.now.bucket }
     ensures idles { Idles board.now pass.old pass.new }
+    ensures steps { TakesAtMost most_steps_of_search pass.old pass.new }
     ensures searches { Searches board.now sought.now.key result pass.new }
 {
-    let mut place = Place {
-        bucket: sought.bucket,
-        word: 1,
-    };
+    let mut bucket = sought.bucket;
     let mut buckets = 1;
     let mut empty = None;
     loop {
-        let word = board.look(pass, place);
-        let target = Target { place, word };
-        if is_item_of(board, pass, target, sought) {
-            return Found::Word(target);
-        }
-        empty = target.or_earlier(empty);
-        match next_place(board, place, word) {
-            Some(next) => {
-                buckets += u32::from(next.word == 1);
-                place = next;
+        for word in 1..LAST_WORD {
+            let place = Place { bucket, word };
+            let target = Target {
+                place,
+                word: board.look(pass, place),
+            };
+            if is_item_of(board, pass, target, sought) {
+                return Found::Word(target);
             }
-            None => {
-                let end = ChainEnd {
-                    place,
-                    word,
-                    buckets,
-                };
-                return end.or_empty(empty);
-            }
+            empty = target.or_earlier(empty);
         }
+        let place = Place {
+            bucket,
+            word: LAST_WORD,
+        };
+        let last = Target {
+            place,
+            word: board.look(pass, place),
+        };
+        if is_item_of(board, pass, last, sought) {
+            return Found::Word(last);
+        }
+        empty = last.or_earlier(empty);
+        let Some(next) = next_place(board, place, last.word) else {
+            let end = ChainEnd {
+                place,
+                word: last.word,
+                buckets,
+            };
+            return end.or_empty(empty);
+        };
+        bucket = next.bucket;
+        buckets += 1;
     }
 }
 
@@ -149,13 +162,15 @@ fn is_item_of(board: &Board, pass: &mut Pass, target: Target, sought: &Sought) -
     requires word { IsWordOfContent (content_for board.now sought.now.key target.place pass.old)
         target.word }
     ensures idles { Idles board.now pass.old pass.new }
+    ensures steps { TakesAtMost 4 pass.old pass.new }
     ensures is { IsTrue result ↔ HasItemOf board.now sought.now.key target.place pass.new }
 {
+    if !Item::has_tag(target.word, sought.tag) {
+        return false;
+    }
     match Item::unpack(target.word) {
-        Some(item) if item.tag == sought.tag => {
-            row_of_key(board, pass, item.seg, item.row, &sought.key).is_some()
-        }
-        _ => false,
+        Some(item) => row_of_key(board, pass, item.seg, item.row, &sought.key).is_some(),
+        None => false,
     }
 }
 
@@ -174,6 +189,7 @@ pub(crate) fn present_word(
         (bucket_of board.now.shape key) }
     requires found { Finds board.now key found pass.old }
     ensures peeks { Peeks board.now key pass.old pass.new }
+    ensures steps { TakesAtMost 2 pass.old pass.new }
     ensures presents { IsPresentWord board.now key now found result pass.new }
 {
     let target = own_word(found)?;

@@ -1,11 +1,13 @@
 //! Growing of a chain none of whose words is empty, under the bit of its bucket:
 //! an overflow bucket is drawn, and joins the chain with the item of the chain's last word.
-ghost use Rattle.std.specs.Prelude.{◌<◌};
+ghost use Rattle.std.specs.Prelude.{◌<◌, ◌*◌, MatchOption};
 ghost use Rattle.segcore.specs.Words.{HasNoEmptyWord};
 ghost use Rattle.segbase.specs.Words.{home_at, IsPassOf};
-ghost use Rattle.segstore.specs.Words.{HasCleanBit};
+ghost use Rattle.segstore.specs.Words.{HasCleanBit, TakesAtMost};
 ghost use Rattle.segwrite.specs.Growing.{bucket_seen, IsLast, IsChainEnd, IsAsFound, MakesRoom};
 ghost use Rattle.segwrite.specs.Growing.{Grows, DrawsSpare, HasSpare, TriesToJoin, Joins};
+ghost use Rattle.segwrite.specs.Steps.{most_steps_of_draw, most_steps_of_growth};
+ghost use Rattle.segwrite.specs.Steps.{most_steps_of_room, most_tries_to_exchange};
 
 use crate::find::{ChainEnd, Found, Target};
 use segbase::{Board, CHAIN_BUCKETS, Pass, Place};
@@ -19,6 +21,8 @@ pub(crate) fn make_room(board: &Board, pass: &mut Pass, bucket: u32, found: Foun
     requires clean { HasCleanBit board.now pass.old bucket }
     requires found { IsAsFound board.now bucket found pass.old }
     ensures makes { MakesRoom board.now bucket found result pass.old pass.new }
+    ensures steps { TakesAtMost (most_steps_of_room board.now.shape found result)
+        pass.old pass.new }
 {
     match found {
         Found::Word(target) => Some(target),
@@ -34,6 +38,9 @@ fn grow(board: &Board, pass: &mut Pass, bucket: u32, end: ChainEnd) -> Option<Ta
     requires full { HasNoEmptyWord (bucket_seen board.now bucket pass.old) }
     requires end { IsChainEnd board.now bucket end pass.old }
     ensures grows { Grows board.now bucket result pass.old pass.new }
+    ensures steps { MatchOption result
+        (TakesAtMost (most_steps_of_draw board.now.shape) pass.old pass.new)
+        (λ target. TakesAtMost (most_steps_of_growth board.now.shape) pass.old pass.new) }
 {
     if end.buckets == CHAIN_BUCKETS {
         return None;
@@ -54,6 +61,7 @@ fn draw(board: &Board, pass: &mut Pass, bucket: u32) -> Option<u32>
     requires clean { HasCleanBit board.now pass.old bucket }
     requires short { (bucket_seen board.now bucket pass.old).chained < 3 }
     ensures draws { DrawsSpare board.now bucket result pass.old pass.new }
+    ensures steps { TakesAtMost (most_steps_of_draw board.now.shape) pass.old pass.new }
 {
     let mut from = 0;
     while from < board.shape().overflow {
@@ -72,6 +80,7 @@ fn join(board: &Board, pass: &mut Pass, place: Place, word: u64, overflow: u32)
     requires spare { HasSpare board.now (home_at board.now place pass.old) overflow pass.old }
     requires last { IsLast board.now (home_at board.now place pass.old) place word pass.old }
     ensures joins { Joins board.now (home_at board.now place pass.old) overflow pass.old pass.new }
+    ensures steps { TakesAtMost (2 * most_tries_to_exchange) pass.old pass.new }
 {
     let mut old = word;
     while let Err(found) = try_to_join(board, pass, place, old, overflow) {
@@ -93,6 +102,7 @@ fn try_to_join(
     requires last { IsLast board.now (home_at board.now place pass.old) place word pass.old }
     ensures tries { TriesToJoin board.now (home_at board.now place pass.old) overflow
         place word result pass.old pass.new }
+    ensures steps { TakesAtMost 2 pass.old pass.new }
 {
     let item = Item::unpack(word).unwrap();
     board.fill_overflow(pass, overflow, item);

@@ -7,9 +7,11 @@ ghost use Rattle.segcore.specs.declared.event.Event.TheVariants.{Unlinked};
 ghost use Rattle.segcore.specs.Words.{Fits, Leaving};
 ghost use Rattle.segbase.specs.Words.{AddsUnlink, HasItemOf, IsPassOf, number, position_at, trace};
 ghost use Rattle.segstore.specs.Words.{HasCleanBit, IsQuiet, IsSought, MayEnterAny, memo};
+ghost use Rattle.segstore.specs.Words.{TakesAtMost};
 ghost use Rattle.segwrite.specs.Writing.{IsInChain, IsEarlier};
 ghost use Rattle.segwrite.specs.Writes.{Deletes};
 ghost use Rattle.segwrite.specs.Refusing.{Removes};
+ghost use Rattle.segwrite.specs.Steps.{most_steps_to_remove, most_tries_to_exchange};
 
 use crate::find::{Target, find, present_word};
 use crate::write::refuse;
@@ -40,6 +42,7 @@ fn remove(board: &Board, pass: &mut Pass, sought: &Sought, now: u32) -> DeleteAn
     requires enter { MayEnterAny pass.old }
     requires request { request ≡ Delete sought.now.key now }
     ensures removes { Removes board.now request result pass.old pass.new }
+    ensures steps { TakesAtMost (most_steps_to_remove result) pass.old pass.new }
 {
     let found = find(board, pass, sought);
     let Some(target) = present_word(board, pass, found, now) else {
@@ -62,6 +65,7 @@ pub fn clear(board: &Board, pass: &mut Pass, target: Target)
     requires has { HasItemOf board.now left.0 target.place pass.old }
     requires earlier { IsEarlier board.now target.place target.word pass.old }
     ensures did { AddsUnlink board.now target.place left pass.old pass.new }
+    ensures steps { TakesAtMost most_tries_to_exchange pass.old pass.new }
     ensures same { (pass.new.plain ≡ pass.old.plain) × (memo pass.new ≡ memo pass.old) }
 {
     let mut old = target.word;

@@ -1,5 +1,5 @@
 //! Writes of keys, each under the bit of its key's bucket.
-ghost use Rattle.std.specs.Prelude.{◌≡◌, ◌^◌, ◌<◌, is_some};
+ghost use Rattle.std.specs.Prelude.{◌≡◌, ◌+◌, ◌^◌, ◌<◌, is_some};
 ghost use Rattle.segword.specs.Words.{IsKey};
 ghost use Rattle.segmodel.specs.declared.request.Request.{Request};
 ghost use Rattle.segmodel.specs.declared.request.Request.TheVariants.{Set, Add, Replace, Cas};
@@ -7,13 +7,15 @@ ghost use Rattle.segmodel.specs.Words.{after, bucket_of, key_of, present, tag_of
 ghost use Rattle.segcore.specs.declared.event.Event.TheVariants.{Linked};
 ghost use Rattle.segcore.specs.Words.{Fits, IsRefusal};
 ghost use Rattle.segstore.specs.Words.{HasCleanBit, Idles, IsQuiet, IsSought, KeepsSegments};
-ghost use Rattle.segstore.specs.Words.{MayEnterAny, memo};
+ghost use Rattle.segstore.specs.Words.{MayEnterAny, memo, TakesAtMost};
 ghost use Rattle.segbase.specs.Words.{AddsLink, IsPassOf, number, position_at, seen, trace};
 ghost use Rattle.segwrite.specs.Presence.{PeeksFor};
 ghost use Rattle.segwrite.specs.Writes.{UsesRow, IsSetAnswer, Writes};
 ghost use Rattle.segwrite.specs.Writing.{Finds, IsTarget};
 ghost use Rattle.segwrite.specs.Storing.{IsNextRow, Requests, StoresUnderBit, HasWritten};
 ghost use Rattle.segwrite.specs.Refusing.{request_of, IsToldBy, reply_now, RefusesUnderBit};
+ghost use Rattle.segwrite.specs.Steps.{most_looks_at_version, most_steps_of_row};
+ghost use Rattle.segwrite.specs.Steps.{most_steps_to_tell, most_tries_to_exchange};
 
 use crate::find::{Target, present_word, search};
 use crate::grow::make_room;
@@ -195,6 +197,7 @@ fn refusal(
     requires request { request
         ≡ request_of write.now.when (key_of request) (value_of request) write.now.clock }
     ensures peeks { PeeksFor board.now request pass.old pass.new }
+    ensures steps { TakesAtMost (most_steps_to_tell request) pass.old pass.new }
     ensures told { IsToldBy (reply_now board.now pass.new request) result }
 {
     if let When::Always = write.when {
@@ -223,6 +226,7 @@ fn refusal_where(
     requires request { request
         ≡ request_of write.now.when (key_of request) (value_of request) write.now.clock }
     ensures idles { Idles board.now pass.old pass.new }
+    ensures steps { TakesAtMost (most_looks_at_version request) pass.old pass.new }
     ensures told { IsToldBy (reply_now board.now pass.new request) result }
 {
     match write.when {
@@ -246,6 +250,7 @@ pub(crate) fn refuse(board: &Board, pass: &mut Pass, bucket: u32)
     requires refused { IsRefusal (reply_now board.now pass.old request) }
     ensures refuses { RefusesUnderBit board.now request (reply_now board.now pass.old request)
         pass.old pass.new }
+    ensures steps { TakesAtMost 1 pass.old pass.new }
 {
     board.release(pass, bucket, false);
 }
@@ -263,6 +268,7 @@ fn store(board: &Board, pass: &mut Pass, target: Target, row: RowRef, write: &Wr
     requires bit { HasCleanBit board.now pass.old (bucket_of board.now.shape (key_of request)) }
     requires target { IsTarget board.now (key_of request) target pass.old }
     ensures stores { StoresUnderBit board.now request row.segment row.row pass.old pass.new }
+    ensures steps { TakesAtMost (most_steps_of_row + most_tries_to_exchange) pass.old pass.new }
     ensures segments { KeepsSegments board.now pass.new }
     ensures uses { UsesRow row.segment pass.old pass.new }
     ensures bit { HasWritten board.now pass.new (bucket_of board.now.shape (key_of request)) }
@@ -289,6 +295,7 @@ fn link(board: &Board, pass: &mut Pass, target: Target, item: Item)
         (Linked (number pass.old) request item.seg item.row
         (position_at board.now target.place pass.old)) }
     ensures did { AddsLink board.now target.place request item pass.old pass.new }
+    ensures steps { TakesAtMost most_tries_to_exchange pass.old pass.new }
     ensures same { (pass.new.plain ≡ pass.old.plain) × (memo pass.new ≡ memo pass.old) }
 {
     if target.word == 0 {

@@ -1,8 +1,8 @@
 use Rattle.std.proofs.Common.{sym, ◌∙◌}
-use Rattle.std.proofs.lemmas.Bool.{false≢true}
+use Rattle.std.proofs.lemmas.Bool.{both_ways, false≢true}
 use Rattle.std.specs.Prelude.{IsSome}
 use Rattle.segstore.proofs.Refills.{idles}
-use Rattle.segwrite.proofs.Items.{named, named_later, item_readable, row_tells, other_tag}
+use Rattle.segwrite.proofs.Items.{named, named_later, item_readable, row_tells, tag_is}
 use Rattle.segwrite.proofs.Places.{looked_idles}
 use Rattle.segwrite.proofs.find.is_item_of.Goals as goal
 
@@ -21,13 +21,12 @@ returns-in-Some-clause-is c = let b = c.args.board.now in let r = c.requires in
     let tells = row_tells b.shape _ _ _ c.args.sought.now.key c.in-Some.item (IsSome c.row_of_key.result) i.moved.pass.lawful later c.row_of_key.ensures.key in
     (λ t. tells.0 (sym c.is_some.ensures ∙ t), λ has. c.is_some.ensures ∙ tells.1 has)
 
-pub returns-in_default-clause-idles : goal.returns-in_default-clause-idles
-returns-in_default-clause-idles c = idles _ _ c.requires.pass
+pub returns-then-not-has_tag-clause-idles : goal.returns-then-not-has_tag-clause-idles
+returns-then-not-has_tag-clause-idles c = idles _ _ c.requires.pass
 
-pub returns-in_default-clause-is : goal.returns-in_default-clause-is
-returns-in_default-clause-is c = let b = c.args.board.now in let r = c.requires in
-    let name = named b.shape _ _ _ c.args.target.word c.in-Some.item r.pass.valid r.pass.lawful r.word c.in-Some.ensures.some in
-    (λ t. absurd (false≢true t), λ has. absurd (other_tag b.shape _ _ _ c.args.sought.now.tag c.args.sought.now.key c.in-Some.item name r.sought.tag c.if-item-sought.false has))
+pub returns-then-not-has_tag-clause-is : goal.returns-then-not-has_tag-clause-is
+returns-then-not-has_tag-clause-is c = let b = c.args.board.now in let r = c.requires in
+    (λ t. absurd (false≢true t), λ has. absurd (both_ways _ c.if-not-has_tag.true (c.has_tag.ensures.1 (tag_is b.shape _ _ _ c.args.target.word c.args.sought.now.key r.pass.valid r.pass.lawful r.word has ∙ sym r.sought.tag))))
 
-pub returns-in_default-2-clause-idles : goal.returns-in_default-2-clause-idles
-returns-in_default-2-clause-idles c = idles _ _ c.requires.pass
+pub returns-in-None-clause-idles : goal.returns-in-None-clause-idles
+returns-in-None-clause-idles c = idles _ _ c.requires.pass

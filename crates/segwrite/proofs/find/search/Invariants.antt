@@ -1,14 +1,22 @@
-use Rattle.std.proofs.Common.{◌≡◌, ◌+◌, ◌-◌, ◌*◌, ◌/◌}
-use Rattle.segcore.specs.Words.{bucket_after}
+use Rattle.std.proofs.Common.{◌≡◌, ◌+◌, ◌-◌, ◌*◌, ◌/◌, ◌≤◌}
 use Rattle.segbase.specs.Words.{position, trace}
+use Rattle.segstore.specs.Words.{step_count}
 use Rattle.segwrite.proofs.Searching.{Searching}
 use Rattle.segwrite.proofs.find.search.Given as goal
 
-abbrev pub decreases-loop-place : goal.decreases-loop-place
-decreases-loop-place l = 8 * (bucket_after l.board.shape (trace l.fn.pass) l.sought.bucket).chained + 8 - position l.board.shape (trace l.pass) l.place
-
-abbrev pub invariant-loop-place : goal.invariant-loop-place
-invariant-loop-place l = record {
-  searching : Searching l.board l.sought.key l.fn.pass l.pass l.place l.empty;
-  deep : l.buckets ≡ position l.board.shape (trace l.pass) l.place / 8 + 1;
+abbrev pub invariant-loop-word-2 : goal.invariant-loop-word-2
+invariant-loop-word-2 l = record {
+  searching : Searching l.board l.sought.key l.fn.pass l.pass (record { bucket = l.bucket; word = l.word }) l.empty;
+  deep : l.buckets ≡ position l.board.shape (trace l.pass) (record { bucket = l.bucket; word = l.word }) / 8 + 1;
+  steps : step_count l.pass + 40 ≤ step_count l.fn.pass + 35 * l.buckets + 5 * l.word;
 }
+
+abbrev pub invariant-loop-word : goal.invariant-loop-word
+invariant-loop-word l = record {
+  searching : Searching l.board l.sought.key l.fn.pass l.pass (record { bucket = l.bucket; word = 1 }) l.empty;
+  deep : l.buckets ≡ position l.board.shape (trace l.pass) (record { bucket = l.bucket; word = 1 }) / 8 + 1;
+  steps : step_count l.pass + 35 ≤ step_count l.fn.pass + 35 * l.buckets;
+}
+
+abbrev pub decreases-loop-word : goal.decreases-loop-word
+decreases-loop-word l = 5 - l.buckets

@@ -1,10 +1,11 @@
-use Rattle.std.proofs.Common.{◌≡◌, ℕ, [], ◌∷◌, sym, subst}
+use Rattle.std.proofs.Common.{◌≡◌, ℕ, [], ◌∷◌, sym, subst, arith}
 use Rattle.std.specs.Prelude.{OnOk}
 use Rattle.segword.specs.Words.{Item, item_word}
 use Rattle.segcore.specs.declared.event.Event.TheVariants.{Put, Chained}
 use Rattle.segcore.specs.Words.{fill, May}
 use Rattle.segbase.specs.Words.{AddsAtOnce, Board, home_at, home_bucket_of, IsPassOf, number, Pass}
 use Rattle.segbase.specs.Words.{Place, trace}
+use Rattle.segstore.proofs.Looks.{one_step}
 use Rattle.segstore.proofs.Seconds.{unpacked}
 use Rattle.segwrite.specs.Growing.{IsLast, HasSpare}
 use Rattle.segwrite.proofs.Joining.{drawn_home, may_fill, spare_filled, last_filled, copy_filled, home_is, may_chain, tried}
@@ -39,4 +40,5 @@ returns c = let b = c.args.board.now in let r = c.requires in let p = c.args.pas
     let put = c.fill_overflow.ensures.step.1 in let step = c.chain.ensures.step.1 in record {
       tries = tried b bucket o c.args.place w p filled c.chain.new.pass r.pass r.spare r.last d put.plain put.memo c.chain.result
           (subst (λ k. OnOk c.chain.result (AddsAtOnce b (Chained (number filled) k o ∷ []) filled c.chain.new.pass)) there c.chain.ensures.chained) c.chain.ensures.missed step.plain step.memo;
+      steps = (let store = one_step b p filled _ _ put in let exchange = one_step b filled c.chain.new.pass _ _ step in omega (arith, store, exchange));
     }

@@ -1,8 +1,9 @@
-use Rattle.std.proofs.Common.{◌∙◌}
+use Rattle.std.proofs.Common.{◌∙◌, arith}
 use Rattle.segmodel.specs.Words.{key_of, value_of}
 use Rattle.segbase.specs.Words.{number}
 use Rattle.segstore.specs.Words.{peek}
 use Rattle.segwrite.proofs.Presence.{clean_still, depends, peek_nowhere, peeks_for_none, peeks_then, word_tells}
+use Rattle.segwrite.proofs.Steps.{sees_key}
 use Rattle.segwrite.proofs.write.refusal.Goals as goal
 
 pub returns-in-Always-clause-peeks : goal.returns-in-Always-clause-peeks
@@ -26,5 +27,7 @@ returns g c = let b = c.args.board.now in let p = c.args.pass.now in let q = c.p
     peeks = peeks_then b (key_of g.request) p q r c.present_word.ensures.peeks c.refusal_where.ensures.idles;
     none = λ set. absurd (depends c.args.write.now.when g.request (key_of g.request) (value_of g.request) c.args.write.now.clock c.in_default.not-Always c.requires.1.1.1.1.1.1 set);
   };
+  steps = (let looked = c.present_word.ensures.steps in let asked = c.refusal_where.ensures.steps in
+      let sees = sees_key g.request (depends c.args.write.now.when g.request (key_of g.request) (value_of g.request) c.args.write.now.clock c.in_default.not-Always c.requires.1.1.1.1.1.1) in omega (arith, looked, asked, sees));
   told = c.refusal_where.ensures.told;
 }

@@ -1,11 +1,12 @@
-use Rattle.std.proofs.Common.{◌≡◌, ℕ, List, refl, sym, ap, ◌∙◌, subst, arith}
+use Rattle.std.proofs.Common.{◌≡◌, ℕ, ◌+◌, List, refl, sym, ap, ◌∙◌, subst, arith}
 use Rattle.segword.specs.Words.{IsKey, IsValue, row_of}
 use Rattle.segmodel.specs.Words.{bucket_of, key_of, Request, tag_of, value_of}
 use Rattle.segcore.specs.Words.{Holds, row_after}
 use Rattle.segcore.proofs.Exact.{tagged}
 use Rattle.segcore.proofs.Limits.{low_row, low_segment}
 use Rattle.segbase.specs.Words.{AddsEvents, Board, number, Pass, trace}
-use Rattle.segstore.specs.Words.{fills, KeepsSegments}
+use Rattle.segstore.specs.Words.{fills, KeepsSegments, TakesAtMost}
+use Rattle.segwrite.specs.Steps.{most_steps_of_row, most_tries_to_exchange}
 use Rattle.segwrite.specs.Storing.{HasWritten, StoresUnderBit}
 use Rattle.segwrite.specs.Writes.{UsesRow}
 use Rattle.segstore.proofs.Keeping.{next_is_own}
@@ -79,3 +80,8 @@ returns-clause-bit g c = let b = c.args.board.now in let r = c.requires in let w
     let none = fills_nowhere b.shape (bucket_of b.shape (key_of g.request)) (number c.args.pass.now) c.args.row.segment c.args.row.row (row_of (key_of g.request) (value_of g.request)) w.moved.0 in
     subst (λ s. HasWritten b s (bucket_of b.shape (key_of g.request))) counts
     (has_written b g.request c.args.target c.args.row.segment c.args.row.row _ _ c.link.ensures.did (clean_later b own _ _ (key_of g.request) pair.0 r.0 clean.bit none clean) _)
+
+pub returns-clause-steps : goal.returns-clause-steps
+returns-clause-steps g c =
+    let fills = c.fill_row.ensures.steps in let links = c.link.ensures.steps in let counts = sym c.set_used.ensures in
+    subst (TakesAtMost (most_steps_of_row + most_tries_to_exchange) c.args.pass.now) counts (omega (arith, fills, links))
