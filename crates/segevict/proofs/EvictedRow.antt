@@ -1,16 +1,17 @@
 -- An evict of one row in the terms of its answer: by what became of its row, or refused before any step.
-use Rattle.std.proofs.Common.{◌≡◌, ℕ, None, IsSome, refl, sym, ◌∙◌, subst}
+use Rattle.std.proofs.Common.{◌≡◌, ℕ, None, IsSome, refl, sym, ◌∙◌, subst, arith}
 use Rattle.std.proofs.lemmas.Bool.{false≢true}
 use Rattle.std.proofs.lemmas.Option.{none-some}
 use Rattle.segmodel.specs.declared.answer.SegState.TheVariants.{InUse}
 use Rattle.segbase.specs.Words.{Board, Pass, state_of, trace}
 use Rattle.segbase.proofs.Moves.{stays}
-use Rattle.segstore.specs.Words.{IsQuiet}
+use Rattle.segstore.specs.Words.{IsQuiet, TakesAtMost}
 use Rattle.segstore.proofs.Idling.{goes_same}
 use Rattle.segevict.specs.declared.eviction.EvictRowAnswer.{EvictRowAnswer}
 use Rattle.segevict.specs.declared.eviction.EvictRowAnswer.TheVariants as evict_row
 use Rattle.segevict.specs.EvictedRow.{CostsOfEvictRow, EvictsItem, IsEvictRowAnswer}
 use Rattle.segevict.specs.Rows.{HasRow}
+use Rattle.segevict.specs.Steps.{most_steps_of_evict_row}
 use Rattle.segevict.specs.Tries.{StoodAtRow}
 use Rattle.segevict.specs.Unlinking.{EvictsRow, IsRowAnswer}
 use Rattle.segevict.proofs.KeyTries.{no_tries}
@@ -18,8 +19,8 @@ use Rattle.segevict.proofs.Naming.{unnamed}
 
 -- ---- a used row
 
-pub row_out : (b : Board) (segment row : ℕ) (told : EvictRowAnswer) (p q : Pass) → HasRow segment row p → EvictsRow b segment row told p q → EvictsItem b segment row told p q
-row_out b segment row told p q has one = record {
+pub row_out : (b : Board) (segment row : ℕ) (told : EvictRowAnswer) (p q : Pass) → HasRow segment row p → EvictsRow b segment row told p q → TakesAtMost (most_steps_of_evict_row told) p q → EvictsItem b segment row told p q
+row_out b segment row told p q has one steps = record {
   on = one.on;
   answer = out told one.answer;
   not_yours = (
@@ -32,6 +33,7 @@ row_out b segment row told p q has one = record {
   );
   costs = record {
     tries = one.tries;
+    steps = steps;
     draws_nothing = one.draws_nothing;
     reads_nothing = one.reads_nothing;
   };
@@ -53,9 +55,10 @@ row_out b segment row told p q has one = record {
 -- ---- refused before any step
 
 module _ (b : Board) (segment row : ℕ) (p : Pass) (quiet : IsQuiet b p) where
-  costs_none : CostsOfEvictRow b segment row p p
-  costs_none = record {
+  costs_none : (told : EvictRowAnswer) → CostsOfEvictRow b segment row told p p
+  costs_none told = record {
     tries = no_tries b (StoodAtRow b.shape segment row p p) 1 p p (stays b p quiet.pass);
+    steps = omega arith;
     draws_nothing = λ bucket. refl;
     reads_nothing = refl;
   }
@@ -69,7 +72,7 @@ module _ (b : Board) (segment row : ℕ) (p : Pass) (quiet : IsQuiet b p) where
       (λ is. let no : evict_row.NotYours ≡ evict_row.NotUsed = is in cc),
       (λ without. absurd (false≢true (subst IsSome none without.0))),
     );
-    costs = costs_none;
+    costs = costs_none evict_row.NotYours;
   }
 
   pub out_not_used : IsSome (state_of p segment) → ¬ (HasRow segment row p) → EvictsItem b segment row evict_row.NotUsed p p
@@ -81,5 +84,5 @@ module _ (b : Board) (segment row : ℕ) (p : Pass) (quiet : IsQuiet b p) where
       (λ none. absurd (false≢true (subst IsSome none some))),
     );
     not_used = ((λ is. (some, without)), (λ all. refl));
-    costs = costs_none;
+    costs = costs_none evict_row.NotUsed;
   }

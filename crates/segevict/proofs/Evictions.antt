@@ -19,7 +19,8 @@ use Rattle.segbase.specs.Words.{state_in, state_of, trace, used_of, with_current
 use Rattle.segbase.proofs.Known.{state_set, state_apart, used_kept, owner_stated, deadline_stated}
 use Rattle.segbase.proofs.Moves.{stays}
 use Rattle.segbase.proofs.Owned.{owner_of, state_there, still_pass}
-use Rattle.segstore.specs.Words.{DrawsNothing, GoesOn, IsQuiet, KeepsSegments, memo, ReadsNothing}
+use Rattle.segstore.specs.Words.{DrawsNothing, GoesOn, IsQuiet, KeepsSegments, memo, ReadsNothing, TakesAtMost}
+use Rattle.segevict.specs.Steps.{most_steps_of_evict_row}
 use Rattle.segstore.proofs.Keeping.{same_states, same_used}
 use Rattle.segevict.specs.declared.eviction.EvictRowAnswer.{EvictRowAnswer}
 use Rattle.segevict.specs.declared.eviction.EvictRowAnswer.TheVariants as evict_row
@@ -127,12 +128,12 @@ module _ (b : Board) (segment from row taken : ℕ) (p q r : Pass) (e : Evicting
   one_more = let at = e.at in omega arith
 
   -- the row by its place among those that are gone over
-  item_out : (told : EvictRowAnswer) → EvictsRow b segment row told q r → EvictsItem b segment (from + e.rows) told q r
-  item_out told one = subst (λ n. EvictsItem b segment n told q r) e.at (row_out b segment row told q r has one)
+  item_out : (told : EvictRowAnswer) → EvictsRow b segment row told q r → TakesAtMost (most_steps_of_evict_row told) q r → EvictsItem b segment (from + e.rows) told q r
+  item_out told one steps = subst (λ n. EvictsItem b segment n told q r) e.at (row_out b segment row told q r has one steps)
 
   -- the next row's key was taken out
-  pub evicting_one : EvictsRow b segment row evict_row.Evicted q r → Evicting b segment from (row + 1) (taken + 1) p r
-  evicting_one one =
+  pub evicting_one : EvictsRow b segment row evict_row.Evicted q r → TakesAtMost (most_steps_of_evict_row evict_row.Evicted) q r → Evicting b segment from (row + 1) (taken + 1) p r
+  evicting_one one steps =
       let key = one.answer.2.0 in let few = e.few in let counted = e.counted in record {
         on = goes_then b p q r e.on one.on;
         keeps = keeps_gone_then b segment p q r e.keeps one.answer.0;
@@ -149,12 +150,12 @@ module _ (b : Board) (segment from row taken : ℕ) (p q r : Pass) (e : Evicting
         rows = suc e.rows;
         at = one_more;
         tries = rows_tried_then b segment e.rows 1 (suc e.rows) p q r e.on one.on (omega arith) e.tries (of_row b.shape segment row 1 q r one.tries);
-        order = (q, inl (taken, refl, e.order, item_out evict_row.Evicted one));
+        order = (q, inl (taken, refl, e.order, item_out evict_row.Evicted one steps));
       }
 
   -- or was gone
-  pub evicting_none : EvictsRow b segment row evict_row.Left q r → Evicting b segment from (row + 1) taken p r
-  evicting_none one = let few = e.few in record {
+  pub evicting_none : EvictsRow b segment row evict_row.Left q r → TakesAtMost (most_steps_of_evict_row evict_row.Left) q r → Evicting b segment from (row + 1) taken p r
+  evicting_none one steps = let few = e.few in record {
     on = goes_then b p q r e.on one.on;
     keeps = keeps_gone_then b segment p q r e.keeps one.answer.0;
     plain = one.plain ∙ e.plain;
@@ -170,7 +171,7 @@ module _ (b : Board) (segment from row taken : ℕ) (p q r : Pass) (e : Evicting
     rows = suc e.rows;
     at = one_more;
     tries = rows_tried_then b segment e.rows 1 (suc e.rows) p q r e.on one.on (omega arith) e.tries (of_row b.shape segment row 1 q r one.tries);
-    order = (q, inr (e.order, item_out evict_row.Left one));
+    order = (q, inr (e.order, item_out evict_row.Left one steps));
   }
 
 -- ---- the current segment
@@ -202,8 +203,8 @@ module _ (b : Board) (segment from row taken : ℕ) (p q : Pass) (in_use : state
     pub barred_on : GoesOn b p r
     barred_on = goes_then b p q r e.on busy.on
 
-    pub barred_costs : (used : ℕ) → used_of p segment ≡ Some used → row < used → CostsOfEvict b segment from (evict.Busy taken) p r
-    barred_costs used is_used within = record {
+    pub barred_costs : (used : ℕ) → used_of p segment ≡ Some used → row < used → TakesAtMost (most_steps_of_evict_row evict_row.Busy) q r → CostsOfEvict b segment from (evict.Busy taken) p r
+    barred_costs used is_used within steps = record {
       order = λ again. (
         used,
         e.rows,
@@ -211,7 +212,7 @@ module _ (b : Board) (segment from row taken : ℕ) (p q : Pass) (in_use : state
         is_used,
         subst (λ n. n < used) e.at within,
         over_order taken e.order,
-        item_out b segment from row taken p q r e (row_there b segment from row taken used p q e in_use is_used within) evict_row.Busy busy,
+        item_out b segment from row taken p q r e (row_there b segment from row taken used p q e in_use is_used within) evict_row.Busy busy steps,
       );
       tries = λ rows is. rows_tried_then b segment e.rows 1 rows p q r e.on busy.on (let same : used ≡ from + rows = same_Some used (from + rows) (sym is_used ∙ is) in let at = e.at in omega (arith, within)) e.tries (of_row b.shape segment row 1 q r busy.tries);
       draws_nothing = draws_none_then p q r e.draws_nothing busy.draws_nothing;

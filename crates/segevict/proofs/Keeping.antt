@@ -13,7 +13,8 @@ use Rattle.segbase.specs.declared.pass.PlainPart.{PlainPart}
 use Rattle.segbase.specs.Words.{Board, marked, mine, number, Pass, seen, state_of, TakesSteps}
 use Rattle.segbase.specs.Words.{trace, used_of}
 use Rattle.segbase.proofs.Moves.{moved_count, stays}
-use Rattle.segstore.specs.Words.{ChangesNothing, DrawsNothing, GoesOn, has_room}
+use Rattle.segstore.specs.Words.{ChangesNothing, DrawsNothing, GoesOn, has_room, TakesAtMost}
+use Rattle.segevict.specs.Steps.{most_steps_of_keep_row}
 use Rattle.segstore.specs.Words.{IsQuiet, ReadsNothing}
 use Rattle.segstore.proofs.Keeping.{owns_used}
 use Rattle.segstore.proofs.Draws.{draws_none_then}
@@ -166,8 +167,8 @@ module _ (b : Board) (segment into cutoff row count : ℕ) (p q : Pass) (quiet :
     own = owns_used b p segment used quiet.pass is_used
 
     -- the row is gone over as by a keep of one row
-    pub item_of : (r : Pass) → row < used → (told : KeepRowAnswer) → KeepsRow b segment row into cutoff told q r → KeepsItem b segment row cutoff told q r
-    item_of r within told k = row_answered b segment row into cutoff q r e.on.quiet has_row target_still told k
+    pub item_of : (r : Pass) → row < used → (told : KeepRowAnswer) → KeepsRow b segment row into cutoff told q r → TakesAtMost (most_steps_of_keep_row told) q r → KeepsItem b segment row cutoff told q r
+    item_of r within told k steps = row_answered b segment row into cutoff q r e.on.quiet has_row target_still told k steps
       where
         has_row : HasRow segment row q
         has_row = (e.uses.states segment ∙ in_use, (used, e.uses.others segment target.other ∙ is_used, within))
@@ -200,8 +201,8 @@ module _ (b : Board) (segment into cutoff row count : ℕ) (p q : Pass) (quiet :
       tries_few rows is = let same : used ≡ rows = same_Some used rows (sym is_used ∙ is) in tries_all b segment into cutoff row count p q r own e rows later (omega arith) tries
 
     -- there was no row for its item
-    pub keep_stopped : (r : Pass) → row < used → KeepsRow b segment row into cutoff kept.NoRoom q r → KeepsItems b segment cutoff (keep.NoRoom count) p r
-    keep_stopped r within k =
+    pub keep_stopped : (r : Pass) → row < used → KeepsRow b segment row into cutoff kept.NoRoom q r → TakesAtMost (most_steps_of_keep_row kept.NoRoom) q r → KeepsItems b segment cutoff (keep.NoRoom count) p r
+    keep_stopped r within k steps =
         let s = k.answer.0 in
         let none = idle_changes b q r e.on.quiet s.idles in record {
           on = goes_then b p q r e.on k.on;
@@ -212,7 +213,7 @@ module _ (b : Board) (segment into cutoff row count : ℕ) (p q : Pass) (quiet :
           );
           not_yours = ((λ other. absurd (not_so other)), (λ nobody. absurd (none-some InUse (sym nobody ∙ in_use))));
           costs = record {
-            order = λ other used_too t. (row, used, is_used, within, q, e.order, item_of r within kept.NoRoom k);
+            order = λ other used_too t. (row, used, is_used, within, q, e.order, item_of r within kept.NoRoom k steps);
             tries = tries_few r k.on.steps none within k.tries;
             draws_nothing = draws_none_then p q r e.draws_nothing k.draws_nothing;
             reads_nothing = k.reads_nothing ∙ e.reads_nothing;
@@ -223,8 +224,8 @@ module _ (b : Board) (segment into cutoff row count : ℕ) (p q : Pass) (quiet :
         not_so is = cc
 
     -- its bit couldn't be had
-    pub keep_barred : (r : Pass) → row < used → KeepsRow b segment row into cutoff kept.Busy q r → KeepsItems b segment cutoff (keep.Busy count) p r
-    keep_barred r within k =
+    pub keep_barred : (r : Pass) → row < used → KeepsRow b segment row into cutoff kept.Busy q r → TakesAtMost (most_steps_of_keep_row kept.Busy) q r → KeepsItems b segment cutoff (keep.Busy count) p r
+    keep_barred r within k steps =
         let a = k.answer in let f = a.0 in let s = a.1 in let bucket = bucket_of b.shape s.key in
         let looked = idle_changes b q f e.on.quiet s.idles in
         let none : ChangesNothing q r = record { entries = a.4.entries ∙ looked.entries; plain = a.4.plain ∙ looked.plain; memo = a.4.memo ∙ looked.memo } in record {
@@ -245,7 +246,7 @@ module _ (b : Board) (segment into cutoff row count : ℕ) (p q : Pass) (quiet :
           );
           not_yours = ((λ other. absurd (not_so other)), (λ nobody. absurd (none-some InUse (sym nobody ∙ in_use))));
           costs = record {
-            order = λ other used_too t. (row, used, is_used, within, q, e.order, item_of r within kept.Busy k);
+            order = λ other used_too t. (row, used, is_used, within, q, e.order, item_of r within kept.Busy k steps);
             tries = tries_few r k.on.steps none within k.tries;
             draws_nothing = draws_none_then p q r e.draws_nothing k.draws_nothing;
             reads_nothing = k.reads_nothing ∙ e.reads_nothing;

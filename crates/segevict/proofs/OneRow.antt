@@ -8,13 +8,14 @@ use Rattle.segcore.specs.Words.{bounced}
 use Rattle.segbase.specs.declared.pass.PlainPart.{PlainPart}
 use Rattle.segbase.specs.Words.{Board, count, current_of, marked, Pass, state_of, trace, used_of}
 use Rattle.segbase.proofs.Moves.{moved_count}
-use Rattle.segstore.specs.Words.{ChangesNothing, has_room, is_below, IsQuiet, TakesNoBit}
+use Rattle.segstore.specs.Words.{ChangesNothing, has_room, is_below, IsQuiet, TakesAtMost, TakesNoBit}
 use Rattle.segstore.proofs.Idling.{goes_same}
 use Rattle.segevict.specs.declared.retention.KeepRowAnswer.{KeepRowAnswer}
 use Rattle.segevict.specs.declared.retention.KeepRowAnswer.TheVariants as kept
 use Rattle.segevict.specs.Moving.{IsKeptRow, KeepsRow}
 use Rattle.segevict.specs.OneRow.{CostsOfKeepRow, IsKeepRowAnswer, KeepsItem, KeepsItemInto, KeepsTo, TriesForRow}
 use Rattle.segevict.specs.Rows.{HasRow}
+use Rattle.segevict.specs.Steps.{most_steps_of_keep_row}
 use Rattle.segevict.specs.Target.{has_room_in, IsKeepTarget, IsMoveTarget}
 use Rattle.segevict.proofs.Frequencies.{had_at, had_seen}
 use Rattle.segevict.proofs.AfterRow.{idle_changes, left_changes, uses_one}
@@ -106,14 +107,15 @@ module _ (b : Board) (segment row into cutoff : ℕ) (p r : Pass) (quiet : IsQui
     answers kept.NotYours k = absurd k.answer
     answers kept.NotUsed k = absurd k.answer
 
-    pub row_answered : (told : KeepRowAnswer) → KeepsRow b segment row into cutoff told p r → KeepsItem b segment row cutoff told p r
-    row_answered told k = record {
+    pub row_answered : (told : KeepRowAnswer) → KeepsRow b segment row into cutoff told p r → TakesAtMost (most_steps_of_keep_row told) p r → KeepsItem b segment row cutoff told p r
+    row_answered told k steps = record {
       on = k.on;
       answer = answers told k;
       not_yours = none_not_yours has told k;
       not_used = none_not_used has told k;
       costs = record {
         tries = subst (λ room. TriesForRow b segment row cutoff room told p r) (room_now b into p target.current) k.tried;
+        steps = steps;
         draws_nothing = k.draws_nothing;
         reads_nothing = k.reads_nothing;
       };
@@ -121,14 +123,15 @@ module _ (b : Board) (segment row into cutoff : ℕ) (p r : Pass) (quiet : IsQui
 
   -- into one that the caller names
   module _ (has : HasRow segment row p) (target : IsMoveTarget segment into p) where
-    pub row_answered_into : (told : KeepRowAnswer) → KeepsRow b segment row into cutoff told p r → KeepsItemInto b segment row cutoff into told p r
-    row_answered_into told k = record {
+    pub row_answered_into : (told : KeepRowAnswer) → KeepsRow b segment row into cutoff told p r → TakesAtMost (most_steps_of_keep_row told) p r → KeepsItemInto b segment row cutoff into told p r
+    row_answered_into told k steps = record {
       on = k.on;
       answer = kept_to (λ other. (other ≡ into) × IsMoveTarget segment into p) (refl, target) told k;
       not_yours = none_not_yours has told k;
       not_used = none_not_used has told k;
       costs = record {
         tries = k.tried;
+        steps = steps;
         draws_nothing = k.draws_nothing;
         reads_nothing = k.reads_nothing;
       };
@@ -141,7 +144,7 @@ module _ (b : Board) (segment row cutoff : ℕ) (p : Pass) (quiet : IsQuiet b p)
   none_tried = record { taken = refl; bounced = λ bucket. refl }
 
   costs_none : (room : Bool) (told : KeepRowAnswer) → TriesForRow b segment row cutoff room told p p → CostsOfKeepRow b segment row cutoff room told p p
-  costs_none room told tries = record { tries = tries; draws_nothing = λ bucket. refl; reads_nothing = refl }
+  costs_none room told tries = record { tries = tries; steps = omega arith; draws_nothing = λ bucket. refl; reads_nothing = refl }
 
   -- of these answers neither is the other, nor NoRoom
   refused_not_yours : state_of p segment ≡ None → ((kept.NotYours ≡ kept.NotYours) ↔ (state_of p segment ≡ None)) × ((kept.NotYours ≡ kept.NotUsed) ↔ (IsSome (state_of p segment) × ¬ (HasRow segment row p)))

@@ -55,6 +55,10 @@ names_no_row z h b n word sought key v l on tag reads other at =
 
 -- ---- the search
 
+-- how many item words of a chain come before a position: seven of each bucket
+abbrev pub words_before : ℕ → ℕ
+words_before at = at - 1 - (at - 1) / 8
+
 pub record Seeking (b : Board) (bucket : ℕ) (sought : Item) (first p : Pass) (place : Place) : Type 0 where
   pub idles : Idles b first p
   pub stored : IsStoredIn b bucket sought p
@@ -134,10 +138,10 @@ module _ (b : Board) (bucket : ℕ) (sought : Item) (first p q : Pass) (place : 
     depth = depth_of_place z h bucket n place (ltb place.bucket z.buckets) chain_looked.at.1
 
     abbrev IsOn : Place → Type 0
-    IsOn after = Seeking b bucket sought first q after × (n < position z h after)
+    IsOn after = Seeking b bucket sought first q after × (n < position z h after) × (words_before (position z h after) ≡ words_before n + 1)
 
-    on_to : (after : Place) (m : ℕ) → IsPlace z after → IsPosition (bucket_after z h bucket) m → IsAt h bucket m (cell_at z after) → n < m → IsAhead z bucket sought.seg sought.row m h → IsOn after
-    on_to after m within here at lt ahead =
+    on_to : (after : Place) (m : ℕ) → IsPlace z after → IsPosition (bucket_after z h bucket) m → IsAt h bucket m (cell_at z after) → n < m → words_before m ≡ words_before n + 1 → IsAhead z bucket sought.seg sought.row m h → IsOn after
+    on_to after m within here at lt one ahead =
         let there : position z h after ≡ m = position_at z h bucket m after at in (
           record {
             idles = idles_looked;
@@ -146,19 +150,20 @@ module _ (b : Board) (bucket : ℕ) (sought : Item) (first p q : Pass) (place : 
             ahead = subst (λ i. IsAhead z bucket sought.seg sought.row i h) (sym there) ahead;
           },
           subst (λ i. n < i) (sym there) lt,
+          subst (λ i. words_before i ≡ words_before n + 1) (sym there) one,
         )
 
     inner : place.word < 7 → IsOn (next_word place)
     inner lt = let d = depth in let t = chain_looked.in_table in let here = chain_looked.at.0 in
         on_to (next_word place) (n + 1) (t.0, omega arith, omega (arith, lt)) (omega (arith, here.0, d.1, lt), (let e : n + 1 ≡ 8 * d.0 + (place.word + 1) = omega (arith, d.1) in omega (arith, e, lt)))
-        (next_at z h bucket n place (ltb place.bucket z.buckets) lt chain_looked.at.1) (omega arith) passed
+        (next_at z h bucket n place (ltb place.bucket z.buckets) lt chain_looked.at.1) (omega arith) (omega (arith, d.1, lt, t.1)) passed
 
     leads : (after : Place) → LeadsTo z word after → IsOn after
     leads after to =
         let on = leads_to z h bucket n word to.0 ((bucket_after z h bucket).items n) is.lawful ((chain_of z h is.lawful bucket).contents n) reads to.1 to.2 in
         let in_table = home_in z h to.0 (home bucket (on.0 + 1)) is.lawful on.3 in
         let skipped : IsAhead z bucket sought.seg sought.row (n + 1 + 1) h = ahead_skipped z bucket sought.seg sought.row (n + 1) h is.lawful (omega (arith, on.2)) passed in
-        subst IsOn (sym to.3) (on_to (first_word z to.0) (8 * on.0 + 9) (omega (arith, in_table), omega arith, omega arith) (omega (arith, on.1), omega arith) (first_at z h bucket on.0 to.0 on.3) (omega (arith, on.2))
+        subst IsOn (sym to.3) (on_to (first_word z to.0) (8 * on.0 + 9) (omega (arith, in_table), omega arith, omega arith) (omega (arith, on.1), omega arith) (first_at z h bucket on.0 to.0 on.3) (omega (arith, on.2)) (omega (arith, on.2))
         (subst (λ m. IsAhead z bucket sought.seg sought.row m h) (let e : n + 1 + 1 ≡ 8 * on.0 + 9 = omega (arith, on.2) in e) skipped))
 
     onward : (after : Place) → following ≡ Some after → IsOn after
@@ -174,6 +179,9 @@ module _ (b : Board) (bucket : ℕ) (sought : Item) (first p q : Pass) (place : 
     less_left after is' =
         let on = onward after is' in let left = place_left b bucket after q is on.0.chain in
         omega (arith, on.1, left, same)
+
+    pub one_more : (after : Place) → following ≡ Some after → words_before (position z h after) ≡ words_before (position z (trace p) place) + 1
+    one_more after is' = let on = onward after is' in subst (λ m. words_before (position z h after) ≡ words_before m + 1) same on.2
 
     -- no word names the row
     pub gone_at_end : following ≡ None → RowGone z sought.seg sought.row h

@@ -5,11 +5,12 @@ use Rattle.segmodel.specs.declared.entry.Entry.TheVariants as entry
 use Rattle.segcore.specs.Words.{linked_in}
 use Rattle.segbase.specs.Words.{Board, marked, number, Pass, state_of}
 use Rattle.segstore.specs.Words.{AddsEntry, ChangesNothing, DrawsNothing, GoesOn, memo}
-use Rattle.segstore.specs.Words.{ReadsNothing}
+use Rattle.segstore.specs.Words.{ReadsNothing, TakesAtMost}
 use Rattle.segevict.specs.declared.eviction.EvictRowAnswer.{EvictRowAnswer}
 use Rattle.segevict.specs.declared.eviction.EvictRowAnswer.TheVariants as evict_row
 use Rattle.segevict.specs.Naming.{IsNamed}
 use Rattle.segevict.specs.Rows.{HasRow}
+use Rattle.segevict.specs.Steps.{most_steps_of_evict_row}
 use Rattle.segevict.specs.Tries.{IsInTheWay, StoodAtRow, TriesFor}
 
 -- The key that was stored in the row, or moved there, was taken out of the segment by one entry.
@@ -35,8 +36,10 @@ IsEvictRowAnswer shape segment row evict_row.NotUsed p q = q ≡ p
 
 -- The pass tries for a bit only for the row's key, and only once.
 -- It draws no overflow bucket, and does nothing of what readers do.
-pub record CostsOfEvictRow (b : Board) (segment row : ℕ) (p q : Pass) : Type 0 where
+pub record CostsOfEvictRow (b : Board) (segment row : ℕ) (told : EvictRowAnswer) (p q : Pass)
+    : Type 0 where
   pub tries : TriesFor b.shape (StoodAtRow b.shape segment row p q) 1 p q
+  pub steps : TakesAtMost (most_steps_of_evict_row told) p q
   pub draws_nothing : DrawsNothing p q
   pub reads_nothing : ReadsNothing p q
 
@@ -49,4 +52,4 @@ pub record EvictsItem (b : Board) (segment row : ℕ) (told : EvictRowAnswer) (p
   pub not_yours : (told ≡ evict_row.NotYours) ↔ (state_of p segment ≡ None)
   pub not_used : (told ≡ evict_row.NotUsed)
       ↔ (IsSome (state_of p segment) × ¬ (HasRow segment row p))
-  pub costs : CostsOfEvictRow b segment row p q
+  pub costs : CostsOfEvictRow b segment row told p q

@@ -9,12 +9,13 @@ use Rattle.segcore.specs.Words.{frequency_in, Mark}
 use Rattle.segbase.specs.Words.{Board, HasStep, marked, mine, number, Pass, SinceFirst}
 use Rattle.segbase.specs.Words.{state_of, used_of}
 use Rattle.segstore.specs.Words.{ChangesNothing, DrawsNothing, GoesOn, has_room, IsBusy}
-use Rattle.segstore.specs.Words.{ReadsNothing, TakesNoBit, TakesOneBit}
+use Rattle.segstore.specs.Words.{ReadsNothing, TakesAtMost, TakesNoBit, TakesOneBit}
 use Rattle.segevict.specs.declared.retention.KeepRowAnswer.{KeepRowAnswer}
 use Rattle.segevict.specs.declared.retention.KeepRowAnswer.TheVariants as kept
 use Rattle.segevict.specs.Frequencies.{HadFrequency, HadThen}
 use Rattle.segevict.specs.Naming.{IsNamed}
 use Rattle.segevict.specs.Rows.{HasRow}
+use Rattle.segevict.specs.Steps.{most_steps_of_keep_row}
 use Rattle.segevict.specs.Target.{has_room_in, IsKeepTarget, IsMoveTarget, UsesRows}
 use Rattle.segevict.specs.Tries.{IsInTheWay}
 
@@ -109,6 +110,7 @@ TriesForRow b segment row cutoff room _ p q = TakesNoBit p q
 pub record CostsOfKeepRow (b : Board) (segment row cutoff : ℕ) (room : Bool) (told : KeepRowAnswer)
     (p q : Pass) : Type 0 where
   pub tries : TriesForRow b segment row cutoff room told p q
+  pub steps : TakesAtMost (most_steps_of_keep_row told) p q
   pub draws_nothing : DrawsNothing p q
   pub reads_nothing : ReadsNothing p q
 

@@ -4,12 +4,13 @@ ghost use Rattle.std.specs.Prelude.{◌≡◌, ◌≢◌, Some};
 ghost use Rattle.segmodel.specs.declared.answer.SegState.TheVariants.{InUse};
 ghost use Rattle.segmodel.specs.declared.answer.EvictAnswer.TheVariants.{NotYours};
 ghost use Rattle.segbase.specs.Words.{current_of, IsPassOf, state_of};
-ghost use Rattle.segstore.specs.Words.{GoesOn, HasCleanBit, IsQuiet, memo};
+ghost use Rattle.segstore.specs.Words.{GoesOn, HasCleanBit, IsQuiet, memo, TakesAtMost};
 ghost use Rattle.segevict.specs.EvictedRow.{EvictsItem};
 ghost use Rattle.segevict.specs.Evicting.{CostsOfEvict, ended, EvictsRest, EvictsSegment};
 ghost use Rattle.segevict.specs.Evicting.{IsEvictAnswer};
 ghost use Rattle.segevict.specs.Naming.{AreUnnamed};
 ghost use Rattle.segevict.specs.Rows.{IsUsedRow, IsStoredIn};
+ghost use Rattle.segevict.specs.Steps.{most_steps_of_evict_row, most_steps_to_clear};
 ghost use Rattle.segevict.specs.Unlinking.{TakesRow, EvictsRow};
 
 use crate::row::{find_row, has_row, item_of_row};
@@ -117,6 +118,7 @@ fn evict_used_row(board: &Board, pass: &mut Pass, segment: u32, row: u32) -> Evi
     requires quiet { IsQuiet board.now pass.old }
     requires used { IsUsedRow segment row pass.old }
     ensures evicts { EvictsRow board.now segment row result pass.old pass.new }
+    ensures steps { TakesAtMost (most_steps_of_evict_row result) pass.old pass.new }
 {
     let (bucket, item) = item_of_row(board, pass, segment, row);
     if find_row(board, pass, bucket, item).is_none() {
@@ -141,6 +143,7 @@ fn clear_row(board: &Board, pass: &mut Pass, bucket: u32, item: Item) -> bool
     requires stored { IsStoredIn board.now bucket item pass.old }
     requires bit { HasCleanBit board.now pass.old bucket }
     ensures takes { TakesRow board.now bucket item result pass.old pass.new }
+    ensures steps { TakesAtMost (most_steps_to_clear result) pass.old pass.new }
     ensures same { (pass.new.plain ≡ pass.old.plain) × (memo pass.new ≡ memo pass.old) }
 {
     let Some(target) = find_row(board, pass, bucket, item) else {

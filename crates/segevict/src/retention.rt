@@ -4,12 +4,14 @@ ghost use Rattle.std.specs.Prelude.{◌≡◌, ◌≢◌, ℕ, MatchOption, Some
 ghost use Rattle.segmodel.specs.declared.answer.SegState.TheVariants.{InUse};
 ghost use Rattle.segcore.specs.Words.{Slot};
 ghost use Rattle.segbase.specs.Words.{deadline_of, IsPassOf, state_of};
-ghost use Rattle.segstore.specs.Words.{HasCleanBit, IsQuiet, KeepsSegments};
+ghost use Rattle.segstore.specs.Words.{HasCleanBit, IsQuiet, KeepsSegments, TakesAtMost};
+ghost use Rattle.segwrite.specs.Words.{most_tries_to_exchange};
 ghost use Rattle.segevict.specs.Keeping.{KeepsItems};
 ghost use Rattle.segevict.specs.Moving.{KeepsRow, MovesRow};
 ghost use Rattle.segevict.specs.OneRow.{KeepsItem, KeepsItemInto};
 ghost use Rattle.segevict.specs.Relinking.{HasRelinked, Relinks, TriesToRelink};
 ghost use Rattle.segevict.specs.Rows.{IsUsedRow, IsStoredIn};
+ghost use Rattle.segevict.specs.Steps.{most_steps_of_keep_row, most_steps_to_move};
 ghost use Rattle.segevict.specs.Target.{has_room_in, IsKeepTarget, IsMoveTarget, IsNextIn};
 
 use crate::row::{find_row, has_row, item_of_row};
@@ -160,6 +162,7 @@ fn keep_used_row(
     requires used { IsUsedRow row.segment row.row pass.old }
     requires target { IsMoveTarget row.segment into pass.old }
     ensures keeps { KeepsRow board.now row.segment row.row into cutoff result pass.old pass.new }
+    ensures steps { TakesAtMost (most_steps_of_keep_row result) pass.old pass.new }
 {
     let (bucket, item) = item_of_row(board, pass, row.segment, row.row);
     let Some(seen) = find_row(board, pass, bucket, item) else {
@@ -206,6 +209,7 @@ fn move_row(board: &Board, pass: &mut Pass, bucket: u32, item: Item, to: RowRef)
     requires target { IsMoveTarget item.seg to.segment pass.old }
     requires next { IsNextIn board.now to.segment to.row pass.old }
     ensures moves { MovesRow board.now bucket item to.segment to.row result pass.old pass.new }
+    ensures steps { TakesAtMost (most_steps_to_move result) pass.old pass.new }
 {
     let Some(target) = find_row(board, pass, bucket, item) else {
         return false;
@@ -229,6 +233,7 @@ fn relink(board: &Board, pass: &mut Pass, target: Target, to: RowRef)
         pass.old }
     ensures relinks { HasRelinked board.now named to.segment to.row target.place
         pass.old pass.new }
+    ensures steps { TakesAtMost most_tries_to_exchange pass.old pass.new }
 {
     let mut old = target.word;
     while let Err(found) = try_to_relink(
@@ -253,6 +258,7 @@ fn try_to_relink(board: &Board, pass: &mut Pass, target: Target, to: RowRef) -> 
         pass.old }
     ensures tries { TriesToRelink board.now named to.segment to.row target.place target.word result
         pass.old pass.new }
+    ensures steps { TakesAtMost 1 pass.old pass.new }
 {
     let seen = Item::unpack(target.word).unwrap();
     let item = Item {

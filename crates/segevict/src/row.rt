@@ -1,8 +1,9 @@
 //! Rows of a segment of the pass's own: whose key was stored in each, and which word names it.
 ghost use Rattle.std.specs.Prelude.{◌≡◌, ◌<◌, true, false};
 ghost use Rattle.segbase.specs.Words.{HasStep, IsPassOf};
-ghost use Rattle.segstore.specs.Words.{Idles, IsQuiet};
+ghost use Rattle.segstore.specs.Words.{Idles, IsQuiet, TakesAtMost};
 ghost use Rattle.segevict.specs.Rows.{HasRow, IsUsedRow, IsStoredIn, FindsRow};
+ghost use Rattle.segevict.specs.Steps.{most_looks};
 
 use segbase::{Board, Pass, Place};
 use segmodel::SegState;
@@ -26,6 +27,7 @@ pub(crate) fn item_of_row(board: &Board, pass: &mut Pass, segment: u32, row: u32
     requires quiet { IsQuiet board.now pass.old }
     requires used { IsUsedRow segment row pass.old }
     ensures idles { Idles board.now pass.old pass.new }
+    ensures steps { TakesAtMost 4 pass.old pass.new }
     ensures place { (result.1.seg ≡ segment) × (result.1.row ≡ row) }
     ensures bucket { result.0 < board.now.shape.buckets }
     ensures stored { IsStoredIn board.now result.0 result.1 pass.new }
@@ -47,6 +49,7 @@ pub(crate) fn find_row(board: &Board, pass: &mut Pass, bucket: u32, item: Item) 
     requires stored { IsStoredIn board.now bucket item pass.old }
     ensures idles { Idles board.now pass.old pass.new }
     ensures looks { HasStep pass.old pass.new }
+    ensures steps { TakesAtMost most_looks pass.old pass.new }
     ensures finds { FindsRow board.now bucket item result pass.new }
 {
     let sought = item.pack();

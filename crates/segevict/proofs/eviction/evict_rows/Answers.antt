@@ -22,8 +22,8 @@ pub loop-row-preserved : goal.loop-row-preserved
 loop-row-preserved c = let b = c.args.board.now in let l = c.loop-row in
     let used : used_of c.args.pass.now c.args.segment ≡ Some c.unwrap-used.result = sym c.used.ensures ∙ c.unwrap-used.ensures in
     let has = row_there b c.args.segment c.args.from l.row l.evicted c.unwrap-used.result c.args.pass.now l.pass l.invariant c.requires.in_use used c.loop-row-test.true in elim c.match-evict_used_row.branch [
-      | in-Evicted w ↦ subst (λ n. Evicting b c.args.segment c.args.from (l.row + 1) n c.args.pass.now c.evict_used_row.new.pass) (sym w.evicted-is) (evicting_one b c.args.segment c.args.from l.row l.evicted c.args.pass.now l.pass c.evict_used_row.new.pass l.invariant has w.in-Evicted.ensures.evicts)
-      | in-Left w ↦ subst (λ n. Evicting b c.args.segment c.args.from (l.row + 1) n c.args.pass.now c.evict_used_row.new.pass) (sym w.evicted-is) (evicting_none b c.args.segment c.args.from l.row l.evicted c.args.pass.now l.pass c.evict_used_row.new.pass l.invariant has w.in-Left.ensures.evicts)
+      | in-Evicted w ↦ subst (λ n. Evicting b c.args.segment c.args.from (l.row + 1) n c.args.pass.now c.evict_used_row.new.pass) (sym w.evicted-is) (evicting_one b c.args.segment c.args.from l.row l.evicted c.args.pass.now l.pass c.evict_used_row.new.pass l.invariant has w.in-Evicted.ensures.evicts w.in-Evicted.ensures.steps)
+      | in-Left w ↦ subst (λ n. Evicting b c.args.segment c.args.from (l.row + 1) n c.args.pass.now c.evict_used_row.new.pass) (sym w.evicted-is) (evicting_none b c.args.segment c.args.from l.row l.evicted c.args.pass.now l.pass c.evict_used_row.new.pass l.invariant has w.in-Left.ensures.evicts w.in-Left.ensures.steps)
     ]
 
 pub returns-clause-on : goal.returns-clause-on
@@ -43,7 +43,7 @@ returns-clause-answer c = let l = c.loop-row in let r = c.requires in let done =
 pub returns-in-Busy-clause-costs : goal.returns-in-Busy-clause-costs
 returns-in-Busy-clause-costs c = let l = c.loop-row in let r = c.requires in
     barred_costs c.args.board.now c.args.segment c.args.from l.row l.evicted c.args.pass.now l.pass r.in_use r.ended l.invariant c.evict_used_row.new.pass c.in-Busy.ensures.evicts
-    c.unwrap-used.result (sym c.used.ensures ∙ c.unwrap-used.ensures) c.loop-row-test.true
+    c.unwrap-used.result (sym c.used.ensures ∙ c.unwrap-used.ensures) c.loop-row-test.true c.in-Busy.ensures.steps
 
 pub returns-clause-costs : goal.returns-clause-costs
 returns-clause-costs c = let l = c.loop-row in let r = c.requires in let done = sym c.set_state.ensures in

@@ -1,5 +1,6 @@
-use Rattle.std.proofs.Common.{not, ap, ◌∙◌}
+use Rattle.std.proofs.Common.{not, ap, ◌∙◌, arith}
 use Rattle.segbase.proofs.Starting.{has_later}
+use Rattle.segstore.proofs.Looks.{one_step}
 use Rattle.segwrite.proofs.Places.{idles_then}
 use Rattle.segevict.proofs.Seeking.{stored_over}
 use Rattle.segevict.proofs.RowsOut.{quiet_looking, stored_taken, row_is_gone, row_is_barred, row_is_evicted, row_went, found_none, found_some, of_place}
@@ -11,7 +12,7 @@ returns-then-is_none c = let b = c.args.board.now in let r = c.item_of_row-bucke
     let first = has_later c.args.pass.now r.new.pass f.new.pass r.ensures.idles.moved.same r.ensures.idles.moved.steps f.ensures.looks in
     let stored = stored_over b r.result.0 r.result.1 _ r.new.pass f.new.pass f.ensures.idles.moved tt r.ensures.stored in
     let gone = found_none b r.result.0 r.result.1 f.result f.new.pass f.ensures.finds (c.is_none.ensures ∙ ap not c.if-is_none.true) in
-    record { evicts = of_place b r.result.1 c.args.segment c.args.row _ _ _ r.ensures.place (row_is_gone b r.result.0 r.result.1 c.args.pass.now f.new.pass c.requires.quiet i first stored gone) }
+    record { evicts = of_place b r.result.1 c.args.segment c.args.row _ _ _ r.ensures.place (row_is_gone b r.result.0 r.result.1 c.args.pass.now f.new.pass c.requires.quiet i first stored gone); steps = (let read = r.ensures.steps in let looked = f.ensures.steps in omega (arith, read, looked)) }
 
 pub take_to_write-requires-clause-pass : goal.take_to_write-requires-clause-pass
 take_to_write-requires-clause-pass c = let b = c.args.board.now in let r = c.item_of_row-bucket in let f = c.find_row in
@@ -29,6 +30,7 @@ returns-then-not-take_to_write c = let b = c.args.board.now in let r = c.item_of
     record {
       evicts = of_place b r.result.1 c.args.segment c.args.row _ _ _ r.ensures.place
           (row_is_barred b r.result.0 r.result.1 c.args.pass.now f.new.pass c.requires.quiet i first stored c.take_to_write.new.pass named.0 named.1 c.if-not-take_to_write.ensures.takes);
+      steps = (let read = r.ensures.steps in let looked = f.ensures.steps in let tried = c.take_to_write.ensures.steps in omega (arith, read, looked, tried));
     }
 
 pub clear_row-is_evicted-requires-clause-stored : goal.clear_row-is_evicted-requires-clause-stored
@@ -49,6 +51,8 @@ returns-then-is_evicted c = let b = c.args.board.now in let r = c.item_of_row-bu
       evicts = of_place b r.result.1 c.args.segment c.args.row _ _ _ r.ensures.place
           (row_is_evicted b r.result.0 r.result.1 c.args.pass.now f.new.pass c.requires.quiet i first stored c.take_to_write.new.pass c.if-not-take_to_write.ensures.takes named.0 named.1
           c.clear_row-is_evicted.new.pass c.release.new.pass done.takes c.release.ensures.did c.release.ensures.free done.same.0 done.same.1 step.plain step.memo);
+      steps = (let read = r.ensures.steps in let looked = f.ensures.steps in let tried = c.take_to_write.ensures.steps in let under = done.steps in
+          let gives = one_step b c.clear_row-is_evicted.new.pass c.release.new.pass _ _ step in omega (arith, read, looked, tried, under, gives));
     }
 
 pub returns-else-is_evicted : goal.returns-else-is_evicted
@@ -62,4 +66,6 @@ returns-else-is_evicted c = let b = c.args.board.now in let r = c.item_of_row-bu
       evicts = of_place b r.result.1 c.args.segment c.args.row _ _ _ r.ensures.place
           (row_went b r.result.0 r.result.1 c.args.pass.now f.new.pass c.requires.quiet i first stored c.take_to_write.new.pass c.if-not-take_to_write.ensures.takes named.0 named.1
           c.clear_row-is_evicted.new.pass c.release.new.pass done.takes c.release.ensures.did c.release.ensures.free done.same.0 done.same.1 step.plain step.memo);
+      steps = (let read = r.ensures.steps in let looked = f.ensures.steps in let tried = c.take_to_write.ensures.steps in let under = done.steps in
+          let gives = one_step b c.clear_row-is_evicted.new.pass c.release.new.pass _ _ step in omega (arith, read, looked, tried, under, gives));
     }

@@ -1,3 +1,5 @@
+use Rattle.std.proofs.Common.{arith}
+use Rattle.segstore.proofs.Looks.{one_step}
 use Rattle.segstore.proofs.Seconds.{unpacked}
 use Rattle.segbase.proofs.Starting.{has_later}
 use Rattle.segwrite.proofs.Places.{idles_then}
@@ -13,6 +15,7 @@ returns-in_default c = let b = c.args.board.now in let r = c.item_of_row-bucket 
     let stored = stored_over b r.result.0 r.result.1 _ r.new.pass f.new.pass f.ensures.idles.moved tt r.ensures.stored in record {
       keeps = kept_place b r.result.1 c.args.row.segment c.args.row.row c.args.into c.args.cutoff _ _ _ r.ensures.place
           (row_gone b r.result.0 r.result.1 c.args.into c.args.cutoff c.args.pass.now f.new.pass c.requires.quiet i first stored c.in_default.ensures.finds);
+      steps = (let read = r.ensures.steps in let looked = f.ensures.steps in omega (arith, read, looked));
     }
 
 pub returns-then-unwrap-cutoff : goal.returns-then-unwrap-cutoff
@@ -23,6 +26,7 @@ returns-then-unwrap-cutoff c = let b = c.args.board.now in let r = c.item_of_row
     let word = unpacked c.unpack.result c.unwrap.result c.in-Some.seen.word c.unpack.ensures.some c.unwrap.ensures in record {
       keeps = kept_place b r.result.1 c.args.row.segment c.args.row.row c.args.into c.args.cutoff _ _ _ r.ensures.place
           (row_seldom b r.result.0 r.result.1 c.args.into c.args.cutoff c.args.pass.now f.new.pass c.requires.quiet i first stored c.in-Some.seen c.in-Some.ensures.finds c.unwrap.result word c.if-unwrap-cutoff.true);
+      steps = (let read = r.ensures.steps in let looked = f.ensures.steps in omega (arith, read, looked));
     }
 
 pub returns-in_default-next_row_in : goal.returns-in_default-next_row_in
@@ -34,6 +38,7 @@ returns-in_default-next_row_in c = let b = c.args.board.now in let r = c.item_of
       keeps = kept_place b r.result.1 c.args.row.segment c.args.row.row c.args.into c.args.cutoff _ _ _ r.ensures.place
           (row_no_room b r.result.0 r.result.1 c.args.into c.args.cutoff c.args.pass.now f.new.pass c.requires.quiet i first stored c.in-Some.seen c.in-Some.ensures.finds c.unwrap.result word c.if-unwrap-cutoff.false
           c.in_default-next_row_in.ensures.next);
+      steps = (let read = r.ensures.steps in let looked = f.ensures.steps in omega (arith, read, looked));
     }
 
 pub take_to_write-requires-clause-pass : goal.take_to_write-requires-clause-pass
@@ -52,6 +57,7 @@ returns-then-not-take_to_write c = let b = c.args.board.now in let r = c.item_of
       keeps = kept_place b r.result.1 c.args.row.segment c.args.row.row c.args.into c.args.cutoff _ _ _ r.ensures.place
           (row_busy b r.result.0 r.result.1 c.args.into c.args.cutoff c.args.pass.now f.new.pass c.requires.quiet i first stored c.in-Some.seen c.in-Some.ensures.finds c.unwrap.result word c.if-unwrap-cutoff.false
           c.take_to_write.new.pass (room_there b c.args.into c.in-Some-next_row_in.next f.new.pass c.in-Some-next_row_in.ensures.next) c.if-not-take_to_write.ensures.takes);
+      steps = (let read = r.ensures.steps in let looked = f.ensures.steps in let tried = c.take_to_write.ensures.steps in omega (arith, read, looked, tried));
     }
 
 pub move_row-is_moved-requires-clause-segments : goal.move_row-is_moved-requires-clause-segments
@@ -103,6 +109,8 @@ returns-then-is_moved c = let b = c.args.board.now in let r = c.item_of_row-buck
       keeps = kept_place b r.result.1 c.args.row.segment c.args.row.row c.args.into c.args.cutoff _ _ _ r.ensures.place
           (row_moved b r.result.0 r.result.1 c.args.into c.args.cutoff c.args.pass.now f.new.pass c.requires.quiet i first stored c.in-Some.seen c.in-Some.ensures.finds c.unwrap.result word c.if-unwrap-cutoff.false
           c.take_to_write.new.pass c.if-not-take_to_write.ensures.takes c.in-Some-next_row_in.next next c.move_row-is_moved.new.pass c.release.new.pass c.if-is_moved.ensures.moves c.release.ensures.did c.release.ensures.free step.plain step.memo);
+      steps = (let read = r.ensures.steps in let looked = f.ensures.steps in let tried = c.take_to_write.ensures.steps in let under = c.if-is_moved.ensures.steps in
+          let gives = one_step b c.move_row-is_moved.new.pass c.release.new.pass _ _ step in omega (arith, read, looked, tried, under, gives));
     }
 
 pub returns-else-is_moved : goal.returns-else-is_moved
@@ -115,4 +123,6 @@ returns-else-is_moved c = let b = c.args.board.now in let r = c.item_of_row-buck
       keeps = kept_place b r.result.1 c.args.row.segment c.args.row.row c.args.into c.args.cutoff _ _ _ r.ensures.place
           (row_went b r.result.0 r.result.1 c.args.into c.args.cutoff c.args.pass.now f.new.pass c.requires.quiet i first stored c.in-Some.seen c.in-Some.ensures.finds c.unwrap.result word c.if-unwrap-cutoff.false
           c.take_to_write.new.pass c.if-not-take_to_write.ensures.takes (room_there b c.args.into c.in-Some-next_row_in.next f.new.pass c.in-Some-next_row_in.ensures.next) c.in-Some-next_row_in.next c.move_row-is_moved.new.pass c.release.new.pass c.if-is_moved.ensures.moves c.release.ensures.did c.release.ensures.free step.plain step.memo);
+      steps = (let read = r.ensures.steps in let looked = f.ensures.steps in let tried = c.take_to_write.ensures.steps in let under = c.if-is_moved.ensures.steps in
+          let gives = one_step b c.move_row-is_moved.new.pass c.release.new.pass _ _ step in omega (arith, read, looked, tried, under, gives));
     }

@@ -1,4 +1,6 @@
-use Rattle.std.proofs.Common.{true, sym, subst}
+use Rattle.std.proofs.Common.{true, sym, subst, arith}
+use Rattle.segstore.specs.Words.{TakesAtMost}
+use Rattle.segevict.specs.Steps.{most_steps_to_move}
 use Rattle.segevict.specs.Moving.{MovesRow}
 use Rattle.segevict.specs.Relinking.{HasRelinked, Relinks}
 use Rattle.segevict.proofs.Moving.{may_move, moves_none, moves_one, own_row, readable, slot_is}
@@ -7,6 +9,7 @@ use Rattle.segevict.proofs.retention.move_row.Goals as goal
 pub returns-in_default : goal.returns-in_default
 returns-in_default c = let r = c.requires in let f = c.find_row in record {
   moves = moves_none c.args.board.now c.args.bucket c.args.item c.args.to.segment c.args.to.row c.args.pass.now f.new.pass r.segments r.stored r.bit r.target r.next f.ensures.idles c.in_default.ensures.finds;
+  steps = (let looked = f.ensures.steps in omega (arith, looked));
 }
 
 pub copy_row-requires-clause-readable : goal.copy_row-requires-clause-readable
@@ -32,4 +35,6 @@ returns c = let r = c.requires in let f = c.find_row in let copy = c.copy_row in
     c.relink.ensures.relinks in record {
       moves = subst (λ q. MovesRow b c.args.bucket c.args.item c.args.to.segment c.args.to.row true c.args.pass.now q) (sym c.set_used.ensures)
           (moves_one b c.args.bucket c.args.item c.args.to.segment c.args.to.row c.args.pass.now f.new.pass r.segments r.stored r.bit r.target r.next f.ensures.idles t c.in-Some.ensures.finds copy.new.pass e.moved.0 e.moved.1.0 e.moved.1.1 e.own e.holds e.plain e.memo c.relink.new.pass done);
+      steps = subst (TakesAtMost (most_steps_to_move true) c.args.pass.now) (sym c.set_used.ensures)
+          (let looked = f.ensures.steps in let copied = e.steps in let relinked = c.relink.ensures.steps in omega (arith, looked, copied, relinked));
     }

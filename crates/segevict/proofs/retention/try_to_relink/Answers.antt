@@ -1,3 +1,5 @@
+use Rattle.std.proofs.Common.{arith}
+use Rattle.segstore.proofs.Looks.{one_step}
 use Rattle.segstore.proofs.Seconds.{unpacked}
 use Rattle.segevict.proofs.Relinking.{may_relink, parts_of, tried}
 use Rattle.segevict.proofs.retention.try_to_relink.Goals as goal
@@ -10,4 +12,5 @@ move_item-requires g c = let b = c.args.board.now in let p = c.args.pass.now in 
 pub returns : goal.returns
 returns g c = let r = c.requires in let m = c.move_item.ensures in let step = m.step.1 in record {
   tries = tried c.args.board.now g.named c.args.to.segment c.args.to.row c.args.target.place c.args.target.word c.args.pass.now c.move_item.new.pass c.move_item.result r.1.earlier m.moved m.missed step.plain step.memo;
+  steps = (let one = one_step c.args.board.now c.args.pass.now c.move_item.new.pass _ _ step in omega (arith, one));
 }
