@@ -73,8 +73,9 @@ abbrev pub most_steps_of_write : Request → ℕ
 most_steps_of_write request =
     most_steps_of_refusal request + most_steps_of_row + most_tries_to_exchange
 
+-- A set that is stored takes at most 477 steps, an add or replace 479, a cas 480.
+-- It takes more only if its key was new, and the chain had to grow.
 -- NoRoom takes no step, and Busy the tries.
--- A write that is stored takes more steps only if its key was new, and the chain had to grow.
 abbrev pub WritesInSteps : Shape → Request → WriteAnswer → Pass → Pass → Type 0
 WritesInSteps shape request write.Stored p q =
     TakesAtMost (most_steps_of_write request) p q
@@ -95,5 +96,6 @@ most_steps_to_remove delete.Deleted = most_steps_of_search + 2 + most_tries_to_e
 most_steps_to_remove delete.NotFound = most_steps_of_search + 2 + 1
 most_steps_to_remove delete.Busy = 0
 
+-- A delete takes at most 463 steps if it is Deleted, 207 if it is NotFound, and 64 if it is Busy.
 abbrev pub most_steps_of_delete : DeleteAnswer → ℕ
 most_steps_of_delete told = most_tries_for_bit + most_steps_to_remove told

@@ -1,6 +1,6 @@
 //! The word of a key's chain that a write changes, or the end of the chain if there is none.
 //! One walk along the chain, under the bucket's bit, finds it.
-ghost use Rattle.std.specs.Prelude.{◌≡◌, ◌↔◌, ◌*◌, IsTrue, List, ℕ};
+ghost use Rattle.std.specs.Prelude.{◌≡◌, ◌↔◌, IsTrue, List, ℕ};
 ghost use Rattle.segmodel.specs.Words.{bucket_of};
 ghost use Rattle.segcore.specs.Words.{HasBit};
 ghost use Rattle.segwrite.specs.Writing.{own_word, IsInChain, Finds};
@@ -152,6 +152,7 @@ pub(crate) fn search(board: &Board, pass: &mut Pass, sought: &Sought) -> Found
 }
 
 // Whether a word that the pass reads under the bit is that of an item of the key.
+#[inline(always)]
 fn is_item_of(board: &Board, pass: &mut Pass, target: Target, sought: &Sought) -> bool
     requires pass { IsPassOf board.now pass.old }
     requires sought { IsSought board.now.shape sought.now }
