@@ -17,3 +17,4 @@ pub mod OneRow
 pub mod Keeping
 pub mod UnnamedRows
 pub mod StoodFacts
+pub mod StepFacts

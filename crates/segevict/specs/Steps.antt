@@ -1,5 +1,5 @@
 -- How many steps an evict and a keep of one row take at most. They wait for nobody.
-use Rattle.std.specs.Prelude.{ℕ, ◌+◌, ◌*◌, Bool, true, false}
+use Rattle.std.specs.Prelude.{ℕ, ◌+◌, Bool, true, false}
 use Rattle.segwrite.specs.Words.{most_steps_of_row, most_tries_for_bit, most_tries_to_exchange}
 use Rattle.segevict.specs.declared.eviction.EvictRowAnswer.{EvictRowAnswer}
 use Rattle.segevict.specs.declared.eviction.EvictRowAnswer.TheVariants as evict_row
@@ -32,6 +32,7 @@ abbrev pub most_steps_to_move : Bool → ℕ
 most_steps_to_move true = most_looks + 8 + most_steps_of_row + most_tries_to_exchange
 most_steps_to_move false = most_looks
 
+-- An evict of one row takes at most 381 steps if it is Evicted, 125 if Left, and 96 if Busy.
 abbrev pub most_steps_of_evict_row : EvictRowAnswer → ℕ
 most_steps_of_evict_row evict_row.Evicted = most_steps_to_leave + most_tries_to_exchange
 most_steps_of_evict_row evict_row.Left = most_steps_to_leave
@@ -39,6 +40,8 @@ most_steps_of_evict_row evict_row.Busy = most_steps_to_try
 most_steps_of_evict_row evict_row.NotYours = 0
 most_steps_of_evict_row evict_row.NotUsed = 0
 
+-- A keep of one row takes at most 405 steps if it is Moved, 125 if Left, 96 if Busy,
+-- and 32 if there is no room.
 abbrev pub most_steps_of_keep_row : KeepRowAnswer → ℕ
 most_steps_of_keep_row kept.Moved =
     most_steps_to_leave + 8 + most_steps_of_row + most_tries_to_exchange
