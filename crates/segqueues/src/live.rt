@@ -11,6 +11,9 @@ pub(crate) const ALL: u64 = 1 << 16;
 // The share of live rows that is taken for granted before any segment was gone over.
 const FIRST_SHARE: u64 = ALL / 4 * 3;
 
+// From so many halvings by others' writes on, in 2^-16, the estimate of a segment is unsure.
+const UNSURE: u64 = ALL / 8;
+
 // What is found counts for one part of so many, and what was found before for the rest.
 const MEMORY: u64 = 8;
 
@@ -151,12 +154,22 @@ impl Live {
         }
     }
 
+    // How often the live rows of a segment of this age halved by others' writes, in 2^-16.
+    fn halvings(&self, age: u32) -> u64 {
+        self.rate.saturating_mul(u64::from(age)) >> 16
+    }
+
     // How many rows of the segment are alive, in parts of a row: those that the pass doesn't know
     // to be dead, less what others' writes did meanwhile.
     pub(crate) fn estimate(&self, at: u32) -> u64 {
         let known = self.known_of(at);
-        let halvings = self.rate.saturating_mul(u64::from(known.age)) >> 16;
-        halved(PARTS.saturating_mul(u64::from(known.known)), halvings)
+        let parts = PARTS.saturating_mul(u64::from(known.known));
+        halved(parts, self.halvings(known.age))
+    }
+
+    // Whether others' writes may have done much in the segment. Then its estimate may be far off.
+    pub(crate) fn is_unsure(&self, at: u32) -> bool {
+        !self.is_rate_known || self.halvings(self.age(at)) > UNSURE
     }
 
     // The share of rows that were found alive lately.

@@ -1,5 +1,7 @@
 //! Which segment is cleared next, and what moves on from it. Dead rows come first:
 //! a segment in which most rows are dead is cleared before any item is given up that can be read.
+//! Once few rows are dead, what is put must be read on probation to move on, and main segments
+//! alone are cleared for their dead rows, while that takes few moves.
 use crate::lists::Queue;
 use crate::live::{ALL, Found, PARTS};
 use crate::queues::Queues;
@@ -10,9 +12,16 @@ const PROBATION_SHARE: u32 = 12;
 // In tenths: up to so many live rows a segment is cleared for its dead ones.
 const MOST_LIVE: u64 = 7;
 
-// In tenths: while fewer rows were found alive lately, a segment may be tried
-// of which nothing is known.
+// In tenths: while fewer rows were found alive lately, a segment may be cleared for dead rows
+// of which the pass knows little.
 const MOST_FOUND: u64 = 8;
+
+// While less than one row of so many is dead, the segments are full.
+const FULL: u64 = 6;
+
+// Full segments are cleared for their dead rows while more than one row of so many is dead:
+// with fewer, that takes too many moves for each row that it gains.
+const FEW_DEAD: u64 = 9;
 
 // A choice is made among so many segments at most.
 const LOOKS: u32 = 128;
@@ -52,13 +61,34 @@ struct Choice {
     live: u64,
 }
 
-// What was seen of the segments: which has the fewest live rows, which has of those that
-// weren't cleared for long, and how many dead rows there are in all.
+// What was seen of the segments: which has the fewest live rows, which has of the main ones,
+// and which has of those of which little is known; how many rows they have, and how many of these
+// are dead.
 #[derive(Clone, Copy)]
 struct Seen {
     least: Option<Choice>,
+    main: Option<Choice>,
     unknown: Option<Choice>,
+    rows: u64,
     dead: u64,
+}
+
+impl Seen {
+    fn none() -> Seen {
+        Seen {
+            least: None,
+            main: None,
+            unknown: None,
+            rows: 0,
+            dead: 0,
+        }
+    }
+
+    // Whether few rows are dead, and some live in each segment.
+    fn is_full(self) -> bool {
+        let is_empty = matches!(self.least, Some(least) if least.live < PARTS / 2);
+        !is_empty && self.dead.saturating_mul(FULL) < self.rows
+    }
 }
 
 // The one with fewer live rows.
@@ -102,26 +132,38 @@ impl Queues {
 
     // What is seen with one segment more.
     fn seen_with(&self, seen: Seen, segment: u32, target: Option<u32>) -> Seen {
-        let live = self.live.estimate(segment);
+        let all = Self::parts_of(self.rows);
+        let rows = seen.rows.saturating_add(all);
         if target == Some(segment) {
             return Seen {
+                rows,
                 dead: seen.dead.saturating_add(self.room_in(target)),
                 ..seen
             };
         }
+        let live = self.live.estimate(segment);
         let choice = Choice { segment, live };
-        let many = self.segments.saturating_mul(self.rows) / 4;
         Seen {
             least: fewer(seen.least, choice),
-            unknown: if self.live.age(segment) > many {
+            main: if self.queue_of(segment) == Queue::Main {
+                fewer(seen.main, choice)
+            } else {
+                seen.main
+            },
+            unknown: if self.is_unknown(segment) {
                 fewer(seen.unknown, choice)
             } else {
                 seen.unknown
             },
-            dead: seen
-                .dead
-                .saturating_add(Self::parts_of(self.rows).saturating_sub(live)),
+            rows,
+            dead: seen.dead.saturating_add(all.saturating_sub(live)),
         }
+    }
+
+    // Whether little is known of the segment: it is in use for long, and others write to it.
+    fn is_unknown(&self, segment: u32) -> bool {
+        let many = self.segments.saturating_mul(self.rows) / 4;
+        self.live.age(segment) > many && self.live.is_unsure(segment)
     }
 
     // The first segment that is looked at in the next choice.
@@ -134,24 +176,76 @@ impl Queues {
         first
     }
 
-    // A segment that is cleared for its dead rows: the one with the fewest live ones,
-    // if that gains a segment, and what moves has room.
-    fn with_dead_rows(&mut self, seen: Seen, target: Option<u32>) -> Option<u32> {
-        let room = self.room_in(target);
-        let has_free = self.is_one_ready();
-        let rows = Self::parts_of(self.rows);
-        let least = seen.least?;
-        let has_room = has_free || room >= least.live;
-        let is_enough = least.live.saturating_mul(10) <= rows.saturating_mul(MOST_LIVE);
-        let gains = least.live < PARTS / 2 || room >= least.live || seen.dead >= rows;
-        if is_enough && gains && has_room {
-            return Some(least.segment);
-        }
+    // Whether what moves from the segment has room.
+    fn has_room_for(&self, choice: Choice, target: Option<u32>) -> bool {
+        self.is_one_ready() || self.room_in(target) >= choice.live
+    }
+
+    // Whether so many dead rows were found lately that it is worth looking for more.
+    fn finds_dead_rows(&self) -> bool {
+        self.live.share().saturating_mul(10) < MOST_FOUND * ALL
+    }
+
+    // A segment of which little is known, to be cleared if that was worth it lately.
+    fn to_try(&mut self, seen: Seen, target: Option<u32>) -> Option<u32> {
         let tried = seen.unknown?;
-        let is_worth = self.live.share().saturating_mul(10) < MOST_FOUND * ALL;
-        if is_worth && self.may_try && (has_free || room >= tried.live) {
+        if self.may_try && self.finds_dead_rows() && self.has_room_for(tried, target) {
             self.may_try = false;
             return Some(tried.segment);
+        }
+        None
+    }
+
+    // How many segments may be on probation.
+    fn probation_share(&self) -> u32 {
+        (self.segments / PROBATION_SHARE).max(1)
+    }
+
+    // Of full segments: the main one with the fewest live rows, while enough rows are dead.
+    // Where that is unsure, it is cleared only if dead rows were found lately.
+    // Those on probation come first, which are cleared by frequencies.
+    fn main_with_dead_rows(&self, seen: Seen) -> Option<Choice> {
+        let has_few = seen.dead.saturating_mul(FEW_DEAD) <= seen.rows;
+        if has_few || self.count(Queue::Probation) > self.probation_share() {
+            return None;
+        }
+        let main = seen.main?;
+        if self.finds_dead_rows() || !self.live.is_unsure(main.segment) {
+            Some(main)
+        } else {
+            None
+        }
+    }
+
+    // The segment with the fewest live rows, if they are few enough.
+    fn any_with_dead_rows(&self, seen: Seen) -> Option<Choice> {
+        let least = seen.least?;
+        let most = Self::parts_of(self.rows).saturating_mul(MOST_LIVE);
+        if least.live.saturating_mul(10) <= most {
+            Some(least)
+        } else {
+            None
+        }
+    }
+
+    // A segment that is cleared for its dead rows, if that gains a segment,
+    // and what moves has room.
+    fn with_dead_rows(&mut self, seen: Seen, target: Option<u32>) -> Option<u32> {
+        let tried = self.to_try(seen, target);
+        if tried.is_some() {
+            return tried;
+        }
+        let choice = if seen.is_full() {
+            self.main_with_dead_rows(seen)?
+        } else {
+            self.any_with_dead_rows(seen)?
+        };
+        let live = choice.live;
+        let gains = live < PARTS / 2
+            || self.room_in(target) >= live
+            || seen.dead >= Self::parts_of(self.rows);
+        if gains && self.has_room_for(choice, target) {
+            return Some(choice.segment);
         }
         None
     }
@@ -160,13 +254,12 @@ impl Queues {
     // probation while there are more than their share, and else the oldest main one.
     // A lone main segment takes what moves.
     fn next_in_order(&self, current: Option<u32>) -> Option<u32> {
-        let share = (self.segments / PROBATION_SHARE).max(1);
         let main = if self.count(Queue::Main) > 1 {
             self.oldest(Queue::Main, current)
         } else {
             None
         };
-        if main.is_some() && self.count(Queue::Probation) <= share {
+        if main.is_some() && self.count(Queue::Probation) <= self.probation_share() {
             return main;
         }
         let on_probation = self.oldest(Queue::Probation, current);
@@ -193,11 +286,7 @@ impl Queues {
     pub fn next_source(&mut self, current: Option<u32>, moment: u32, deadline: u32) -> Option<u32> {
         let target = self.open_target();
         let first = self.next_look();
-        let mut seen = Seen {
-            least: None,
-            unknown: None,
-            dead: 0,
-        };
+        let mut seen = Seen::none();
         for look in 0..self.segments.min(LOOKS) {
             let at = first.saturating_add(look);
             if self.queue_of(at) != Queue::Free && current != Some(at) {
