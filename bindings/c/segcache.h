@@ -7,8 +7,9 @@
  *     for (i = 0; i < 4; i++) segcache_give_back(&cache, &clients[i]);
  *     segcache_free(&cache);
  *
- * SHAPES. A key has 1 to 24 bytes, a value 0 to 32. A key is its bytes: a final NUL counts only if
- * the length counts it. `now` is the caller's clock, a number that grows, in units of the caller's choice
+ * SHAPES. A key has 1 to 24 bytes, a value 0 to 32: SEGCACHE_MAX_KEY and SEGCACHE_MAX_VALUE. They are 250 and 4,064
+ * in files that are compiled with -DSEGCACHE_WIDE, for the library's wide build. A key is its bytes: a final NUL counts
+ * only if the length counts it. `now` is the caller's clock, a number that grows, in units of the caller's choice
  * (seconds since the start, say); with no time to live set, any number below 4294967295 will do.
  *
  * ANSWERS. Each function returns a status, SEGCACHE_OK or another of the list below. A null or freed
@@ -56,8 +57,8 @@ enum {
   SEGCACHE_NOT_STORED = 5,    /* an add of a key that is present, a replace of one that is not */
   SEGCACHE_EXISTS = 6,        /* a cas: the bucket was written since the gets */
   SEGCACHE_NOT_FOUND = 7,     /* a cas or a delete: the key is absent */
-  SEGCACHE_BAD_KEY = 8,       /* no byte, or more than 24 */
-  SEGCACHE_BAD_VALUE = 9,     /* more than 32 bytes */
+  SEGCACHE_BAD_KEY = 8,       /* no byte, or more than SEGCACHE_MAX_KEY */
+  SEGCACHE_BAD_VALUE = 9,     /* more than SEGCACHE_MAX_VALUE bytes */
   SEGCACHE_SHORT_BUFFER = 10, /* nothing was copied; the length says how much room is needed */
   SEGCACHE_BAD_SHAPE = 11,    /* a shape, or a number of keys or of threads, that cannot be */
   SEGCACHE_OUT_OF_MEMORY = 12,
@@ -67,7 +68,8 @@ enum {
   SEGCACHE_CLIENT_OUT = 16,      /* a client of the cache was not given back */
   SEGCACHE_FOREIGN = 17,         /* the client or the note is of another cache */
   SEGCACHE_END = 18,             /* of a cursor: no pair is left */
-  SEGCACHE_OTHER_VERSION = 19    /* of an open: the library isn't of this header's version */
+  SEGCACHE_OTHER_VERSION = 19,   /* of an open: the library isn't of this header's version */
+  SEGCACHE_OTHER_SIZES = 20      /* of an open: the library has longer or shorter keys or values than this header */
 };
 
 /* The version of this header. segcache_version has the library's, as a number: 1,000,000 times the first number of the
@@ -75,8 +77,14 @@ enum {
 #define SEGCACHE_VERSION "0.4.0-dev"
 #define SEGCACHE_VERSION_NUMBER 40000u
 
+#ifdef SEGCACHE_WIDE
+#define SEGCACHE_MAX_KEY 250u
+#define SEGCACHE_MAX_VALUE 4064u
+#else
 #define SEGCACHE_MAX_KEY 24u
 #define SEGCACHE_MAX_VALUE 32u
+#endif
+#define SEGCACHE_SIZES (SEGCACHE_MAX_KEY << 16 | SEGCACHE_MAX_VALUE) /* of this header: both numbers in one */
 #define SEGCACHE_MAX_THREADS 64u
 #define SEGCACHE_STACK 16384u /* bytes of stack that are enough for each call: measured, with a call of malloc */
 
@@ -142,12 +150,13 @@ typedef struct segcache_index_stats_t {
 typedef struct segcache_lookup {
   size_t key_at, key_len, value_len; /* the key's bytes are those from keys + key_at on */
   uint32_t status, version;          /* version: of segcache_gets_many alone */
-  uint8_t value[32];
+  uint8_t value[SEGCACHE_MAX_VALUE];
 } segcache_lookup;
 
 /* --- The exports of the library. Programs call the functions below these. ---------------------------- */
 
 uint32_t segcache_raw_version(void);
+__attribute__((weak)) uint32_t segcache_raw_sizes(void); /* a library without it has keys of 24 and values of 32 */
 uint32_t segcache_raw_open(uint32_t keys, uint32_t threads, segcache_handle *cache, segcache_handle *clients,
                            size_t clients_len);
 uint32_t segcache_raw_open_for_writers(uint32_t keys, uint32_t writers, segcache_handle *cache,
@@ -205,6 +214,20 @@ uint32_t segcache_raw_free(segcache_handle *cache);
 /* The number of the library's version. It is SEGCACHE_VERSION_NUMBER, if header and library belong together. */
 static inline uint32_t segcache_version(void) { return segcache_raw_version(); }
 
+/* The library's longest key and value: 65,536 times the bytes of the one, and the bytes of the other. It is
+   SEGCACHE_SIZES, if header and library belong together. */
+static inline uint32_t segcache_sizes(void) {
+  return segcache_raw_sizes == NULL ? (uint32_t)24 << 16 | 32 : segcache_raw_sizes();
+}
+
+/* Why so many clients can't be opened: header and library don't belong together, or there are too many. OK, if they
+   can. */
+static inline uint32_t segcache_may_open(uint32_t clients) {
+  if (segcache_version() != SEGCACHE_VERSION_NUMBER) return SEGCACHE_OTHER_VERSION;
+  if (segcache_sizes() != SEGCACHE_SIZES) return SEGCACHE_OTHER_SIZES;
+  return clients <= SEGCACHE_MAX_THREADS ? SEGCACHE_OK : SEGCACHE_BAD_SHAPE;
+}
+
 /* How many caches were opened, by all files of the program. So each has a number of its own. */
 __attribute__((weak)) uint64_t segcache_opened;
 
@@ -232,15 +255,15 @@ static inline uint32_t segcache_hand_out(uint32_t status, segcache_handle made, 
    It takes all memory at once, but for that of notes and of a close: about 177 bytes a key, and up to 34 MB more for a
    moment. `cache` and `clients[threads]` are written,
    whatever they were: if they are of a cache that is still open, that one is lost. If the answer is not OK they are
-   zeroed, of more than 64 clients the first 64. Answers: OK, BAD_SHAPE, OUT_OF_MEMORY; OTHER_VERSION, if the library
-   has another version than this header, and nothing was made. */
+   zeroed, of more than 64 clients the first 64. Answers: OK, BAD_SHAPE, OUT_OF_MEMORY; OTHER_VERSION or OTHER_SIZES, if
+   the library has another version than this header, or other sizes, and nothing was made. */
 static inline uint32_t segcache_open(uint32_t keys, uint32_t threads, segcache *cache, segcache_client *clients) {
   segcache_handle made, raw[SEGCACHE_MAX_THREADS];
-  uint32_t status = SEGCACHE_BAD_SHAPE, count = threads <= SEGCACHE_MAX_THREADS ? threads : SEGCACHE_MAX_THREADS;
+  uint32_t status = segcache_may_open(threads);
+  uint32_t count = threads <= SEGCACHE_MAX_THREADS ? threads : SEGCACHE_MAX_THREADS;
   memset(&made, 0, sizeof made);
   memset(raw, 0, sizeof raw);
-  if (segcache_version() != SEGCACHE_VERSION_NUMBER) status = SEGCACHE_OTHER_VERSION;
-  else if (count == threads) status = segcache_raw_open(keys, threads, &made, raw, count);
+  if (status == SEGCACHE_OK) status = segcache_raw_open(keys, threads, &made, raw, count);
   return segcache_hand_out(status, made, raw, count, cache, clients);
 }
 
@@ -251,23 +274,22 @@ static inline uint32_t segcache_open(uint32_t keys, uint32_t threads, segcache *
 static inline uint32_t segcache_open_for_writers(uint32_t keys, uint32_t threads, uint32_t writers, segcache *cache,
                                                  segcache_client *clients) {
   segcache_handle made, raw[SEGCACHE_MAX_THREADS];
-  uint32_t status = SEGCACHE_BAD_SHAPE, count = threads <= SEGCACHE_MAX_THREADS ? threads : SEGCACHE_MAX_THREADS;
+  uint32_t status = segcache_may_open(threads);
+  uint32_t count = threads <= SEGCACHE_MAX_THREADS ? threads : SEGCACHE_MAX_THREADS;
   memset(&made, 0, sizeof made);
   memset(raw, 0, sizeof raw);
-  if (segcache_version() != SEGCACHE_VERSION_NUMBER) status = SEGCACHE_OTHER_VERSION;
-  else if (count == threads) status = segcache_raw_open_for_writers(keys, writers, &made, raw, count);
+  if (status == SEGCACHE_OK) status = segcache_raw_open_for_writers(keys, writers, &made, raw, count);
   return segcache_hand_out(status, made, raw, count, cache, clients);
 }
 
 /* The same for one table of a shape, with a client for each of its passes. Answers as segcache_open. */
 static inline uint32_t segcache_open_shape(const segcache_shape *shape, segcache *cache, segcache_client *clients) {
   segcache_handle made, raw[SEGCACHE_MAX_THREADS];
-  uint32_t status = SEGCACHE_BAD_SHAPE;
+  uint32_t status = segcache_may_open(shape->passes);
   uint32_t count = shape->passes <= SEGCACHE_MAX_THREADS ? shape->passes : SEGCACHE_MAX_THREADS;
   memset(&made, 0, sizeof made);
   memset(raw, 0, sizeof raw);
-  if (segcache_version() != SEGCACHE_VERSION_NUMBER) status = SEGCACHE_OTHER_VERSION;
-  else if (count == shape->passes) status = segcache_raw_open_shape(shape, &made, raw, count);
+  if (status == SEGCACHE_OK) status = segcache_raw_open_shape(shape, &made, raw, count);
   return segcache_hand_out(status, made, raw, count, cache, clients);
 }
 
@@ -524,8 +546,8 @@ static inline uint32_t segcache_close(segcache *cache, segcache_cursor *cursor) 
   return status;
 }
 
-/* Copies the next pair: `key[24]` and `value[32]`, and their lengths. The pairs of one table come after those of
-   another, and those of one in the order of the keys' bytes.
+/* Copies the next pair: `key[SEGCACHE_MAX_KEY]` and `value[SEGCACHE_MAX_VALUE]`, and their lengths. The pairs of one
+   table come after those of another, and those of one in the order of the keys' bytes.
    Answers: OK, END, NO_HANDLE. Where a further table is closed, also OUT_OF_MEMORY: memory for the list of its pairs was
    refused, and they may be lost. Or BUSY, as of segcache_close. The next call goes on. */
 static inline uint32_t segcache_next(segcache_cursor *cursor, void *key, size_t *key_len, void *value,
@@ -555,8 +577,13 @@ static inline const char *segcache_text(uint32_t status) {
       "not stored",
       "the bucket was written since the gets",
       "the key is not found",
+#ifdef SEGCACHE_WIDE
+      "a key has 1 to 250 bytes",
+      "a value has 4064 bytes at most",
+#else
       "a key has 1 to 24 bytes",
       "a value has 32 bytes at most",
+#endif
       "the buffer is too short",
       "such a shape cannot be",
       "out of memory",
@@ -567,6 +594,7 @@ static inline const char *segcache_text(uint32_t status) {
       "the client or the note is of another cache",
       "the end",
       "the library has another version than segcache.h",
+      "the library has other sizes of keys and values than segcache.h",
   };
   return status < sizeof texts / sizeof *texts ? texts[status] : "no such status";
 }

@@ -51,6 +51,8 @@ static uint32_t fill(segcache_handle *handles, size_t count) {
 
 static uint32_t of_version = SEGCACHE_VERSION_NUMBER; /* of the library that is made up */
 uint32_t segcache_raw_version(void) { return of_version; }
+static uint32_t of_sizes = SEGCACHE_SIZES;
+uint32_t segcache_raw_sizes(void) { return of_sizes; }
 uint32_t segcache_raw_open(uint32_t keys, uint32_t threads, H cache, H clients, size_t count) {
   tell("open %u %u %zu %zu %zu", keys, threads, count, empty(cache, 1), empty(clients, count));
   fill(cache, 1);
@@ -257,26 +259,36 @@ static void test_opening(void) {
   STOPS(segcache_open_shape(&shape, &cache, clients), SEGCACHE_BAD_SHAPE);
 }
 
-/* A library of another version opens nothing, whatever it is asked for, and the handles are zeroed. */
-static void test_version(void) {
+/* A library of another version or of other sizes opens nothing, whatever it is asked for, and the handles are zeroed. */
+static void test_others(uint32_t *number, uint32_t (*shown)(void), uint32_t other, uint32_t wanted) {
   segcache cache;
   segcache_client clients[64];
   segcache_shape shape = {4, 4, 2, 2, 8, 7};
-  const uint32_t others[] = {SEGCACHE_VERSION_NUMBER - 1, SEGCACHE_VERSION_NUMBER + 1};
-  for (int i = 0; i < 6; i++) {
-    of_version = others[i / 3];
-    answer = SEGCACHE_OK;
+  uint32_t before = *number;
+  *number = other;
+  answer = SEGCACHE_OK;
+  for (int i = 0; i < 3; i++) {
     memset(&cache, 1, sizeof cache);
     memset(clients, 1, sizeof clients);
-    STOPS(open_by(i % 3, &shape, &cache, clients), SEGCACHE_OTHER_VERSION);
+    STOPS(open_by(i, &shape, &cache, clients), wanted);
     checks += 2;
-    if (segcache_version() != of_version)
-      faults++, printf("the version is %u, and not %u\n", segcache_version(), of_version);
+    if (shown() != other) faults++, printf("the library has %u, and not %u\n", shown(), other);
     if (!is_zeroed(&cache, sizeof cache) || !is_zeroed(clients, 2 * sizeof *clients))
-      faults++, printf("an open by version %u leaves handles\n", of_version);
+      faults++, printf("an open by a library that has %u leaves handles\n", other);
   }
-  STOPS(segcache_open(100, 65, &cache, clients), SEGCACHE_OTHER_VERSION);
-  of_version = SEGCACHE_VERSION_NUMBER;
+  STOPS(segcache_open(100, 65, &cache, clients), wanted);
+  *number = before;
+}
+
+static void test_belonging(void) {
+  const uint32_t sizes[] = {SEGCACHE_SIZES - 1, SEGCACHE_SIZES + (1 << 16), 24 << 16 | 4064, 250 << 16 | 32};
+  test_others(&of_version, segcache_version, SEGCACHE_VERSION_NUMBER - 1, SEGCACHE_OTHER_VERSION);
+  test_others(&of_version, segcache_version, SEGCACHE_VERSION_NUMBER + 1, SEGCACHE_OTHER_VERSION);
+  for (size_t i = 0; i < sizeof sizes / sizeof *sizes; i++)
+    test_others(&of_sizes, segcache_sizes, sizes[i], SEGCACHE_OTHER_SIZES);
+  of_sizes = 0;
+  test_others(&of_version, segcache_version, SEGCACHE_VERSION_NUMBER + 1, SEGCACHE_OTHER_VERSION);
+  of_sizes = SEGCACHE_SIZES;
 }
 
 /* Notes, and clients that go back: of the same cache, and of another one. */
@@ -298,7 +310,7 @@ static void test_homes(segcache *cache, segcache_client *client, segcache *other
 
 /* A null handle is none, and neither export nor client is needed to say so. */
 static void test_null_handles(segcache *cache, segcache_client *client) {
-  char bytes[40], key[24];
+  char bytes[40], key[SEGCACHE_MAX_KEY];
   size_t length, key_len;
   uint32_t version;
   segcache_lookup lookup = {0};
@@ -402,9 +414,9 @@ static void test_pointers(segcache_client *client, segcache_cursor *cursor) { (v
 
 static void test_end(segcache *cache, segcache_client *client) {
   segcache_cursor cursor;
-  char key[24], value[32];
+  char key[SEGCACHE_MAX_KEY], value[SEGCACHE_MAX_VALUE];
   size_t key_len, value_len;
-  for (answer = 0; answer < 20; answer++) {
+  for (answer = 0; answer <= SEGCACHE_OTHER_SIZES; answer++) {
     memset(&cursor, 1, sizeof cursor);
     uint32_t status = segcache_close(cache, &cursor);
     char wanted[100];
@@ -415,8 +427,8 @@ static void test_end(segcache *cache, segcache_client *client) {
   answer = SEGCACHE_OK;
   segcache_close(cache, &cursor);
   test_pointers(client, &cursor);
-  PASSES(segcache_next(&cursor, key, &key_len, value, &value_len), "next %p %p 24 %p %p 32 %p", AT & cursor.raw, AT key,
-         AT & key_len, AT value, AT & value_len);
+  PASSES(segcache_next(&cursor, key, &key_len, value, &value_len), "next %p %p %u %p %p %u %p", AT & cursor.raw, AT key,
+         SEGCACHE_MAX_KEY, AT & key_len, AT value, SEGCACHE_MAX_VALUE, AT & value_len);
   PASSES(segcache_cursor_free(&cursor), "cursor_free %p", AT & cursor.raw);
   PASSES(segcache_free(cache), "free %p", AT & cache->raw);
 }
@@ -433,8 +445,13 @@ static void test_texts(void) {
              {SEGCACHE_NOT_STORED, "not stored"},
              {SEGCACHE_EXISTS, "the bucket was written since the gets"},
              {SEGCACHE_NOT_FOUND, "the key is not found"},
+#ifdef SEGCACHE_WIDE
+             {SEGCACHE_BAD_KEY, "a key has 1 to 250 bytes"},
+             {SEGCACHE_BAD_VALUE, "a value has 4064 bytes at most"},
+#else
              {SEGCACHE_BAD_KEY, "a key has 1 to 24 bytes"},
              {SEGCACHE_BAD_VALUE, "a value has 32 bytes at most"},
+#endif
              {SEGCACHE_SHORT_BUFFER, "the buffer is too short"},
              {SEGCACHE_BAD_SHAPE, "such a shape cannot be"},
              {SEGCACHE_OUT_OF_MEMORY, "out of memory"},
@@ -445,7 +462,8 @@ static void test_texts(void) {
              {SEGCACHE_FOREIGN, "the client or the note is of another cache"},
              {SEGCACHE_END, "the end"},
              {SEGCACHE_OTHER_VERSION, "the library has another version than segcache.h"},
-             {20, "no such status"},
+             {SEGCACHE_OTHER_SIZES, "the library has other sizes of keys and values than segcache.h"},
+             {21, "no such status"},
              {UINT32_MAX, "no such status"}};
   for (size_t i = 0; i < sizeof all / sizeof *all; i++) {
     snprintf(told, sizeof told, "%s", segcache_text(all[i].status));
@@ -458,7 +476,7 @@ int main(void) {
   segcache_client client, foreign;
   test_texts();
   test_opening();
-  test_version();
+  test_belonging();
   answer = SEGCACHE_OK;
   segcache_open(100, 1, &cache, &client);
   segcache_open(100, 1, &other, &foreign);
