@@ -93,6 +93,7 @@ static uint32_t fault_of(struct client *client, enum call call, bool there, cons
 }
 
 uint32_t segcache_raw_version(void) { return SEGCACHE_VERSION_NUMBER; }
+uint32_t segcache_raw_sizes(void) { return SEGCACHE_SIZES; }
 
 uint32_t segcache_raw_open(uint32_t keys, uint32_t threads, segcache_handle *cache, segcache_handle *clients,
                            size_t clients_len) {
