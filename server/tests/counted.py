@@ -249,9 +249,9 @@ def busy_keys(command):
             f"STORED\r\n{BUSY}VALUE held-a 0 1\r\nx\r\nEND\r\n")
         say(connection, "set race-a 0 0 1\r\n1\r\nincr race-a 1\r\nget race-a\r\n",
             f"STORED\r\n{BUSY}VALUE race-a 0 1\r\n1\r\nEND\r\n")
-        say(connection, "set late-a 0 0 1\r\n1\r\nincr late-a 1\r\nget late-a\r\n"
+        say(connection, "set late-a 0 0 1\r\n0\r\nset late-a 0 0 1\r\n1\r\nincr late-a 1\r\nget late-a\r\n"
             "delete late-a\r\nadd late-a 0 0 1\r\n1\r\n",
-            "STORED\r\n2\r\nVALUE late-a 0 1\r\n2\r\nEND\r\nDELETED\r\nSTORED\r\n")
+            "STORED\r\n" * 2 + "2\r\nVALUE late-a 0 1\r\n2\r\nEND\r\nDELETED\r\nSTORED\r\n")
         say(connection, "touch late-a 0\r\nmg late-a v\r\nget late-a\r\n",
             "TOUCHED\r\nVA 1\r\n1\r\nVALUE late-a 0 1\r\n1\r\nEND\r\n")
 
@@ -278,6 +278,36 @@ def full_keys(command):
         say(connection, "add tight-a 0 0 1\r\n1\r\nincr k 1\r\n", "STORED\r\n2\r\n")
         again = int(stats_of(connection)["refilled_segments"])
         check(made < again <= made + 3, f"room is made as often as it's needed: {again - made}")
+
+
+def renewals(command):
+    """Only over the stand-in, whose segments are counted exactly. At each multiple of half of --time-to-live one begins,
+    whatever stores first. A value lives for half of that time or more, and no longer than that time."""
+    def begun(connection, sent, wanted, segments):
+        say(connection, sent, wanted)
+        made = int(stats_of(connection)["refilled_segments"])
+        check(made == segments, f"{sent} comes to {made} segments, and not to {segments}")
+
+    with running(command, "-t", "1", "--time-to-live", "40000") as port, connect(port) as connection:
+        say(connection, "debugtime 15000\r\n", "OK\r\n")
+        begun(connection, "set a 0 0 1\r\n1\r\n", "STORED\r\n", 1)
+        begun(connection, "set b 0 0 1\r\n2\r\nadd c 0 0 1\r\n3\r\nincr a 0\r\n",
+              "STORED\r\nSTORED\r\n1\r\n", 1)
+        begun(connection, "debugtime 4000\r\nset d 0 0 1\r\n4\r\n", "OK\r\nSTORED\r\n", 1)
+        begun(connection, "debugtime 2000\r\nadd e 0 0 1\r\n5\r\n", "OK\r\nSTORED\r\n", 2)
+        say(connection, "debugtime 18000\r\nget a d e\r\n",
+            "OK\r\nVALUE a 0 1\r\n1\r\nVALUE d 0 1\r\n4\r\nVALUE e 0 1\r\n5\r\nEND\r\n")
+        begun(connection, "debugtime 2000\r\nincr e 0\r\n", "OK\r\n5\r\n", 3)
+        say(connection, "get a d e\r\n", "VALUE e 0 1\r\n5\r\nEND\r\n")
+        begun(connection, "debugtime 20000\r\nset f 0 0 1\r\n6\r\n", "OK\r\nSTORED\r\n", 4)
+    with running(command, "-t", "1", "--time-to-live", "1") as port, connect(port) as connection:
+        for second in range(6):
+            begun(connection, "debugtime 1\r\nset a 0 0 1\r\n1\r\n", "OK\r\nSTORED\r\n", second + 1)
+    with running(command, "-t", "1", "--time-to-live", "40001") as port, connect(port) as connection:
+        for segments in (0, 1, 1):  # the first one can't be had
+            begun(connection, "set a 0 0 1\r\n1\r\n", "STORED\r\n", segments)
+    with running(command, "-t", "1") as port, connect(port) as connection:
+        begun(connection, "set a 0 0 1\r\n1\r\nadd b 0 0 1\r\n1\r\nincr a 1\r\n", "STORED\r\nSTORED\r\n2\r\n", 0)
 
 
 def resident(counts):

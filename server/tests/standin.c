@@ -6,19 +6,25 @@
  * It has few buckets, so that keys often share one: a cas then finds the bucket's version changed by others. It
  * evicts the oldest item once there are as many as it was opened for.
  *
- * Some keys have faults, which the library seldom has: see fault_of. Each call has to have a moment, which the server
- * begins at 2: without one the program is aborted. */
+ * With a time to live a value is absent from a deadline on, which make_room sets: the last multiple of half of that time
+ * that comes in it. Some keys have faults, which the library seldom has: see fault_of. Each call has to have a moment,
+ * which the server begins at 2: without one the program is aborted. */
 #include "segcache.h"
 #include <pthread.h>
 #include <stdbool.h>
 #include <stdlib.h>
 #include <string.h>
 
-enum { BUCKETS = 4096 /* a power of two */, FIRST_MOMENT = 2 };
+enum {
+  BUCKETS = 4096, /* a power of two */
+  FIRST_MOMENT = 2,
+  NO_ROOM_AT_FIRST = 40001, /* with this time to live a client's first room can't be made */
+};
 
 struct entry {
   struct entry *next_of_bucket, *older, *newer;
   size_t bucket, key_len, value_len;
+  uint32_t deadline;
   uint8_t bytes[]; /* the key's, and then the value's */
 };
 
@@ -31,8 +37,9 @@ struct map {
 
 struct client {
   struct map *map;
-  bool first;          /* all items count as its own */
-  uint32_t late, made; /* calls, and how often room was made */
+  bool first;                      /* all items count as its own */
+  uint32_t late, made;             /* calls, and how often room was made */
+  uint32_t time_to_live, deadline; /* deadline: of what is stored next */
   segcache_stats_t counts;
 };
 
@@ -61,6 +68,14 @@ static void drop(struct map *map, struct entry *entry) {
   map->versions[entry->bucket]++;
   map->count--;
   free(entry);
+}
+
+/* The entry of a key. One whose deadline has come is gone. */
+static struct entry *find(struct map *map, size_t bucket, const uint8_t *key, size_t length, uint32_t now) {
+  struct entry *entry = *place_of(map, bucket, key, length);
+  if (entry == NULL || now < entry->deadline) return entry;
+  drop(map, entry);
+  return NULL;
 }
 
 enum call { GETS, STORE, DELETE };
@@ -106,6 +121,7 @@ uint32_t segcache_raw_open(uint32_t keys, uint32_t threads, segcache_handle *cac
     if (client == NULL) abort();
     client->map = map;
     client->first = i == 0;
+    client->deadline = UINT32_MAX;
     clients[i] = (segcache_handle){client, 1};
   }
   map->clients = threads;
@@ -122,7 +138,7 @@ uint32_t segcache_raw_gets(segcache_handle *handle, const uint8_t *key, size_t k
   if (key_len < 1 || key_len > SEGCACHE_MAX_KEY) return SEGCACHE_BAD_KEY;
   pthread_mutex_lock(&map->lock);
   size_t bucket = bucket_of(key, key_len);
-  const struct entry *entry = *place_of(map, bucket, key, key_len);
+  const struct entry *entry = find(map, bucket, key, key_len, now);
   uint32_t fault = fault_of(client, GETS, entry != NULL, key, key_len);
   if (fault != SEGCACHE_OK) return pthread_mutex_unlock(&map->lock), fault;
   if (entry != NULL) {
@@ -157,10 +173,10 @@ static uint32_t if_same(const struct map *map, const struct entry *old, size_t b
 }
 
 static uint32_t store_locked(struct client *client, const uint8_t *key, size_t key_len, const uint8_t *value,
-                             size_t value_len, uint32_t version, condition *may) {
+                             size_t value_len, uint32_t version, condition *may, uint32_t now) {
   struct map *map = client->map;
   size_t bucket = bucket_of(key, key_len);
-  struct entry *old = *place_of(map, bucket, key, key_len);
+  struct entry *old = find(map, bucket, key, key_len, now);
   uint32_t status = fault_of(client, STORE, old != NULL, key, key_len);
   if (status == SEGCACHE_OK) status = may(map, old, bucket, version);
   if (status != SEGCACHE_OK) return status;
@@ -168,7 +184,7 @@ static uint32_t store_locked(struct client *client, const uint8_t *key, size_t k
   if (entry == NULL) return SEGCACHE_NO_ROOM;
   if (old != NULL) drop(map, old);
   if (map->count == map->most) drop(map, map->oldest), client->counts.keys_evicted++;
-  *entry = (struct entry){map->buckets[bucket], map->newest, NULL, bucket, key_len, value_len};
+  *entry = (struct entry){map->buckets[bucket], map->newest, NULL, bucket, key_len, value_len, client->deadline};
   memcpy(entry->bytes, key, key_len);
   if (value_len > 0) memcpy(entry->bytes + key_len, value, value_len);
   map->buckets[bucket] = entry;
@@ -188,7 +204,7 @@ static uint32_t store_if(segcache_handle *handle, const uint8_t *key, size_t key
   if (key_len < 1 || key_len > SEGCACHE_MAX_KEY) return SEGCACHE_BAD_KEY;
   if (value_len > SEGCACHE_MAX_VALUE) return SEGCACHE_BAD_VALUE;
   pthread_mutex_lock(&client->map->lock);
-  uint32_t status = store_locked(client, key, key_len, value, value_len, version, may);
+  uint32_t status = store_locked(client, key, key_len, value, value_len, version, may, now);
   pthread_mutex_unlock(&client->map->lock);
   return status;
 }
@@ -214,7 +230,7 @@ uint32_t segcache_raw_delete(segcache_handle *handle, const uint8_t *key, size_t
   if (now < FIRST_MOMENT) abort();
   if (key_len < 1 || key_len > SEGCACHE_MAX_KEY) return SEGCACHE_BAD_KEY;
   pthread_mutex_lock(&map->lock);
-  struct entry *entry = *place_of(map, bucket_of(key, key_len), key, key_len);
+  struct entry *entry = find(map, bucket_of(key, key_len), key, key_len, now);
   uint32_t fault = fault_of(client, DELETE, entry != NULL, key, key_len);
   if (fault != SEGCACHE_OK) return pthread_mutex_unlock(&map->lock), fault;
   if (entry != NULL) drop(map, entry);
@@ -239,8 +255,9 @@ uint32_t segcache_raw_index_stats(segcache_handle *handle, segcache_index_stats_
   return SEGCACHE_OK;
 }
 
-uint32_t segcache_raw_set_time_to_live(segcache_handle *client, uint32_t seconds) {
-  (void)client, (void)seconds;
+uint32_t segcache_raw_set_time_to_live(segcache_handle *handle, uint32_t seconds) {
+  struct client *client = handle->at;
+  client->time_to_live = seconds;
   return SEGCACHE_OK;
 }
 
@@ -249,12 +266,15 @@ uint32_t segcache_raw_keep_from(segcache_handle *client, uint32_t cutoff) {
   return SEGCACHE_OK;
 }
 
-/* Only counts itself: a segment refilled, and two items kept. */
+/* Only counts itself, a segment refilled and two items kept, and sets the deadline. */
 uint32_t segcache_raw_make_room(segcache_handle *handle, uint32_t now) {
   struct client *client = handle->at;
+  uint32_t half = client->time_to_live > 1 ? client->time_to_live / 2 : 1;
   if (now < FIRST_MOMENT) abort();
   pthread_mutex_lock(&client->map->lock);
-  client->made++;
+  if (client->made++ == 0 && client->time_to_live == NO_ROOM_AT_FIRST)
+    return pthread_mutex_unlock(&client->map->lock), (uint32_t)SEGCACHE_NO_ROOM;
+  if (client->time_to_live > 0) client->deadline = now + client->time_to_live - (now + client->time_to_live) % half;
   client->counts.segments_refilled++;
   client->counts.items_kept += 2;
   pthread_mutex_unlock(&client->map->lock);

@@ -25,9 +25,18 @@ def check(right, what):
             leave()
 
 
+class Server(subprocess.Popen):
+    """A server's process. Where a test is broken off, it doesn't wait for the server's end."""
+
+    def __exit__(self, kind, *others):
+        if kind is not None:
+            self.kill()
+        return super().__exit__(kind, *others)
+
+
 def start(words, **more):
     """Starts a server."""
-    servers.append(server := subprocess.Popen([*words], **more))
+    servers.append(server := Server([*words], **more))
     return server
 
 

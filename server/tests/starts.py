@@ -1,0 +1,290 @@
+# SPDX-License-Identifier: MIT
+"""Tests of how the server starts, what it says, whose rights it has, and how it ends."""
+
+import os
+import pwd
+import re
+import resource
+import shutil
+import signal
+import socket
+import subprocess
+import tempfile
+import time
+from pathlib import Path
+
+from talk import alone, check, connect, free_port, read_to, running, say, start, stats_of, wait_for
+
+FEW, MORE, MOST = 255, 2**31 - 1, 2**32 - 1
+SIZE = "an item's size is at least 1024, as in -I 1024, -I 512k or -I 1m"
+HALF = "an item has half of -m at most"
+ONLY_IDLE = "only idle_timeout=SECONDS is known"
+BITS = "needs access bits in octal, as 700"
+
+
+def out_of(name, least, most, text):
+    return f'{name}: needs a number from {least} to {most}, and not "{text}"'
+
+
+# Options that no server starts with, and the line that says why.
+BAD_OPTIONS = [
+    *[([name, text], out_of(name, least, most, text)) for name, least, most, texts in (
+        ("-c", 1, MORE, "0 2147483648 x -1"), ("-t", 1, 64, "0 65 x"), ("-m", 1, MOST, "0 4294967296 m"),
+        ("-b", 1, MORE, "0 2147483648"), ("-R", 1, MORE, "0 2147483648"), ("-p", 0, 65535, "65536 -2 x"),
+        ("--keys", 1, MOST, "0 4294967296"), ("--time-to-live", 1, MORE, "0 2147483648"),
+        ("--keep-from", 0, FEW, "256 x"), ("--idle_timeout", 0, MORE, "x 2147483648")) for text in texts.split()],
+    *[(["-I", text], f"-I: {SIZE}")
+      for text in ("1000", "1023", "x", "k", "", "0k", "4096m", "4194304k", "4294967296")],
+    *[(["-m", "2", "-I", text], f"-I: {HALF}") for text in ("1025k", "1048577", "2m", "4095m")],
+    *[(["-o", text], f"-o: {ONLY_IDLE}") for text in ("nonesuch", "idle_timeout", "idle_timeout=5,nonesuch")],
+    (["-o", "idle_timeout=x"], out_of("-o idle_timeout", 0, MORE, "x")),
+    (["-o", "idle_timeout=2147483648"], out_of("-o idle_timeout", 0, MORE, "2147483648")),
+    *[(["-a", text], f"-a: {BITS}") for text in ("9", "", "1000", "70x", "x")],
+    *[(["-B", text], "-B: only the text protocol is served: -B auto or -B ascii") for text in ("binary", "asci")],
+    (["-U", "11211"], "-U: there is no UDP: only -U 0"),
+    (["-x"], "-x: isn't known; -h shows those that are"),
+    (["--nonesuch"], "--nonesuch: isn't known; -h shows those that are"),
+    (["-p"], "-p: needs an argument; -h shows them all"),
+    (["--keys"], "--keys: needs an argument; -h shows them all"),
+    (["what"], "what: isn't an option; -h shows them"),
+    (["-p", "0"], "-p 0: needs a socket by -s"),
+]
+
+# Options with a number at its bound, by which a server starts, and what stats settings has of them.
+BOUNDS = [
+    ("-c 1 -t 1 -m 1 -b 1 -R 1", {"maxconns": "1", "num_threads": "1", "maxbytes": "1048576", "tcp_backlog": "1",
+                                  "reqs_per_event": "1"}),
+    ("-t 64 -m 2 -I 1m -c 2147483647 -b 2147483647 -R 2147483647 -o idle_timeout=0",
+     {"num_threads": "64", "maxconns": "2147483647", "tcp_backlog": "2147483647", "reqs_per_event": "2147483647",
+      "idle_timeout": "0"}),
+    ("--keys 1 --time-to-live 1 --keep-from 255 -o idle_timeout=2147483647 -m 2 -I 1024k",
+     {"keys": "1", "time_to_live": "1", "idle_timeout": "2147483647"}),
+    ("--keys 1 --time-to-live 2147483647 --idle_timeout 2147483647 -m 2 -I 1024",
+     {"time_to_live": "2147483647", "idle_timeout": "2147483647"}),
+]
+
+
+def ends_with(command, words, status, line, **more):
+    """No server starts: the program ends with a status and one line."""
+    ran = subprocess.run([*command, *words], capture_output=True, text=True, timeout=60, **more)
+    right = line(ran.stderr) if callable(line) else ran.stderr == f"segcache-server: {line}\n"
+    check(ran.returncode == status and right and ran.stdout == "",
+          f"{words}: {ran.returncode} {ran.stderr!r}, and not {status} {line}")
+
+
+def settings_of(port):
+    """The settings, once the connection is taken: with -c 1 the one that waited for the server has to be gone."""
+    for _ in range(200):
+        try:
+            with connect(port) as connection:
+                if settings := stats_of(connection, "settings"):
+                    return settings
+        except ConnectionResetError:
+            pass
+        time.sleep(0.05)
+    return {}
+
+
+def bad_options(command):
+    """Each gets one line that names it, and no server starts. At its bound a number is taken."""
+    for words, line in BAD_OPTIONS:
+        ends_with(command, ["-p", str(free_port()), *words], 64, line)
+    for words, shown in ((["-h"], "--memory-limit"), (["-V"], "segcache-server ")):
+        ran = subprocess.run([*command, *words], capture_output=True, text=True)
+        check(ran.returncode == 0 and shown in ran.stdout, f"{words} shows {shown}")
+    for words, wanted in BOUNDS:
+        with running(command, *words.split()) as port:
+            settings = settings_of(port)
+            check(wanted.items() <= settings.items(), f"{words}: {settings}")
+
+
+def bad_places(command):
+    """Places where no server can listen or write, and what says so."""
+    with tempfile.TemporaryDirectory() as folder, running(command) as port:
+        file, long_name = Path(folder, "file"), "/" + "n" * 107
+        file.touch()
+        taken = ",".join(f"127.0.0.{i}" for i in range(1, 10))
+        for words, line in ((["-p", str(port), "-l", "127.0.0.1"], "127.0.0.1: Address already in use"),
+                            (["-p", "-1", "-l", taken], "127.0.0.9: too many addresses"),
+                            (["-s", long_name], f"{long_name}: the name is too long"),
+                            (["-s", "/nowhere/s"], "/nowhere/s: No such file or directory"),
+                            (["-s", str(file)], f"{file}: the file is there and isn't a socket left over")):
+            ends_with(command, words, 71, f"to listen, {line}")
+        ends_with(command, ["-p", str(free_port()), "-l", "fooble.invalid"], 71,
+                  lambda text: re.fullmatch(r"segcache-server: to listen, fooble.invalid: .+\n", text))
+        ends_with(command, ["-p", "-1", "-P", "/nowhere/pid"], 1, "/nowhere/pid: No such file or directory")
+        for name, line in (("/nowhere/ports", "/nowhere/ports.new: No such file or directory"),
+                           (folder, f"{folder}: Is a directory"),
+                           ("/" + "n" * 4092, "/" + "n" * 4092 + ": the name is too long")):
+            ends_with(command, ["-p", "-1"], 1, f"to listen, {line}",
+                      env={**os.environ, "MEMCACHED_PORT_FILENAME": name})
+        Path(folder + ".new").unlink(missing_ok=True)
+        check(file.exists(), "what can't be listened at stays")
+        with connect(port) as connection:
+            say(connection, "mn\r\n", "MN\r\n")
+
+
+def files(command):
+    """A UNIX socket, its access bits, and what a server that was killed leaves."""
+    with tempfile.TemporaryDirectory() as folder:
+        path = Path(folder, "s")
+        for words, bits in ((["-a", "666"], 0o666), ([], 0o700), (["--unix-mask", "777"], 0o777)):
+            with start([*command, "-s", str(path), *words]) as server:
+                with socket.socket(socket.AF_UNIX) as connection:
+                    for _ in range(200):
+                        if connection.connect_ex(str(path)) == 0:
+                            break
+                        time.sleep(0.05)
+                    check(path.stat().st_mode & 0o777 == bits, f"{words}: {path.stat().st_mode:o}")
+                    say(connection, "mn\r\n", "MN\r\n")
+                    settings = stats_of(connection, "settings")
+                    check(settings["domain_socket"] == str(path) and settings["tcpport"] == "0", f"-s: {settings}")
+                    ends_with(command, ["-s", str(path)], 71,
+                              f"to listen, {path}: the file is there and isn't a socket left over")
+                    say(connection, "mn\r\n", "MN\r\n")
+                    check(path.is_socket(), "who finds the file in use leaves it")
+                server.send_signal(signal.SIGKILL if words else signal.SIGTERM)
+            check(path.exists() == bool(words), f"the socket's file is taken away: {words}")
+
+
+def background(command):
+    """A file with the process's number, the background, and a file with the ports."""
+    with tempfile.TemporaryDirectory() as folder:
+        pid_file, ports = Path(folder, "pid"), Path(folder, "ports")
+        environment = {**os.environ, "MEMCACHED_PORT_FILENAME": str(ports)}
+        words = [*command, "-p", "-1", "-l", "127.0.0.1,127.0.0.2", "-d", "-P", str(pid_file)]
+        check(subprocess.run(words, env=environment).returncode == 0, "-d ends well at once")
+        for _ in range(200):
+            if ports.exists():
+                break
+            time.sleep(0.05)
+        text = ports.read_text()
+        check(re.fullmatch(r"TCP INET: (\d+)\nTCP INET: \1\n", text), f"both addresses have one port: {text}")
+        port, pid = int(text.split()[2]), int(pid_file.read_text())
+        wait_for(port)
+        with connect(port) as connection, socket.create_connection(("127.0.0.2", port)) as other:
+            say(other, "mn\r\n", "MN\r\n")
+            check(os.getsid(pid) == pid, "-d leaves the terminal")
+            check(stats_of(connection)["pid"] == str(pid), "-P has the number of the process")
+            links = [Path(f"/proc/{pid}/fd/{i}").readlink() for i in range(3)]
+            check(links == [Path("/dev/null")] * 3, f"-d leaves input and outputs: {links}")
+        os.kill(pid, signal.SIGTERM)
+        for _ in range(200):
+            if not pid_file.exists():
+                break
+            time.sleep(0.05)
+        check(not pid_file.exists(), "and is taken away")
+
+
+def told(command):
+    """What is said on standard error: with -v connections that were turned away, with -vv commands, else nothing."""
+    for words, wanted in (([], r""), (["-vv"], r"(?s).*<\d+ set told 0 0 1\n<\d+ stats settings\n.*"),
+                          (["-v", "-c", "2"], r"(?:segcache-server: too many connections: [1-4] refused\n)+")):
+        words = [*command, "-p", str(port := free_port()), "-o", "idle_timeout=600", "-b", "7", "-B", "ascii", *words]
+        with start(words, stderr=subprocess.PIPE, text=True) as server:
+            wait_for(port, server)
+            with connect(port) as connection:
+                say(connection, "set told 0 0 1\r\nx\r\n", "STORED\r\n")
+                settings = stats_of(connection, "settings")
+                right = {"idle_timeout": "600", "tcp_backlog": "7", "binding_protocol": "ascii"}
+                check(right.items() <= settings.items(), f"the settings are {settings}")
+                alone(connection)
+                others = [connect(port) for _ in range(5 if "-c" in words else 0)]
+                for other in others[-3:]:
+                    read_to(other, b"\n")
+                    other.close()
+                if shutil.which("ss"):
+                    shown = subprocess.run(["ss", "-Hltn", f"sport = :{port}"], capture_output=True, text=True).stdout
+                    check(shown.split()[2] == "7", f"-b 7: {shown}")
+            server.send_signal(signal.SIGTERM)
+            text = server.stderr.read()
+        check(re.fullmatch(wanted, text), f"{words}: {text}")
+
+
+def user(command):
+    """-u gives root's rights up, all of them."""
+    if os.geteuid() != 0:
+        return print("left out: -u: only root can give rights up")
+    ends_with(command, ["-p", "-1", "-u", "nonesuch"], 71, "nonesuch: there is no such user")
+    nobody = pwd.getpwnam("nobody")
+    with running(command, "-u", "nobody") as port, connect(port) as connection:
+        status = Path(f"/proc/{stats_of(connection)['pid']}/status").read_text()
+        wanted = ((f"Uid:{f'{chr(9)}{nobody.pw_uid}' * 4}\n"), f"Gid:{f'{chr(9)}{nobody.pw_gid}' * 4}\n")
+        check(all(line in status for line in wanted) and re.search(r"^Groups:\s*$", status, re.M), f"-u: {status}")
+    return None
+
+
+def shutdown(command):
+    with running(command) as port, connect(port) as connection:
+        say(connection, "shutdown\r\n", "ERROR: shutdown not enabled\r\n")
+    for words in ("shutdown", "shutdown graceful"):
+        with start([*command, "-l", "127.0.0.1", "-p", str(port := free_port()), "-A"]) as server:
+            wait_for(port, server)
+            with connect(port) as connection:
+                say(connection, "shutdown x\r\n", "CLIENT_ERROR invalid shutdown mode\r\n")
+                connection.sendall(f"{words}\r\n".encode())
+                check(connection.recv(1) == b"", "shutdown ends the connection")
+            check(server.wait(timeout=60) == 0, "and the server")
+
+
+def ends(command):
+    """SIGINT ends the server as SIGTERM does. A reply to who is gone ends nothing."""
+    with start([*command, "-l", "127.0.0.1", "-p", str(port := free_port())]) as server:
+        wait_for(port, server)
+        with connect(port) as connection:
+            say(connection, "mn\r\n", "MN\r\n")
+            ignored = int(re.search(r"SigIgn:\s*(\w+)", Path(f"/proc/{server.pid}/status").read_text())[1], 16)
+            check(ignored >> signal.SIGPIPE - 1 & 1 == 1, "SIGPIPE is ignored")
+            server.send_signal(signal.SIGINT)
+            check(server.wait(timeout=60) == 0 and connection.recv(1) == b"", "SIGINT ends server and connections")
+
+
+def again(command):
+    """A port that a server has just left is free for the next one."""
+    port = free_port()
+    for _ in range(2):
+        with running(command, port=port), connect(port) as connection:
+            say(connection, "get a\r\nset a 0 0 1\r\nx\r\n", "END\r\nSTORED\r\n")
+
+
+def seen_by_all(command):
+    """All addresses are listened at, up to eight, and of both families."""
+    addresses = [f"127.0.0.{i}" for i in range(1, 9)]
+    families = [(socket.AF_INET6, "::1"), (socket.AF_INET, "127.0.0.1")]
+    try:
+        socket.create_server(("::1", 0), family=socket.AF_INET6).close()
+    except OSError:
+        families = families[1:]
+    for group in (addresses, [address for _, address in families], ["localhost"]):
+        words = [*command, "-p", str(port := free_port()), "-l", ",".join(group)]
+        with start(words) as server:
+            for address in group:
+                for _ in range(200):
+                    try:
+                        with socket.create_connection((address, port), timeout=30) as connection:
+                            say(connection, "mn\r\n", "MN\r\n")
+                        break
+                    except ConnectionRefusedError:
+                        time.sleep(0.05)
+                else:
+                    check(False, f"nothing listens at {address}")
+            server.send_signal(signal.SIGTERM)
+        check(server.returncode == 0, f"{group}: {server.returncode}")
+
+
+def descriptors_had(command):
+    """As many descriptors are asked for as -c needs and may be had. Where the threads get none, no server starts."""
+    for limits, had, line in (("40:4000", 400, ""), ("1000:4000", 1000, ""), ("400:400", 400, ""),
+                              ("40:90", 90, "segcache-server: -c 100: only 90 descriptors may be had\n")):
+        words = ["prlimit", f"--nofile={limits}", *command, "-p", str(port := free_port()), "-c", "100", "-t", "1"]
+        with start(words, stderr=subprocess.PIPE, text=True) as server:
+            wait_for(port, server)
+            with connect(port) as connection:
+                pid = int(stats_of(connection)["pid"])
+            soft, _ = resource.prlimit(pid, resource.RLIMIT_NOFILE)
+            server.send_signal(signal.SIGTERM)
+            text = server.stderr.read()
+        check(soft == had and text == line, f"--nofile={limits}: {soft} {text}")
+    ends_with(["prlimit", "--nofile=12:12", *command], ["-p", "-1", "-t", "16", "-c", "1"], 1,
+              lambda text: text == "segcache-server: -c 1: only 12 descriptors may be had\n"
+              "segcache-server: a thread can't be had: Too many open files\n")
