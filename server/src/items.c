@@ -23,7 +23,7 @@ static void raise_to(_Atomic uint64_t *number, uint64_t least) {
 void uniques_pass(struct uniques *uniques, uint32_t now) {
   uint32_t at = atomic_load(&uniques->flush_at);
   uint64_t begin = (uint64_t)now << SECOND_AT;
-  if (atomic_load_explicit(&uniques->last, memory_order_relaxed) < begin) raise_to(&uniques->last, begin);
+  raise_to(&uniques->last, begin);
   if (at != NEVER && now >= at && atomic_compare_exchange_strong(&uniques->flush_at, &at, NEVER))
     raise_to(&uniques->flushed, atomic_load(&uniques->last));
 }
@@ -58,9 +58,9 @@ enum finding items_find(const struct caller *caller, struct word key, struct fou
   size_t length = 0;
   enum store_status status = store_read(caller->client, key, caller->now, &found->item, &length, &found->version);
   found->entry = status == STORE_OK;
-  found->length = length < HEADER ? 0 : length - HEADER;
-  if (status == STORE_ABSENT) return MISSING;
-  return found->entry ? finding_of(caller, &found->item) : UNKNOWN;
+  if (!found->entry) return status == STORE_ABSENT ? MISSING : UNKNOWN;
+  found->length = length - HEADER;
+  return finding_of(caller, &found->item);
 }
 
 /* What goes to the store of an item. */

@@ -25,7 +25,7 @@ struct item {
   char data[MOST_DATA];
 };
 
-/* What a key had. */
+/* What a key had. Without an entry only `entry` is set. */
 struct found {
   struct item item;
   size_t length;    /* of the data */

@@ -49,7 +49,7 @@ static void put_number(struct head *head, char flag, uint64_t number) {
 
 static void put_expiry(struct head *head, uint32_t expires, uint32_t now) {
   if (expires == NEVER) put_text(head, " t-1");
-  else put_number(head, 't', expires > now ? expires - now : 0);
+  else put_number(head, 't', expires > now ? expires - now : 0); /* T can set one that has passed */
 }
 
 /* O and k, which each reply has. */
@@ -108,12 +108,12 @@ static const char *read_flag(struct meta *meta, struct word flag, uint32_t now) 
   }
 }
 
-/* Reads key and flags, which begin with the word `at`. NULL, or what is wrong with the line. */
+/* Reads the key, which has to be there, and flags, which begin with the word `at`. NULL, or what is wrong with them. */
 static const char *read_meta(struct meta *meta, const struct request *request, size_t at, uint32_t now) {
   bool seen[128] = {false};
   memset(meta, 0, offsetof(struct meta, decoded));
   meta->by = 1;
-  if (request->count < 2 || request->words[1].length > MOST_ALL_KEYS) return BAD_LINE;
+  if (request->words[1].length > MOST_ALL_KEYS) return BAD_LINE;
   meta->key = meta->shown = request->words[1];
   if (request->count > MOST_WORDS - 4) return "CLIENT_ERROR options flags are too long";
   meta->flags = request->words + at;

@@ -64,7 +64,7 @@ enum store_status store_read(struct store_client *client, struct word key, uint3
 static void renew(struct store_client *client, uint32_t now) {
   uint32_t time_to_live = client->plan.time_to_live;
   if (time_to_live == 0 || now < client->renew_at) return;
-  uint32_t half = time_to_live / 2 > 0 ? time_to_live / 2 : 1;
+  uint32_t half = time_to_live > 1 ? time_to_live / 2 : 1;
   if (segcache_make_room(&client->client, now) == SEGCACHE_OK) client->renew_at = now - now % half + half;
 }
 

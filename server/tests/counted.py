@@ -7,7 +7,7 @@ import time
 from pathlib import Path
 
 from lines import NOT_A_NUMBER, TOO_LARGE
-from talk import alone, check, connect, read, read_to, running, say, stats_of, store_all
+from talk import alone, check, connect, memory_of, read, read_to, running, say, stats_of, store_all
 
 BUSY = "SERVER_ERROR busy: others write to this key\r\n"
 NO_MEMORY = "SERVER_ERROR out of memory storing object\r\n"
@@ -119,6 +119,7 @@ def deeds(command):
             if int(counts["total_connections"]) == total + 5:
                 break
             counts = stats_of(connection)
+        counts = alone(connection)
         check(int(counts["total_connections"]) == total + 5, f"five more connections: {counts}")
         check(counts["connection_structures"] == "1" and counts["pointer_size"] == "64", f"one stands: {counts}")
         check(counts["accepting_conns"] == "1" and counts["conn_yields"] == "0", f"nothing waits: {counts}")
@@ -162,6 +163,9 @@ def names(command):
         connection.sendall(b"mn\r\n" * 12)
         read(connection, 12 * 4)
         check(stats_of(connection)["conn_yields"] == "2", "-R 5: twelve commands take three turns")
+        connection.sendall(b"mn\r\n" * 10)
+        read(connection, 10 * 4)
+        check(stats_of(connection)["conn_yields"] == "3", "and ten take two")
         settings = stats_of(connection, "settings")
         check(list(settings) == OF_SETTINGS.split(), f"the names of settings: {list(settings)}")
         wanted = {"maxbytes": str(4 << 20), "maxconns": "78", "udpport": "0", "inter": "127.0.0.1", "verbosity": "1",
@@ -173,6 +177,9 @@ def names(command):
         check(tasks == 3 or "/threads" in command[0], f"-t 2: {tasks} threads run")  # the sanitizer has one of its own
         say(connection, "verbosity 9\r\n", "OK\r\n")
         check(stats_of(connection, "settings")["verbosity"] == "2", "verbosity 9 is 2")
+        for level, shown in ((3, 2), (2, 2), (1, 1)):
+            say(connection, f"verbosity {level}\r\n", "OK\r\n")
+            check(stats_of(connection, "settings")["verbosity"] == str(shown), f"verbosity {level} is {shown}")
         say(connection, "verbosity 0\r\nversion\r\n", "OK\r\nVERSION 1.6.0-segcache\r\n")
         check(stats_of(connection, "settings")["verbosity"] == "0", "verbosity 0 is 0")
 
@@ -237,9 +244,10 @@ def busy_keys(command):
         for sent in ("set busy-a 0 0", "add busy-a 0 0", "replace busy-a 0 0", "append busy-a 0 0", "ms busy-a"):
             say(connection, f"{sent} 1\r\nx\r\n", BUSY)
         say(connection, "cas busy-a 0 0 1 1\r\nx\r\n", BUSY)
+        say(connection, "ms busy-a 1 k q\r\nx\r\nmd busy-a k q\r\nma busy-a k v q\r\n", BUSY * 3)
         counts = stats_of(connection)
-        check(counts["store_busy"] == "13" and counts["store_no_memory"] == "0", f"13 were busy: {counts}")
-        check(int(counts["busy_calls"]) >= 13 * 64 and counts["full_calls"] == "0", f"each was tried often: {counts}")
+        check(counts["store_busy"] == "16" and counts["store_no_memory"] == "0", f"16 were busy: {counts}")
+        check(int(counts["busy_calls"]) >= 16 * 64 and counts["full_calls"] == "0", f"each was tried often: {counts}")
         check(counts["delete_misses"] == counts["incr_misses"] == counts["cas_misses"] == "0", f"no misses: {counts}")
         say(connection, "get busy-a\r\nmg busy-a v\r\nme busy-a\r\n", "END\r\nEN\r\nEN\r\n")
         counts = stats_of(connection)
@@ -249,6 +257,13 @@ def busy_keys(command):
             f"STORED\r\n{BUSY}VALUE held-a 0 1\r\nx\r\nEND\r\n")
         say(connection, "set race-a 0 0 1\r\n1\r\nincr race-a 1\r\nget race-a\r\n",
             f"STORED\r\n{BUSY}VALUE race-a 0 1\r\n1\r\nEND\r\n")
+        say(connection, "set race-b 0 0 1\r\n1\r\n", "STORED\r\n")
+        before = stats_of(connection)
+        say(connection, "mg race-b h v k\r\nmg race-b T0 k q\r\nmn\r\n", "EN krace-b\r\nMN\r\n")
+        counts = stats_of(connection)
+        changed = {name for name in counts if name.startswith(("get_", "touch_")) and counts[name] != before[name]}
+        check(changed == {"get_misses", "touch_misses"}, f"two reads have missed: {changed}")
+        say(connection, "set gone-a 0 0 1\r\n1\r\ndelete gone-a\r\n", "STORED\r\nNOT_FOUND\r\n")
         say(connection, "set late-a 0 0 1\r\n0\r\nset late-a 0 0 1\r\n1\r\nincr late-a 1\r\nget late-a\r\n"
             "delete late-a\r\nadd late-a 0 0 1\r\n1\r\n",
             "STORED\r\n" * 2 + "2\r\nVALUE late-a 0 1\r\n2\r\nEND\r\nDELETED\r\nSTORED\r\n")
@@ -281,7 +296,7 @@ def full_keys(command):
 
 
 def renewals(command):
-    """Only over the stand-in, whose segments are counted exactly. At each multiple of half of --time-to-live one begins,
+    """Only over the stand-in, whose segments are counted exactly. One begins at each multiple of half of the time,
     whatever stores first. A value lives for half of that time or more, and no longer than that time."""
     def begun(connection, sent, wanted, segments):
         say(connection, sent, wanted)
@@ -310,10 +325,6 @@ def renewals(command):
         begun(connection, "set a 0 0 1\r\n1\r\nadd b 0 0 1\r\n1\r\nincr a 1\r\n", "STORED\r\nSTORED\r\n2\r\n", 0)
 
 
-def resident(counts):
-    return int(Path(f"/proc/{counts['pid']}/status").read_text().split("VmRSS:")[1].split()[0])
-
-
 def given_back(command):
     """Connections that come and go leave no memory behind. Without sanitizers."""
     with running(command, "-t", "1", "-m", "8", "-c", "40") as port, connect(port) as connection:
@@ -327,5 +338,5 @@ def given_back(command):
                     check(read(other, 21) == b"VALUE g 0 1\r\nx\r\nEND\r\n", "a reply, and a line's beginning")
                     other.close()
                 alone(connection)
-            sizes.append(resident(stats_of(connection)))
+            sizes.append(memory_of(stats_of(connection)["pid"]))
         check(sizes[2] - sizes[1] < 200, f"1,200 connections leave nothing behind: {sizes} KiB")

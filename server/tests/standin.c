@@ -6,9 +6,9 @@
  * It has few buckets, so that keys often share one: a cas then finds the bucket's version changed by others. It
  * evicts the oldest item once there are as many as it was opened for.
  *
- * With a time to live a value is absent from a deadline on, which make_room sets: the last multiple of half of that time
- * that comes in it. Some keys have faults, which the library seldom has: see fault_of. Each call has to have a moment,
- * which the server begins at 2: without one the program is aborted. */
+ * With a time to live a value is absent from a deadline on, which make_room sets: the last multiple of half of that
+ * time that comes in it. Some keys have faults, which the library seldom has: see fault_of. Each call has to have a
+ * moment, which the server begins at 2: without one the program is aborted. */
 #include "segcache.h"
 #include <pthread.h>
 #include <stdbool.h>
@@ -85,7 +85,7 @@ enum call { GETS, STORE, DELETE };
  *   busy-  each call is Busy              late-   is Busy twice, and then goes well
  *   slow-  a store is Busy if it's there  tight-  has no room until room was made twice
  *   held-  a delete is Busy               full-   has no room if it's there
- *   race-  a cas finds it changed */
+ *   race-  a cas finds it changed         gone-   a delete doesn't find it */
 static uint32_t fault_of(struct client *client, enum call call, bool there, const uint8_t *key, size_t length) {
   const struct {
     const char *name;
@@ -96,12 +96,13 @@ static uint32_t fault_of(struct client *client, enum call call, bool there, cons
                 {"held-", call == DELETE, SEGCACHE_BUSY},
                 {"late-", client->late++ % 3 < 2, SEGCACHE_BUSY},
                 {"tight-", call == STORE && client->made % 3 < 2, SEGCACHE_NO_ROOM},
-                {"full-", call == STORE && there, SEGCACHE_NO_ROOM}};
+                {"full-", call == STORE && there, SEGCACHE_NO_ROOM},
+                {"gone-", call == DELETE, SEGCACHE_NOT_FOUND}};
   for (size_t i = 0; i < sizeof faults / sizeof *faults; i++) {
     size_t known = strlen(faults[i].name);
     if (length < known || memcmp(key, faults[i].name, known) != 0 || !faults[i].now) continue;
     if (faults[i].status == SEGCACHE_BUSY) client->counts.busy++;
-    else client->counts.no_room++;
+    if (faults[i].status == SEGCACHE_NO_ROOM) client->counts.no_room++;
     return faults[i].status;
   }
   return SEGCACHE_OK;

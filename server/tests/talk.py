@@ -9,6 +9,7 @@ import socket
 import subprocess
 import time
 from contextlib import contextmanager
+from pathlib import Path
 
 faults = 0
 first = False  # the first fault ends the tests
@@ -153,6 +154,11 @@ def alone(connection):
         time.sleep(0.05)
     check(False, f"the others have ended: {counts}")
     return counts
+
+
+def memory_of(pid):
+    """The resident memory of a process, in KiB."""
+    return int(Path(f"/proc/{pid}/status").read_text().split("VmRSS:")[1].split()[0])
 
 
 def unique_of(connection, key):
