@@ -25,7 +25,7 @@ def faults_of_calls(text, calls, none):
     for call in re.finditer(calls, text):
         for begin, end in split(text[call.end() :]):
             argument = text[call.end() + begin : call.end() + end]
-            if argument.strip() not in ("0", none):
+            if argument.strip() not in ("0", "NULL", "false", none):
                 yield call.end() + begin, argument, " " + none
 
 

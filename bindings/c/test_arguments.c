@@ -469,6 +469,13 @@ static void test_texts(void) {
     snprintf(told, sizeof told, "%s", segcache_text(all[i].status));
     check(__LINE__, all[i].status, all[i].status, all[i].text);
   }
+  segcache_lookup lookup;
+  snprintf(told, sizeof told, "%u %u %zu", SEGCACHE_MAX_KEY, SEGCACHE_MAX_VALUE, sizeof lookup.value);
+#ifdef SEGCACHE_WIDE
+  check(__LINE__, SEGCACHE_SIZES, 250 << 16 | 4064, "250 4064 4064");
+#else
+  check(__LINE__, SEGCACHE_SIZES, 24 << 16 | 32, "24 32 32");
+#endif
 }
 
 int main(void) {

@@ -283,7 +283,8 @@ uint32_t segcache_raw_make_room(segcache_handle *handle, uint32_t now) {
 }
 
 uint32_t segcache_raw_give_back(segcache_handle *cache, segcache_handle *client) {
-  (void)cache;
+  struct map *map = cache->at;
+  map->clients--;
   free(client->at);
   *client = (segcache_handle){0};
   return SEGCACHE_OK;
@@ -291,6 +292,7 @@ uint32_t segcache_raw_give_back(segcache_handle *cache, segcache_handle *client)
 
 uint32_t segcache_raw_free(segcache_handle *cache) {
   struct map *map = cache->at;
+  if (map->clients > 0) return SEGCACHE_CLIENT_OUT;
   while (map->oldest != NULL) drop(map, map->oldest);
   pthread_mutex_destroy(&map->lock);
   free(map);
