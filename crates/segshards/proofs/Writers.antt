@@ -3,7 +3,7 @@ use Rattle.std.proofs.Common.{◌≡◌, ℕ, ◌+◌, ◌*◌, ◌<◌, ◌≤�
 use Rattle.std.specs.Int.{IsInRange, div_ceil}
 use Rattle.std.proofs.lemmas.Bool.{cases_lt}
 use Rattle.std.proofs.lemmas.Grind.{div_ceil_times}
-use Rattle.std.proofs.Math.Nat.{mul-le-mul_right}
+use Rattle.std.proofs.Math.Nat.{mul-le-mul_left, mul-le-mul_right}
 use Rattle.segword.specs.declared.shape.ShapeFault.{ShapeFault}
 use Rattle.segword.specs.declared.shape.ShapeFault.TheVariants.{BadBuckets, BadOverflow, BadPasses, BadSegments, BadRows, TooLarge}
 use Rattle.segword.specs.Shape.{HasRoomFor, IsFaultOfKeys, IsValid}
@@ -32,6 +32,26 @@ no_fault keys passes TooLarge range few is = let many = is.1 in absurd (omega (a
 -- the number of shards, from the steps that make it
 pub counted : (keys threads writers a b d share count : ℕ) → count ≡ max share 1 → share ≡ div_ceil (a * b) d → a ≡ keys → b ≡ threads → d ≡ 262144 * writers → count ≡ max (div_ceil (keys * threads) (262144 * writers)) 1
 counted keys threads writers a b d share count is_count is_share is_a is_b is_d = rw (is_count, is_share, is_a, is_b, is_d) refl
+
+-- there are no more shards of more keys each
+fewer_of_more : (x w : ℕ) → 1 ≤ w → div_ceil x (262144 * w) ≤ div_ceil x (200000 * w)
+fewer_of_more x w some = by (cases_lt (div_ceil x (200000 * w)) (div_ceil x (262144 * w)))
+  where
+    by : (div_ceil x (200000 * w) < div_ceil x (262144 * w)) ⊎ (div_ceil x (262144 * w) ≤ div_ceil x (200000 * w)) → div_ceil x (262144 * w) ≤ div_ceil x (200000 * w)
+    by (inr few) = few
+    by (inl more) =
+        let large = (div_ceil_times x (262144 * w) (omega (arith, some))).1 in
+        let small = (div_ceil_times x (200000 * w) (omega (arith, some))).0 in
+        let step : (div_ceil x (200000 * w) + 1) * (262144 * w) ≤ div_ceil x (262144 * w) * (262144 * w) = mul-le-mul_right (262144 * w) (omega (arith, more)) in
+        let spread : div_ceil x (200000 * w) * (200000 * w) ≤ div_ceil x (200000 * w) * (262144 * w) = mul-le-mul_left (div_ceil x (200000 * w)) (omega arith) in
+        absurd (omega (arith, large, small, step, spread))
+
+-- no more shards than are needed, from the steps that make their number
+pub as_needed : (keys threads writers a b d count least wanted : ℕ) → AreWriters threads writers → least ≡ max (div_ceil (keys * threads) (262144 * writers)) 1 → count ≤ max least wanted → wanted ≡ div_ceil (a * b) d → a ≡ keys → b ≡ threads → d ≡ 200000 * writers → count ≤ max 1 (div_ceil (keys * threads) (200000 * writers))
+as_needed keys threads writers a b d count least wanted are is_least few is_wanted is_a is_b is_d =
+    let fewer = fewer_of_more (keys * threads) writers are.1.0 in
+    let wanted_is : wanted ≡ div_ceil (keys * threads) (200000 * writers) = rw (is_wanted, is_a, is_b, is_d) refl in
+    omega (arith, is_least, few, wanted_is, fewer)
 
 -- a cache that needs more shards than there may be
 pub too_many : (keys threads writers count : ℕ) → AreWriters threads writers → count ≡ max (div_ceil (keys * threads) (262144 * writers)) 1 → 16384 < count → 4294967296 * writers < keys * threads

@@ -1,3 +1,4 @@
+pub mod Budget
 pub mod Client
 pub mod Clients
 pub mod Closing

@@ -2,6 +2,7 @@
 ghost use Rattle.std.specs.Prelude.{◌≡◌, ◌≤◌, [], All, Any, IfNone, IfOk, IfSome, vec_len};
 ghost use Rattle.segword.specs.Words.{Shape};
 ghost use Rattle.segindex.specs.Words.{shape_of};
+ghost use Rattle.segshards.specs.Budget.{AreWithin};
 ghost use Rattle.segshards.specs.Shards.{AreNew, AreOfShards, HaveRoomFor};
 ghost use Rattle.segshards.specs.Writers.{HaveRoomForWriters};
 
@@ -58,6 +59,24 @@ impl Cache {
             HaveRoomForWriters keys threads writers made.0.shards.items) }
     {
         match ShardPlan::for_writers(keys, threads, writers) {
+            Ok(plan) => Cache::of_shards(alloc, plan.shape, plan.count),
+            Err(fault) => Err(MakeFault::Shape(fault)),
+        }
+    }
+
+    /// A cache that takes no more than this number of bytes, also while it is opened, with room for
+    /// as many keys as that allows (`ShardPlan::for_bytes`). The rest is as of `for_keys`.
+    pub fn for_bytes(
+        alloc: Global,
+        bytes: u64,
+        threads: u32,
+    ) -> Result<(Cache, Vec<Vec<Pass>>), MakeFault>
+        ensures passes { IfOk result (λ made. AreOfShards made.0.shards.items made.1.items) }
+        ensures new { IfOk result (λ made.
+            (shape : Shape) × AreNew shape made.0.shards.items made.1.items) }
+        ensures within { IfOk result (λ made. AreWithin bytes threads made.0.shards.items) }
+    {
+        match ShardPlan::for_bytes(bytes, threads) {
             Ok(plan) => Cache::of_shards(alloc, plan.shape, plan.count),
             Err(fault) => Err(MakeFault::Shape(fault)),
         }

@@ -4,6 +4,7 @@
 #![tactic(auto)]
 
 mod ahead;
+mod budget;
 mod cache;
 mod client;
 mod closing;

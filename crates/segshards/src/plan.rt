@@ -1,11 +1,11 @@
 //! How many shards a cache has for a number of keys, and of which shape.
-ghost use Rattle.std.specs.Prelude.{◌≤◌, IfErr, IfOk};
+ghost use Rattle.std.specs.Prelude.{◌≤◌, IfErr, IfOk, max};
 
 use crate::shard::MOST_SHARDS;
 use segclient::{Shape, ShapeFault};
 
 // So many keys a shard has at most.
-const MOST_KEYS: u32 = 262_144;
+pub(crate) const MOST_KEYS: u32 = 262_144;
 
 // So many it has if there may be as many shards. Its buckets then have three keys each, and six
 // rows: few of them are ever full, also where every row is alive.
@@ -23,6 +23,7 @@ fn shards_for(least: u32, wanted: u64) -> u32
     requires fits { least ≤ MOST_SHARDS }
     ensures least { least ≤ result }
     ensures most { result ≤ MOST_SHARDS }
+    ensures needed { result ≤ max least wanted }
 {
     wanted.clamp(u64::from(least), MOST_SHARDS as u64) as u32
 }

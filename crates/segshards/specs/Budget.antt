@@ -1,0 +1,55 @@
+-- How many bytes a cache takes, and how large one is that may take a number of bytes.
+use Rattle.std.specs.Prelude.{◌≡◌, ℕ, ◌+◌, ◌*◌, ◌<◌, ◌≤◌, ◌⊎◌, List, All, length}
+use Rattle.std.specs.Int.{IsInRange}
+use Rattle.segword.specs.declared.shape.ShapeFault.{ShapeFault}
+use Rattle.segword.specs.declared.shape.ShapeFault.TheVariants.{BadPasses, TooLarge}
+use Rattle.segword.specs.Shape.{HasRoomFor, IsValid, word_count}
+use Rattle.segword.specs.Words.{Shape}
+use Rattle.segindex.specs.Words.{Index, shape_of}
+use Rattle.segshards.specs.declared.budget.TheConstants.{CLIENT_BYTES, ROW_BYTES, SEGMENT_BYTES}
+use Rattle.segshards.specs.declared.plan.ShardPlan.{ShardPlan}
+use Rattle.segshards.specs.declared.plan.TheConstants.{MOST_KEYS}
+use Rattle.segshards.specs.declared.shard.TheConstants.{MOST_SHARDS}
+
+-- what the clients of a shard keep beside its table
+abbrev pub clients_bytes : Shape → ℕ
+clients_bytes shape =
+    shape.passes * (shape.segments_each * (ROW_BYTES * shape.rows + SEGMENT_BYTES) + CLIENT_BYTES)
+
+-- So many shards of a shape take so many bytes, from their opening on: a table each and one more,
+-- and what their clients keep.
+abbrev pub bytes_of : Shape → ℕ → ℕ
+bytes_of shape count = (count + 1) * (8 * word_count shape) + count * clients_bytes shape
+
+-- a shard of the shape has room for so many keys, and a pass for each thread
+pub record IsShapeFor (keys threads : ℕ) (shape : Shape) : Type 0 where
+  pub valid : IsValid shape
+  pub passes : shape.passes ≡ threads
+  pub room : HasRoomFor keys shape
+
+-- so many shards with room for so many keys each take over so many bytes
+abbrev pub TakesOver : ℕ → ℕ → ℕ → ℕ → Type 0
+TakesOver bytes threads keys count =
+    (shape : Shape) × IsShapeFor keys threads shape × (bytes < bytes_of shape count)
+
+-- The shards take no more than so many bytes. With room for one key more each they would take
+-- more, or each has the most keys of a shard.
+pub record IsPlanWithin (bytes threads : ℕ) (plan : ShardPlan) : Type 0 where
+  pub each : ℕ
+  pub shape : IsShapeFor each threads plan.shape
+  pub some : 1 ≤ plan.count
+  pub few : plan.count ≤ MOST_SHARDS
+  pub within : bytes_of plan.shape plan.count ≤ bytes
+  pub full : (each ≡ MOST_KEYS) ⊎ TakesOver bytes threads (each + 1) plan.count
+
+-- The same of shards that are there.
+pub record AreWithin (bytes threads : ℕ) (indexes : List Index) : Type 0 where
+  pub shape : Shape
+  pub plan : IsPlanWithin bytes threads (record { shape = shape; count = length indexes })
+  pub shapes : All (λ i. shape_of i ≡ shape) indexes
+
+-- BadPasses: so many threads can't be. TooLarge: even one shard for no key takes more.
+abbrev pub IsFaultOfBudget : ℕ → ℕ → ShapeFault → Type 0
+IsFaultOfBudget bytes threads BadPasses = ¬ (IsInRange 1 64 threads)
+IsFaultOfBudget bytes threads TooLarge = IsInRange 1 64 threads × TakesOver bytes threads 0 1
+IsFaultOfBudget bytes threads fault = ⊥
