@@ -161,6 +161,7 @@ uint32_t segcache_raw_open(uint32_t keys, uint32_t threads, segcache_handle *cac
                            size_t clients_len);
 uint32_t segcache_raw_open_for_writers(uint32_t keys, uint32_t writers, segcache_handle *cache,
                                        segcache_handle *clients, size_t clients_len);
+uint32_t segcache_raw_open_bytes(uint64_t bytes, segcache_handle *cache, segcache_handle *clients, size_t clients_len);
 uint32_t segcache_raw_open_shape(const segcache_shape *shape, segcache_handle *cache, segcache_handle *clients,
                                  size_t clients_len);
 uint32_t segcache_raw_get(segcache_handle *client, const uint8_t *key, size_t key_len, uint8_t *value, size_t room,
@@ -279,6 +280,20 @@ static inline uint32_t segcache_open_for_writers(uint32_t keys, uint32_t threads
   memset(&made, 0, sizeof made);
   memset(raw, 0, sizeof raw);
   if (status == SEGCACHE_OK) status = segcache_raw_open_for_writers(keys, writers, &made, raw, count);
+  return segcache_hand_out(status, made, raw, count, cache, clients);
+}
+
+/* The same for a number of bytes: the largest cache for so many threads that takes no more, also while it is opened.
+   Notes and a close take more. All threads are to store about as much each. BAD_SHAPE comes also if even the smallest
+   cache takes more, which has some 70,000 bytes for one thread. Answers as segcache_open. */
+static inline uint32_t segcache_open_bytes(uint64_t bytes, uint32_t threads, segcache *cache,
+                                           segcache_client *clients) {
+  segcache_handle made, raw[SEGCACHE_MAX_THREADS];
+  uint32_t status = SEGCACHE_BAD_SHAPE, count = threads <= SEGCACHE_MAX_THREADS ? threads : SEGCACHE_MAX_THREADS;
+  memset(&made, 0, sizeof made);
+  memset(raw, 0, sizeof raw);
+  if (segcache_version() != SEGCACHE_VERSION_NUMBER) status = SEGCACHE_OTHER_VERSION;
+  else if (count == threads) status = segcache_raw_open_bytes(bytes, &made, raw, count);
   return segcache_hand_out(status, made, raw, count, cache, clients);
 }
 

@@ -7,10 +7,17 @@
 
 int checks, faults;
 
-/* --- Memory: how many blocks are out, and after how many more allocations one is refused --- */
+/* --- Memory: how many blocks and bytes are out, and after how many more allocations one is refused --- */
 
-atomic_long out;
+atomic_long out, bytes_out, most_bytes_out;
 long until_refused = -1;
+
+/* A block takes 16 bytes more than can be used of it, at most. */
+static void count_bytes(void *at, long sign) {
+  if (at == NULL) return;
+  bytes_out += sign * (long)(malloc_usable_size(at) + 16);
+  if (bytes_out > most_bytes_out) most_bytes_out = bytes_out;
+}
 
 void *__real_malloc(size_t);
 void *__real_realloc(void *, size_t);
@@ -48,17 +55,22 @@ static void *reused(void *at) {
 void *__wrap_malloc(size_t size) {
   void *at = refuses() ? NULL : reused(__real_malloc(size));
   if (at != NULL) out++;
+  count_bytes(at, 1);
   return at;
 }
 
 void *__wrap_realloc(void *old, size_t size) {
-  void *at = refuses() ? NULL : __real_realloc(old, size);
+  if (refuses()) return NULL;
+  count_bytes(old, -1);
+  void *at = __real_realloc(old, size);
+  count_bytes(at != NULL ? at : old, 1);
   if (at != NULL && old == NULL) out++;
   return at;
 }
 
 void __wrap_free(void *at) {
   if (at != NULL) out--;
+  count_bytes(at, -1);
   if (at != NULL && reuses && spare_count < SPARES) spares[spare_count++] = at;
   else __real_free(at);
 }
@@ -477,6 +489,7 @@ int main(void) {
   test_memory_of_close();
   test_shards();
   test_writers();
+  test_bytes();
   CHECK(out == before);
   printf("%d checks, %d faults\n", checks, faults);
   return faults == 0 ? 0 : 1;

@@ -15,6 +15,7 @@
 
 extern int checks, faults;
 extern atomic_long out;    /* blocks of memory that are out */
+extern atomic_long bytes_out, most_bytes_out; /* their bytes, and the most that were */
 extern long until_refused; /* so many allocations more, and one is refused; none if negative */
 
 /* From now on a block that is freed is the next one of its size again; and from now on no longer. */
@@ -46,5 +47,6 @@ void test_notes(void);
 void test_debug(void);
 void test_shards(void);
 void test_writers(void);
+void test_bytes(void);
 
 #endif

@@ -63,6 +63,12 @@ uint32_t segcache_raw_open_for_writers(uint32_t keys, uint32_t writers, H cache,
   fill(cache, 1);
   return fill(clients, count);
 }
+
+uint32_t segcache_raw_open_bytes(uint64_t bytes, H cache, H clients, size_t count) {
+  tell("open_bytes %llu %zu %zu %zu", (unsigned long long)bytes, count, empty(cache, 1), empty(clients, count));
+  fill(cache, 1);
+  return fill(clients, count);
+}
 uint32_t segcache_raw_open_shape(const segcache_shape *shape, H cache, H clients, size_t count) {
   tell("open_shape %p %zu %zu %zu", AT shape, count, empty(cache, 1), empty(clients, count));
   fill(cache, 1);
@@ -238,6 +244,8 @@ static void test_opening(void) {
   PASSES(segcache_open(99, 0, &cache, clients), "open 99 0 0 1 0");
   PASSES(segcache_open_for_writers(98, 64, 5, &cache, clients), "open_for_writers 98 5 64 1 64");
   PASSES(segcache_open_for_writers(97, 2, 0, &cache, clients), "open_for_writers 97 0 2 1 2");
+  PASSES(segcache_open_bytes(1ull << 40, 64, &cache, clients), "open_bytes 1099511627776 64 1 64");
+  PASSES(segcache_open_bytes(3, 2, &cache, clients), "open_bytes 3 2 1 2");
   PASSES(segcache_open_shape(&shape, &cache, clients), "open_shape %p 3 1 3", AT & shape);
   shape.passes = 64;
   PASSES(segcache_open_shape(&shape, &cache, clients), "open_shape %p 64 1 64", AT & shape);
@@ -255,6 +263,7 @@ static void test_opening(void) {
   memset(clients, 1, sizeof clients);
   STOPS(segcache_open(100, 65, &cache, clients), SEGCACHE_BAD_SHAPE);
   STOPS(segcache_open_for_writers(100, 65, 1, &cache, clients), SEGCACHE_BAD_SHAPE);
+  STOPS(segcache_open_bytes(1 << 20, 65, &cache, clients), SEGCACHE_BAD_SHAPE);
   shape.passes = 65;
   STOPS(segcache_open_shape(&shape, &cache, clients), SEGCACHE_BAD_SHAPE);
 }

@@ -55,6 +55,7 @@ pub struct Builder {
     keys: u32,
     threads: u32,
     writers: Option<u32>,
+    bytes: Option<u64>,
     shape: Option<Shape>,
 }
 
@@ -83,7 +84,15 @@ impl Builder {
         self
     }
 
-    /// The shape of one table, in place of the numbers of keys, threads and writers.
+    /// How many bytes the cache may take, in place of the numbers of keys and writers. It is the largest that takes
+    /// no more, also while it is made. Notes and a close take more.
+    #[must_use]
+    pub fn bytes(mut self, bytes: u64) -> Builder {
+        self.bytes = Some(bytes);
+        self
+    }
+
+    /// The shape of one table, in place of the numbers of keys, threads, writers and bytes.
     #[must_use]
     pub fn shape(mut self, shape: Shape) -> Builder {
         self.shape = Some(shape);
@@ -107,12 +116,13 @@ impl Builder {
         let (at, len) = (clients.as_mut_ptr(), clients.len());
         // SAFETY: the handles are none and apart from each other, and the length is that of the list.
         let status = unsafe {
-            match (&self.shape, self.writers) {
-                (Some(shape), _) => raw::segcache_raw_open_shape(shape, &mut cache, at, len),
-                (None, Some(writers)) => {
+            match (&self.shape, self.bytes, self.writers) {
+                (Some(shape), _, _) => raw::segcache_raw_open_shape(shape, &mut cache, at, len),
+                (None, Some(bytes), _) => raw::segcache_raw_open_bytes(bytes, &mut cache, at, len),
+                (None, None, Some(writers)) => {
                     raw::segcache_raw_open_for_writers(self.keys, writers, &mut cache, at, len)
                 }
-                (None, None) => raw::segcache_raw_open(self.keys, self.threads, &mut cache, at, len),
+                (None, None, None) => raw::segcache_raw_open(self.keys, self.threads, &mut cache, at, len),
             }
         };
         if status != 0 {
@@ -135,7 +145,7 @@ impl Cache {
     /// Begins to say how large a cache is to be.
     #[must_use]
     pub fn builder() -> Builder {
-        Builder { keys: 10_000, threads: 1, writers: None, shape: None }
+        Builder { keys: 10_000, threads: 1, writers: None, bytes: None, shape: None }
     }
 
     /// Closes the cache, once its clients are dropped, and lists its content: table by table, each in the order

@@ -127,6 +127,17 @@ pub(crate) unsafe extern "C" fn segcache_raw_open_for_writers(
     tell(format!("open_for_writers {keys} {writers} {clients_len}"))
 }
 
+pub(crate) unsafe extern "C" fn segcache_raw_open_bytes(
+    bytes: u64,
+    cache: *mut Handle,
+    clients: *mut Handle,
+    clients_len: usize,
+) -> u32 {
+    fill(cache, 1, 1);
+    fill(clients, clients_len, 100);
+    tell(format!("open_bytes {bytes} {clients_len}"))
+}
+
 pub(crate) unsafe extern "C" fn segcache_raw_open_shape(
     shape: *const Shape,
     cache: *mut Handle,

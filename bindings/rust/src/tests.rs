@@ -181,8 +181,10 @@ fn a_builder_asks_for_what_it_was_told() {
     assert_eq!(calls()[0], "open 5 64 64");
     open(Cache::builder().keys(5).threads(3).writers(2));
     assert_eq!(calls()[0], "open_for_writers 5 2 3");
+    open(Cache::builder().keys(5).threads(3).writers(2).bytes(1 << 40));
+    assert_eq!(calls()[0], "open_bytes 1099511627776 3");
     let shape = Shape { buckets: 1, overflow: 2, passes: 64, segments_each: 4, rows: 5, first_version: 6 };
-    open(Cache::builder().keys(5).threads(3).writers(2).shape(shape));
+    open(Cache::builder().keys(5).threads(3).writers(2).bytes(1 << 20).shape(shape));
     assert_eq!(calls()[0], format!("open_shape {shape:?} 64"));
     open(Cache::builder().keys(5).threads(2).shape(shape));
     assert_eq!(calls()[0], format!("open_shape {shape:?} 64"));

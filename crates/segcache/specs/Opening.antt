@@ -6,6 +6,7 @@ use Rattle.std.specs.List.{AllZip}
 use Rattle.segword.specs.Words.{IsFirstFault, IsValid, Shape}
 use Rattle.segword.specs.declared.shape.ShapeFault.{ShapeFault}
 use Rattle.segshards.specs.declared.plan.ShardPlan.{ShardPlan}
+use Rattle.segshards.specs.Budget.{IsFaultOfBudget, IsPlanWithin}
 use Rattle.segshards.specs.Plan.{IsFaultOfPlan, IsPlanFor}
 use Rattle.segshards.specs.Writers.{IsFaultOfWriters, IsPlanForWriters}
 use Rattle.segcache.specs.declared.client.SharedClient.{SharedClient}
@@ -126,21 +127,30 @@ shape_from shape = record {
 abbrev pub one_of : Shape → ShardPlan
 one_of shape = record { shape = shape; count = 1 }
 
--- By such a plan, as above. BadShape comes also if there is none: then each handle is as it was.
-abbrev pub OpensKeys : ℕ → ℕ → Option Kept → Option Kept → List Handle → List Handle → Status
-    → Type 0
-OpensKeys keys threads before after clients next returned =
-    ((plan : ShardPlan) × IsPlanFor keys threads plan
-    × Opens plan before after clients next returned)
-    ⊎ ((fault : ShapeFault) × IsFaultOfPlan threads fault × (returned ≡ status.BadShape)
+-- By a plan of this kind, as above. BadShape comes also if a fault is in its way:
+-- then each handle is as it was.
+abbrev pub OpensBy : (ShardPlan → Type 0) → (ShapeFault → Type 0) → Option Kept → Option Kept
+    → List Handle → List Handle → Status → Type 0
+OpensBy IsPlan IsFault before after clients next returned =
+    ((plan : ShardPlan) × IsPlan plan × Opens plan before after clients next returned)
+    ⊎ ((fault : ShapeFault) × IsFault fault × (returned ≡ status.BadShape)
     × LeavesAll before after clients next)
 
--- By a plan for so many writers, and as many threads as handles, as above.
--- BadShape comes also if there is none: then each handle is as it was.
+-- a cache for so many keys
+abbrev pub OpensKeys : ℕ → ℕ → Option Kept → Option Kept → List Handle → List Handle → Status
+    → Type 0
+OpensKeys keys threads = OpensBy (IsPlanFor keys threads) (IsFaultOfPlan threads)
+
+-- a cache for so many writers, and as many threads as handles
 abbrev pub OpensForWriters : ℕ → ℕ → Option Kept → Option Kept → List Handle → List Handle
     → Status → Type 0
-OpensForWriters keys writers before after clients next returned =
-    ((plan : ShardPlan) × IsPlanForWriters keys (length clients) writers plan
-    × Opens plan before after clients next returned)
-    ⊎ ((fault : ShapeFault) × IsFaultOfWriters keys (length clients) writers fault
-    × (returned ≡ status.BadShape) × LeavesAll before after clients next)
+OpensForWriters keys writers before after clients =
+    OpensBy (IsPlanForWriters keys (length clients) writers)
+    (IsFaultOfWriters keys (length clients) writers) before after clients
+
+-- a cache that takes no more than so many bytes, for as many threads as handles
+abbrev pub OpensForBytes : ℕ → Option Kept → Option Kept → List Handle → List Handle → Status
+    → Type 0
+OpensForBytes bytes before after clients =
+    OpensBy (IsPlanWithin bytes (length clients)) (IsFaultOfBudget bytes (length clients))
+    before after clients

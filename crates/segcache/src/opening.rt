@@ -2,7 +2,8 @@
 ghost use Rattle.std.specs.Prelude.{◌≡◌, ◌≤◌, length, map};
 ghost use Rattle.segcache.specs.Exports.{Answers};
 ghost use Rattle.segcache.specs.Opening.{are_empty, one_of, Opens};
-ghost use Rattle.segcache.specs.Opening.{OpensForWriters, OpensKeys, put_in, shape_from, values_of};
+ghost use Rattle.segcache.specs.Opening.{OpensForBytes, OpensForWriters, OpensKeys};
+ghost use Rattle.segcache.specs.Opening.{put_in, shape_from, values_of};
 ghost use Rattle.segshards.specs.declared.shard.TheConstants.{MOST_SHARDS};
 
 use crate::handle::Handle;
@@ -60,6 +61,27 @@ pub extern "C" fn segcache_raw_open_for_writers(
         return Status::BadShape.number();
     };
     match ShardPlan::for_writers(keys, threads, writers) {
+        Ok(plan) => open(alloc, plan, cache, clients).number(),
+        Err(_) => Status::BadShape.number(),
+    }
+}
+
+/// Opens a cache that takes no more than so many bytes, and a client for each handle,
+/// in empty handles.
+#[unsafe(no_mangle)]
+pub extern "C" fn segcache_raw_open_bytes(
+    alloc: Global,
+    bytes: u64,
+    cache: &mut Handle,
+    clients: &mut [Handle],
+) -> u32
+    ensures { Answers result (OpensForBytes bytes cache.old.value cache.new.value
+        clients.old clients.new) }
+{
+    let Ok(threads) = u32::try_from(clients.len()) else {
+        return Status::BadShape.number();
+    };
+    match ShardPlan::for_bytes(bytes, threads) {
         Ok(plan) => open(alloc, plan, cache, clients).number(),
         Err(_) => Status::BadShape.number(),
     }
