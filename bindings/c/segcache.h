@@ -156,7 +156,7 @@ typedef struct segcache_lookup {
 /* --- The exports of the library. Programs call the functions below these. ---------------------------- */
 
 uint32_t segcache_raw_version(void);
-__attribute__((weak)) uint32_t segcache_raw_sizes(void); /* a library without it has keys of 24 and values of 32 */
+uint32_t segcache_raw_sizes(void);
 uint32_t segcache_raw_open(uint32_t keys, uint32_t threads, segcache_handle *cache, segcache_handle *clients,
                            size_t clients_len);
 uint32_t segcache_raw_open_for_writers(uint32_t keys, uint32_t writers, segcache_handle *cache,
@@ -217,9 +217,7 @@ static inline uint32_t segcache_version(void) { return segcache_raw_version(); }
 
 /* The library's longest key and value: 65,536 times the bytes of the one, and the bytes of the other. It is
    SEGCACHE_SIZES, if header and library belong together. */
-static inline uint32_t segcache_sizes(void) {
-  return segcache_raw_sizes == NULL ? (uint32_t)24 << 16 | 32 : segcache_raw_sizes();
-}
+static inline uint32_t segcache_sizes(void) { return segcache_raw_sizes(); }
 
 /* Why so many clients can't be opened: header and library don't belong together, or there are too many. OK, if they
    can. */
@@ -289,11 +287,11 @@ static inline uint32_t segcache_open_for_writers(uint32_t keys, uint32_t threads
 static inline uint32_t segcache_open_bytes(uint64_t bytes, uint32_t threads, segcache *cache,
                                            segcache_client *clients) {
   segcache_handle made, raw[SEGCACHE_MAX_THREADS];
-  uint32_t status = SEGCACHE_BAD_SHAPE, count = threads <= SEGCACHE_MAX_THREADS ? threads : SEGCACHE_MAX_THREADS;
+  uint32_t status = segcache_may_open(threads);
+  uint32_t count = threads <= SEGCACHE_MAX_THREADS ? threads : SEGCACHE_MAX_THREADS;
   memset(&made, 0, sizeof made);
   memset(raw, 0, sizeof raw);
-  if (segcache_version() != SEGCACHE_VERSION_NUMBER) status = SEGCACHE_OTHER_VERSION;
-  else if (count == threads) status = segcache_raw_open_bytes(bytes, &made, raw, count);
+  if (status == SEGCACHE_OK) status = segcache_raw_open_bytes(bytes, &made, raw, count);
   return segcache_hand_out(status, made, raw, count, cache, clients);
 }
 

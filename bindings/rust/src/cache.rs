@@ -102,10 +102,13 @@ impl Builder {
     /// Makes the cache and its clients, and takes their memory.
     ///
     /// # Errors
-    /// [`Error::BadShape`], [`Error::OutOfMemory`] and [`Error::OtherVersion`].
+    /// [`Error::BadShape`], [`Error::OutOfMemory`], [`Error::OtherVersion`] and [`Error::OtherSizes`].
     pub fn build(self) -> Result<(Cache, Vec<Client>), Error> {
         if crate::library_version() != crate::VERSION_NUMBER {
             return Err(Error::OtherVersion);
+        }
+        if crate::library_sizes() != crate::SIZES {
+            return Err(Error::OtherSizes);
         }
         let count = self.shape.map_or(self.threads, |shape| shape.passes);
         if count > 64 {

@@ -29,6 +29,8 @@ pub enum Error {
     Foreign,
     /// The archive has another version than the crate.
     OtherVersion,
+    /// The archive has longer or shorter keys or values than the crate.
+    OtherSizes,
     /// An answer that the call never gives; it would be a fault of the library.
     Unexpected(u32),
 }
@@ -65,6 +67,7 @@ impl fmt::Display for Error {
             Error::ClientOut => "a client of the cache is still there",
             Error::Foreign => "the note is of another cache",
             Error::OtherVersion => "the library has another version than the crate",
+            Error::OtherSizes => "the library has other sizes than the crate",
             Error::Unexpected(status) => return write!(f, "unexpected status {status}"),
         })
     }

@@ -19,6 +19,7 @@ thread_local! {
     static CALLS: RefCell<Vec<String>> = const { RefCell::new(Vec::new()) };
     static STATUS: Cell<u32> = const { Cell::new(0) };
     static LIBRARY: Cell<u32> = const { Cell::new(crate::VERSION_NUMBER) };
+    static SIZES: Cell<u32> = const { Cell::new(24 << 16 | 32) };
 }
 
 /// Sets the version of the library that is made up.
@@ -28,6 +29,15 @@ pub(crate) fn be_of_version(number: u32) {
 
 pub(crate) unsafe extern "C" fn segcache_raw_version() -> u32 {
     LIBRARY.with(Cell::get)
+}
+
+/// Sets the longest key and value of the library that is made up.
+pub(crate) fn be_of_sizes(key: u32, value: u32) {
+    SIZES.with(|it| it.set(key << 16 | value));
+}
+
+pub(crate) unsafe extern "C" fn segcache_raw_sizes() -> u32 {
+    SIZES.with(Cell::get)
 }
 
 /// Sets what the calls of this thread return from now on.

@@ -115,6 +115,16 @@ pub fn library_version() -> u32 {
     unsafe { raw::segcache_raw_version() }
 }
 
+/// The longest key and value of the crate, as the library says its own: 65,536 times the bytes of the one, and the bytes
+/// of the other.
+const SIZES: u32 = 24 << 16 | 32;
+
+/// The library's longest key and value.
+fn library_sizes() -> u32 {
+    // SAFETY: the call takes nothing, and reads nothing.
+    unsafe { raw::segcache_raw_sizes() }
+}
+
 /// A key of the content: 1 to 24 bytes.
 pub type Key = Bytes<24>;
 

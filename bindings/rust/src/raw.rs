@@ -41,6 +41,7 @@ pub(crate) use crate::fake::*;
 #[cfg(not(test))]
 extern "C" {
     pub(crate) fn segcache_raw_version() -> u32;
+    pub(crate) fn segcache_raw_sizes() -> u32;
     pub(crate) fn segcache_raw_open(keys: u32, threads: u32, cache: *mut Handle, clients: *mut Handle, clients_len: usize) -> u32;
     pub(crate) fn segcache_raw_open_for_writers(keys: u32, writers: u32, cache: *mut Handle, clients: *mut Handle, clients_len: usize) -> u32;
     pub(crate) fn segcache_raw_open_bytes(bytes: u64, cache: *mut Handle, clients: *mut Handle, clients_len: usize) -> u32;

@@ -1,6 +1,6 @@
 // SPDX-License-Identifier: MIT
 //! What each call hands to the library, and what it makes of each answer, over functions that are made up (`fake`).
-use crate::fake::{answer, be_of_version, calls, NO_HANDLE, VALUE, VERSION};
+use crate::fake::{answer, be_of_sizes, be_of_version, calls, NO_HANDLE, VALUE, VERSION};
 use crate::{Builder, Cache, Cas, Client, Error, Shape, Version};
 use std::num::NonZeroU8;
 
@@ -166,6 +166,7 @@ fn each_error_has_its_text() {
         (Error::ClientOut, "a client of the cache is still there"),
         (Error::Foreign, "the note is of another cache"),
         (Error::OtherVersion, "the library has another version than the crate"),
+        (Error::OtherSizes, "the library has other sizes than the crate"),
         (Error::Unexpected(99), "unexpected status 99"),
     ];
     for (error, text) in texts {
@@ -206,6 +207,18 @@ fn a_library_of_another_version_opens_nothing() {
         assert_eq!(calls().len(), 0);
     }
     be_of_version(crate::VERSION_NUMBER);
+    open(Cache::builder());
+}
+
+#[test]
+fn a_library_of_other_sizes_opens_nothing() {
+    for (key, value) in [(24, 33), (23, 32), (250, 4064)] {
+        be_of_sizes(key, value);
+        assert_eq!(Cache::builder().build().err(), Some(Error::OtherSizes));
+        assert_eq!(Cache::builder().threads(65).build().err(), Some(Error::OtherSizes));
+        assert_eq!(calls().len(), 0);
+    }
+    be_of_sizes(24, 32);
     open(Cache::builder());
 }
 
