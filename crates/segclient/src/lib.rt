@@ -17,6 +17,7 @@ mod room;
 mod segments;
 mod stats;
 mod tally;
+mod until;
 
 pub use all::{clients, into_passes, keep_back};
 pub use client::Client;
