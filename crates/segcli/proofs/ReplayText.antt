@@ -10,7 +10,7 @@ use Rattle.segcli.specs.Replayed.{cache_object, next_object, replay_json}
 
 -- what stands for totals beyond a list
 abbrev pub no_totals : CacheTotals
-no_totals = record { cache = no_cache; bytes = 0; counts = no_counts }
+no_totals = record { cache = no_cache; bytes = 0; counts = no_counts; lives = 0 }
 
 pub json_none : (totals : List CacheTotals) → length totals ≡ 0 → replay_json totals ≡ codes "{\"caches\":[]}"
 json_none [] none = refl

@@ -9,9 +9,11 @@ use Rattle.segreplay.specs.declared.cache.Policy.{Policy}
 use Rattle.segreplay.specs.declared.cache.Policy.TheVariants as policy
 use Rattle.segreplay.specs.declared.cache.Dealt.{Dealt}
 use Rattle.segreplay.specs.Caches.{caches_in, half_of, sizes_of}
+use Rattle.segreplay.specs.declared.lives.Lives.{Lives}
 use Rattle.segreplay.specs.declared.player.Player.{Player}
 use Rattle.segreplay.specs.declared.player.Turn.{Turn}
-use Rattle.segreplay.specs.Replays.{AllPlay}
+use Rattle.segreplay.specs.Lives.{lives_after, with_life_of}
+use Rattle.segreplay.specs.Replays.{AddsLives, AllPlay}
 use Rattle.segreplay.proofs.Steps.{plays_on}
 
 pub all_still : (players : List Player) → AllPlay [] players players
@@ -31,6 +33,13 @@ all_play_on turns more old between new one then = record {
       plays_on turns more (slice_index_or old n p) (slice_index_or between n p) (slice_index_or new n p) (one.each n p below)
       (then.each n p (subst (λ count. n < count) (sym one.long) below));
 }
+
+lives_on : (turns more : List Turn) (lives : List ℕ) → lives_after lives (turns ++ more) ≡ lives_after (lives_after lives turns) more
+lives_on [] more lives = refl
+lives_on (turn ∷ turns) more lives = lives_on turns more (with_life_of turn.request.verb turn.request.time_to_live lives)
+
+pub adds_on : (turns more : List Turn) (old between new : Lives) → AddsLives turns old between → AddsLives more between new → AddsLives (turns ++ more) old new
+adds_on turns more old between new one then = then ∙ ap (λ l. lives_after l more) one ∙ sym (lives_on turns more old.seen.items)
 
 -- what holds at any end holds at a good one
 pub on_ok : {A E P : Type 0} (end : Result A E) → P → OnOk end P

@@ -1,5 +1,5 @@
 -- What a replay counts of each command.
-use Rattle.std.specs.Prelude.{ℕ}
+use Rattle.std.specs.Prelude.{ℕ, Bool, true, false, if◌then◌else◌}
 use Rattle.segmodel.specs.Words.{DeleteAnswer}
 use Rattle.segmodel.specs.declared.answer.DeleteAnswer.TheVariants as delete
 use Rattle.segclient.specs.declared.put.PutAnswer.{PutAnswer}
@@ -19,6 +19,9 @@ no_counts = record {
   kept = 0;
   refused = 0;
   busy = 0;
+  stored = 0;
+  given = 0;
+  items = 0;
 }
 
 -- the answer to a put, counted
@@ -50,6 +53,18 @@ abbrev pub effort_counted : ℕ → ℕ → Counts → Counts
 effort_counted evicted kept c =
     record c { evicted = with_more c.evicted evicted; kept = with_more c.kept kept }
 
+-- a command put its key
+abbrev pub is_stored : Outcome → Bool
+is_stored (outcome.Miss put.Stored) = true
+is_stored (outcome.Set put.Stored) = true
+is_stored _ = false
+
+-- if it did, it was given this share of its time to live
+abbrev pub given_counted : Outcome → ℕ → Counts → Counts
+given_counted told given c =
+    if is_stored told
+    then record c { stored = with_more c.stored 1; given = with_more c.given given } else c
+
 -- the counts of two clients together
 abbrev pub together : Counts → Counts → Counts
 together a b = record {
@@ -61,4 +76,7 @@ together a b = record {
   kept = with_more a.kept b.kept;
   refused = with_more a.refused b.refused;
   busy = with_more a.busy b.busy;
+  stored = with_more a.stored b.stored;
+  given = with_more a.given b.given;
+  items = with_more a.items b.items;
 }

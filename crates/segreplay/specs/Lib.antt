@@ -1,5 +1,6 @@
 pub mod Words
 pub mod Lines
+pub mod Lives
 pub mod Counting
 pub mod Playing
 pub mod Traces

@@ -1,11 +1,13 @@
 -- How a client makes commands of a trace, and what it counts of them.
-use Rattle.std.specs.Prelude.{◌≡◌, ◌≢◌, ◌-◌, ℕ, List, [], ◌∷◌, if◌then◌else◌}
+use Rattle.std.specs.Prelude.{◌≡◌, ◌≢◌, ◌-◌, ℕ, List, [], ◌∷◌, if◌then◌else◌, unwrap_or}
 use Rattle.segmodel.specs.declared.answer.GetAnswer.TheVariants as get
 use Rattle.segclient.specs.declared.client.Client.{Client}
 use Rattle.segclient.specs.Client.{MakesCall}
-use Rattle.segclient.specs.Made.{DeletesKey, Gets}
+use Rattle.segclient.specs.Made.{DeletesKey, Gets, ReturnsTable}
 use Rattle.segclient.specs.Member.{SetsNow, SetsTimeToLive}
 use Rattle.segclient.specs.Puts.{Puts}
+use Rattle.segclient.specs.PutParts.{current_deadline}
+use Rattle.segindex.specs.declared.table_stats.IndexStats.{IndexStats}
 use Rattle.segreplay.specs.declared.counts.Counts.{Counts}
 use Rattle.segreplay.specs.declared.counts.Outcome.{Outcome}
 use Rattle.segreplay.specs.declared.counts.Outcome.TheVariants as outcome
@@ -13,7 +15,8 @@ use Rattle.segreplay.specs.declared.line.Request.{Request}
 use Rattle.segreplay.specs.declared.line.Verb.TheVariants as verb
 use Rattle.segreplay.specs.declared.player.Player.{Player}
 use Rattle.segreplay.specs.declared.player.Turn.{Turn}
-use Rattle.segreplay.specs.Counting.{counted, effort_counted}
+use Rattle.segreplay.specs.Counting.{counted, effort_counted, given_counted}
+use Rattle.segreplay.specs.Lives.{share_given}
 
 -- the client's clock shows the command's moment, and its time to live is the command's
 abbrev pub IsSetFor : Request → Client → Client → Type 0
@@ -43,18 +46,25 @@ abbrev pub Serves : List ℕ → Request → Outcome → Client → Client → T
 Serves value r told old new =
     (ready : Client) × IsSetFor r old ready × Makes value r told ready new
 
--- the counts after a command, with what its puts evicted and kept
-abbrev pub counted_too : Outcome → Client → Client → Counts → Counts
-counted_too told old new counts =
-    effort_counted (new.member.stats.keys_evicted - old.member.stats.keys_evicted)
-    (new.member.stats.items_kept - old.member.stats.items_kept) (counted told counts)
+-- which share of its time to live a command is given whose put was stored: by the deadline of
+-- the segment that the client stores into then
+abbrev pub given_to : Request → Client → ℕ
+given_to r client =
+    share_given r.moment r.time_to_live (unwrap_or (current_deadline client.member.pass) 0)
+
+-- the counts after a command, with what its puts evicted and kept, and what they were given
+abbrev pub counted_too : Outcome → Request → Client → Client → Counts → Counts
+counted_too told r old new counts =
+    given_counted told (given_to r new)
+    (effort_counted (new.member.stats.keys_evicted - old.member.stats.keys_evicted)
+    (new.member.stats.items_kept - old.member.stats.items_kept) (counted told counts))
 
 -- the command was made, and counted if it is to be
 pub record Takes (turn : Turn) (old new : Player) : Type 0 where
   pub outcome : Outcome
   pub serves : Serves old.value turn.request outcome old.client new.client
   pub counts : new.counts ≡ (if turn.is_counted
-      then counted_too outcome old.client new.client old.counts else old.counts)
+      then counted_too outcome turn.request old.client new.client old.counts else old.counts)
   pub cache : new.cache ≡ old.cache
   pub number : new.number ≡ old.number
   pub value : new.value ≡ old.value
@@ -69,3 +79,12 @@ abbrev pub Plays : List Turn → Player → Player → Type 0
 Plays [] old new = new ≡ old
 Plays (turn ∷ turns) old new =
     (between : Player) × TakesOwn turn old between × Plays turns between new
+
+-- The items were counted that stand in the client's segments: those that a key names.
+pub record CountsItems (old new : Player) : Type 0 where
+  pub told : IndexStats
+  pub reads : MakesCall (ReturnsTable told) old.client new.client
+  pub counts : new.counts ≡ record old.counts { items = told.named_rows }
+  pub cache : new.cache ≡ old.cache
+  pub number : new.number ≡ old.number
+  pub value : new.value ≡ old.value

@@ -4,6 +4,7 @@ use Rattle.segword.specs.Words.{value_limit}
 use Rattle.segreplay.specs.declared.cache.Cache.{Cache}
 use Rattle.segreplay.specs.declared.fault.TraceFault.{TraceFault}
 use Rattle.segreplay.specs.declared.fault.TraceFault.TheVariants as fault
+use Rattle.segreplay.specs.declared.lives.Lives.{Lives}
 use Rattle.segreplay.specs.declared.player.Player.{Player}
 use Rattle.segreplay.specs.declared.player.Turn.{Turn}
 use Rattle.segreplay.specs.declared.reading.Reading.{Reading}
@@ -13,7 +14,8 @@ use Rattle.segreplay.specs.declared.run.Replayed.{Replayed}
 use Rattle.segreplay.specs.declared.totals.CacheTotals.{CacheTotals}
 use Rattle.segreplay.specs.Caches.{AreFresh, bytes_of, caches_of, counts_after}
 use Rattle.segreplay.specs.Counting.{no_counts}
-use Rattle.segreplay.specs.Playing.{Plays}
+use Rattle.segreplay.specs.Lives.{lives_after, lives_of}
+use Rattle.segreplay.specs.Playing.{CountsItems, Plays}
 use Rattle.segreplay.specs.Traces.{EndsTrace, HandsOn}
 
 -- Each player made its own of these turns, in their order.
@@ -22,10 +24,21 @@ pub record AllPlay (turns : List Turn) (old new : List Player) : Type 0 where
   pub each : (n : ℕ) (p : Player) → n < length old
       → Plays turns (slice_index_or old n p) (slice_index_or new n p)
 
--- Some turns were handed on and made, or none.
-abbrev pub MakesSome : Reading → Reading → List Player → List Player → Type 0
-MakesSome old new players players' =
+-- Each player counted its items.
+pub record AllCount (old new : List Player) : Type 0 where
+  pub long : length new ≡ length old
+  pub each : (n : ℕ) (p : Player) → n < length old
+      → CountsItems (slice_index_or old n p) (slice_index_or new n p)
+
+-- The times to live of these turns were added.
+abbrev pub AddsLives : List Turn → Lives → Lives → Type 0
+AddsLives turns old new = new.seen.items ≡ lives_after old.seen.items turns
+
+-- Some turns were handed on and made, and their times to live added, or none were.
+abbrev pub MakesSome : Reading → Reading → List Player → List Player → Lives → Lives → Type 0
+MakesSome old new players players' lives lives' =
     (turns : List Turn) × HandsOn turns old new × AllPlay turns players players'
+    × AddsLives turns lives lives'
 
 abbrev pub rules_of : Plan → Rules
 rules_of plan = record { form = plan.form; clients = plan.shape.passes; warm = plan.warm }
@@ -34,31 +47,36 @@ rules_of plan = record { form = plan.form; clients = plan.shape.passes; warm = p
 abbrev pub value_of : ℕ → List ℕ
 value_of bytes = take (min bytes value_limit) (replicate value_limit 0)
 
--- the totals of these caches, the first of which has this number
-abbrev pub totals_from : ℕ → List Player → List Cache → List CacheTotals
-totals_from place players [] = []
-totals_from place players (cache ∷ caches) =
+-- the totals of these caches, the first of which has this number,
+-- over a trace with so many times to live
+abbrev pub totals_from : ℕ → ℕ → List Player → List Cache → List CacheTotals
+totals_from lives place players [] = []
+totals_from lives place players (cache ∷ caches) =
     record {
       cache = cache;
       bytes = bytes_of cache;
       counts = counts_after no_counts place players;
+      lives = lives;
     }
-    ∷ totals_from (place + 1) players caches
+    ∷ totals_from lives (place + 1) players caches
 
 -- the caches of a plan
 abbrev pub planned : Plan → List Cache
 planned plan = caches_of plan.policies.now plan.shape plan.sizes
 
 -- The bytes `seen` came. The commands of their lines were made by the plan's clients:
--- one for each pass of each of its caches. The totals are what these counted.
+-- one for each pass of each of its caches. The totals are what these counted, with the items that
+-- stood at the end, and how many times to live the commands had.
 pub record IsReplay (plan : Plan) (seen : List ℕ) (r : Replayed) : Type 0 where
   pub turns : List Turn
   pub starts : List Player
+  pub made : List Player
   pub ends : List Player
   pub ended : EndsTrace (rules_of plan) seen turns r.end
   pub fresh : AreFresh 0 (value_of plan.value_bytes) (planned plan) starts
-  pub plays : AllPlay turns starts ends
-  pub totals : r.totals.items ≡ totals_from 0 ends (planned plan)
+  pub plays : AllPlay turns starts made
+  pub counts : AllCount made ends
+  pub totals : r.totals.items ≡ totals_from (lives_of turns) 0 ends (planned plan)
 
 abbrev pub is_read_end : Result (Unit {0}) TraceFault → Bool
 is_read_end (Err fault.Read) = true

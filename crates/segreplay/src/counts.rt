@@ -1,8 +1,8 @@
 //! What a replay counts.
 ghost use Rattle.std.specs.Prelude.{◌≡◌};
 ghost use Rattle.segclient.specs.Counting.{with_more};
-ghost use Rattle.segreplay.specs.Counting.{counted, delete_counted, effort_counted, no_counts};
-ghost use Rattle.segreplay.specs.Counting.{put_counted, together};
+ghost use Rattle.segreplay.specs.Counting.{counted, delete_counted, effort_counted, given_counted};
+ghost use Rattle.segreplay.specs.Counting.{is_stored, no_counts, put_counted, together};
 
 use segclient::PutAnswer;
 use segindex::DeleteAnswer;
@@ -18,6 +18,22 @@ pub enum Outcome {
     GetBusy,
     Set(PutAnswer),
     Delete(DeleteAnswer),
+}
+
+impl Outcome {
+    /// Whether the command put its key.
+    pub fn is_stored(self) -> bool
+        ensures { result ≡ is_stored self }
+    {
+        match self {
+            Outcome::Miss(PutAnswer::Stored) | Outcome::Set(PutAnswer::Stored) => true,
+            Outcome::Miss(_)
+            | Outcome::Set(_)
+            | Outcome::Hit
+            | Outcome::GetBusy
+            | Outcome::Delete(_) => false,
+        }
+    }
 }
 
 /// How many commands a cache was asked, and what they came to.
@@ -37,6 +53,13 @@ pub struct Counts {
     pub refused: u64,
     /// Commands in which a call was Busy.
     pub busy: u64,
+    /// Puts that were stored.
+    pub stored: u64,
+    /// The shares of their times to live that these were given, all together.
+    /// Each is in hundredths of a hundredth.
+    pub given: u64,
+    /// Items that stood in the cache at the end.
+    pub items: u64,
 }
 
 // One more, but for the largest number.
@@ -60,6 +83,9 @@ impl Counts {
             kept: 0,
             refused: 0,
             busy: 0,
+            stored: 0,
+            given: 0,
+            items: 0,
         }
     }
 
@@ -118,6 +144,17 @@ impl Counts {
         self.kept = self.kept.saturating_add(kept);
     }
 
+    /// Counts a command that came to this, if it stored its key:
+    /// which share of its time to live it was given.
+    pub fn count_given(&mut self, outcome: Outcome, given: u64)
+        ensures { self.new ≡ given_counted outcome given self.old }
+    {
+        if outcome.is_stored() {
+            self.stored = one_more(self.stored);
+            self.given = self.given.saturating_add(given);
+        }
+    }
+
     /// The counts of two clients together.
     pub fn plus(self, more: Counts) -> Counts
         ensures { result ≡ together self more }
@@ -131,6 +168,9 @@ impl Counts {
             kept: self.kept.saturating_add(more.kept),
             refused: self.refused.saturating_add(more.refused),
             busy: self.busy.saturating_add(more.busy),
+            stored: self.stored.saturating_add(more.stored),
+            given: self.given.saturating_add(more.given),
+            items: self.items.saturating_add(more.items),
         }
     }
 }

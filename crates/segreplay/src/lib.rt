@@ -5,6 +5,7 @@ mod cache;
 mod counts;
 mod fault;
 mod line;
+mod lives;
 mod player;
 mod reading;
 mod run;

@@ -1,6 +1,7 @@
 //! A client that makes its commands of a trace, and counts what they came to.
 use crate::counts::{Counts, Outcome};
 use crate::line::{Request, Verb};
+use crate::lives::share_given;
 use segclient::{Client, GetAnswer};
 use segword::Value;
 
@@ -26,7 +27,8 @@ pub(crate) struct Player<'i> {
 impl<'i> Player<'i> {
     ghost use Rattle.std.specs.Prelude.{◌≡◌};
     ghost use Rattle.segreplay.specs.Counting.{no_counts};
-    ghost use Rattle.segreplay.specs.Playing.{Makes, Plays, Serves, Takes, TakesOwn};
+    ghost use Rattle.segreplay.specs.Playing.{CountsItems, given_to, Makes, Plays, Serves, Takes};
+    ghost use Rattle.segreplay.specs.Playing.{TakesOwn};
 
     pub(crate) fn new(client: Client<'i>, cache: usize, number: u32, value: Value) -> Player<'i>
         ensures client { result.client ≡ client.entry }
@@ -53,6 +55,13 @@ impl<'i> Player<'i> {
         }
     }
 
+    /// Counts the items that stand in its segments.
+    pub(crate) fn count_items(&mut self)
+        ensures { CountsItems self.old self.new }
+    {
+        self.counts.items = u64::from(self.client.index_stats().named_rows);
+    }
+
     // Makes a command if it is its own.
     fn take_own(&mut self, turn: &Turn)
         ensures { TakesOwn turn.now self.old self.new }
@@ -70,12 +79,25 @@ impl<'i> Player<'i> {
         let outcome = self.serve(&turn.request);
         if turn.is_counted {
             let after = self.client.stats();
+            let given = self.given_to(&turn.request);
             self.counts.count(outcome);
             self.counts.count_effort(
                 after.keys_evicted.saturating_sub(before.keys_evicted),
                 after.items_kept.saturating_sub(before.items_kept),
             );
+            self.counts.count_given(outcome, given);
         }
+    }
+
+    // Which share of its time to live a command is given that was stored now.
+    fn given_to(&self, request: &Request) -> u64
+        ensures { result ≡ given_to request.now self.now.client }
+    {
+        share_given(
+            request.moment,
+            request.time_to_live,
+            self.client.stores_until().unwrap_or(0),
+        )
     }
 
     // Makes a command at its moment.

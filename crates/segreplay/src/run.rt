@@ -1,13 +1,16 @@
 //! A replay: the commands of a trace, made by the clients of one cache or several.
 ghost use Rattle.std.specs.Prelude.{◌≡◌, ◌++◌, [], ℕ, List, false, IfOk, OnOk};
+ghost use Rattle.segreplay.specs.declared.player.Player.{Player};
 ghost use Rattle.segreplay.specs.declared.player.Turn.{Turn};
-ghost use Rattle.segreplay.specs.Playing.{Plays};
-ghost use Rattle.segreplay.specs.Replays.{AllPlay, is_read_end, IsReplay, MakesSome, value_of};
+ghost use Rattle.segreplay.specs.Playing.{CountsItems, Plays};
+ghost use Rattle.segreplay.specs.Replays.{AddsLives, AllCount, AllPlay, is_read_end, IsReplay};
+ghost use Rattle.segreplay.specs.Replays.{MakesSome, value_of};
 ghost use Rattle.segreplay.specs.Traces.{EndsTrace, HandsOn, HasRead};
 
 use crate::cache::{Made, Policy, caches_of, make_all, players_of};
 use crate::fault::{ReplayFault, TraceFault};
 use crate::line::Form;
+use crate::lives::Lives;
 use crate::player::{Player, Turn};
 use crate::reading::{Reading, Rules};
 use crate::totals::{CacheTotals, totals_of};
@@ -87,15 +90,32 @@ fn play_all<R: Threads + Sync, F: Follow>(
     );
 }
 
-// Makes the commands that were read.
+// Each player counts its items.
+fn count_all<R: Threads + Sync, F: Follow>(crew: &Crew<'_, R, F>, players: &mut [Player<'_>])
+    ensures { AllCount players.old players.new }
+{
+    for_each_mut(
+        crew.rt,
+        players,
+        crew.threads.max(1) as usize,
+        &|_number, player: &mut Player<'_>|
+            ensures { CountsItems player.old player.new }
+        { player.count_items() },
+    );
+}
+
+// Makes the commands that were read, and adds their times to live.
 fn make_turns<R: Threads + Sync, F: Follow>(
     crew: &Crew<'_, R, F>,
     players: &mut [Player<'_>],
+    lives: &mut Lives,
     reading: &mut Reading,
 )
     ensures plays { AllPlay reading.old.turns.items players.old players.new }
+    ensures lives { AddsLives reading.old.turns.items lives.old lives.new }
     ensures cleared { HandsOn reading.old.turns.items reading.old reading.new }
 {
+    lives.add_all(reading.turns.as_slice());
     play_all(crew, players, reading.turns.as_slice());
     reading.clear();
     crew.follow.made(reading.commands);
@@ -105,12 +125,13 @@ fn make_turns<R: Threads + Sync, F: Follow>(
 fn make_many<R: Threads + Sync, F: Follow>(
     crew: &Crew<'_, R, F>,
     players: &mut [Player<'_>],
+    lives: &mut Lives,
     reading: &mut Reading,
 )
-    ensures { MakesSome reading.old reading.new players.old players.new }
+    ensures { MakesSome reading.old reading.new players.old players.new lives.old lives.new }
 {
     if reading.turns.len() >= BATCH {
-        make_turns(crew, players, reading);
+        make_turns(crew, players, lives, reading);
     }
 }
 
@@ -119,6 +140,7 @@ fn read_all<R: Threads + Sync, S: Source, F: Follow>(
     crew: &Crew<'_, R, F>,
     source: &mut S,
     players: &mut [Player<'_>],
+    lives: &mut Lives,
     reading: &mut Reading,
 ) -> Result<(), TraceFault>
     requires works { S.has_failed source.old ≡ false }
@@ -126,7 +148,8 @@ fn read_all<R: Threads + Sync, S: Source, F: Follow>(
     ensures outcome { (seen : List ℕ) × (made : List Turn)
         × S.hands source.old seen source.new
         × AllPlay made players.old players.new
-        × EndsTrace reading.old.rules seen (made ++ reading.new.turns.items) result }
+        × EndsTrace reading.old.rules seen (made ++ reading.new.turns.items) result
+        × AddsLives made lives.old lives.new }
     ensures whole { OnOk result (S.is_at_end source.new) }
     ensures read { S.has_failed source.new ≡ is_read_end result }
 {
@@ -141,29 +164,33 @@ fn read_all<R: Threads + Sync, S: Source, F: Follow>(
         if let Err(fault) = reading.feed_all(&piece[..n]) {
             return Err(fault);
         }
-        make_many(crew, players, reading);
+        make_many(crew, players, lives, reading);
     }
     Err(TraceFault::TooLong)
 }
 
-// Reads the trace to its end, and makes its commands.
+// Reads the trace to its end, makes its commands, and counts the items that stand then.
 fn run<R: Threads + Sync, S: Source, F: Follow>(
     crew: &Crew<'_, R, F>,
     source: &mut S,
     players: &mut [Player<'_>],
+    lives: &mut Lives,
     mut reading: Reading,
 ) -> Result<(), TraceFault>
     requires works { S.has_failed source.old ≡ false }
     requires begun { HasRead reading.rules [] [] reading }
-    ensures outcome { (seen : List ℕ) × (turns : List Turn)
+    ensures outcome { (seen : List ℕ) × (turns : List Turn) × (made : List Player)
         × S.hands source.old seen source.new
-        × AllPlay turns players.old players.new
-        × EndsTrace reading.rules seen turns result }
+        × AllPlay turns players.old made
+        × AllCount made players.new
+        × EndsTrace reading.rules seen turns result
+        × AddsLives turns lives.old lives.new }
     ensures whole { OnOk result (S.is_at_end source.new) }
     ensures read { S.has_failed source.new ≡ is_read_end result }
 {
-    let end = read_all(crew, source, players, &mut reading);
-    make_turns(crew, players, &mut reading);
+    let end = read_all(crew, source, players, lives, &mut reading);
+    make_turns(crew, players, lives, &mut reading);
+    count_all(crew, players);
     end
 }
 
@@ -210,8 +237,9 @@ pub fn replay<R: Threads + Sync, S: Source, F: Follow>(
         threads: plan.shape.passes,
         follow,
     };
-    let end = run(&crew, source, players.as_mut_slice(), reading);
-    match totals_of(alloc, caches.as_slice(), players.as_slice()) {
+    let mut lives = Lives::new();
+    let end = run(&crew, source, players.as_mut_slice(), &mut lives, reading);
+    match totals_of(alloc, caches.as_slice(), players.as_slice(), lives.count()) {
         Ok(totals) => Ok(Replayed { totals, end }),
         Err(AllocError) => Err(ReplayFault::OutOfMemory),
     }

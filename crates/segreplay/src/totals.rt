@@ -16,6 +16,8 @@ pub struct CacheTotals {
     /// How many bytes its table and its clients' queues have.
     pub bytes: u64,
     pub counts: Counts,
+    /// How many different times to live the trace's commands had. 64 stands for 64 or more.
+    pub lives: usize,
 }
 
 // How many bytes the clients' queues have: 16 for each segment, and 3 for each of its rows.
@@ -54,14 +56,15 @@ fn counts_of(players: &[Player<'_>], cache: usize) -> Counts
     counts
 }
 
-/// The totals of each cache, by its players.
+/// The totals of each cache, by its players, over a trace with so many times to live.
 pub(crate) fn totals_of(
     alloc: Global,
     caches: &[Cache],
     players: &[Player<'_>],
+    lives: usize,
 ) -> Result<Vec<CacheTotals>, AllocError>
     requires { All HasValidShape caches.now }
-    ensures { IfOk result (λ totals. totals.items ≡ totals_from 0 players.now caches.now) }
+    ensures { IfOk result (λ totals. totals.items ≡ totals_from lives 0 players.now caches.now) }
 {
     let mut totals = Vec::new(alloc);
     for (place, cache) in caches.iter().enumerate() {
@@ -69,6 +72,7 @@ pub(crate) fn totals_of(
             cache: *cache,
             bytes: bytes_of(*cache),
             counts: counts_of(players, place),
+            lives,
         })?;
     }
     Ok(totals)

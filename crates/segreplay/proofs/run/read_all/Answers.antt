@@ -1,13 +1,13 @@
-use Rattle.std.proofs.Common.{◌++◌, ◌∙◌, [], ap, append-nil, subst, sym, take}
+use Rattle.std.proofs.Common.{◌++◌, ◌∙◌, [], ap, append-nil, refl, subst, sym, take}
 use Rattle.segreplay.specs.Traces.{EndsEarly, EndsTrace}
 use Rattle.segreplay.proofs.Feeding.{fault_ends, fed_not_read, line_ended, stopped, taken_not_read}
-use Rattle.segreplay.proofs.Lists.{all_play_on, all_still, on_ok}
+use Rattle.segreplay.proofs.Lists.{adds_on, all_play_on, all_still, on_ok}
 use Rattle.segreplay.proofs.run.read_all.Goals as goal
 
 pub loop-read-init : goal.loop-read-init
 loop-read-init g c = record {
   works = c.requires.works;
-  ran = ([], [], g.met.S.Source.hands_none c.args.source.now, all_still c.args.players.now, c.requires.begun);
+  ran = ([], [], g.met.S.Source.hands_none c.args.source.now, all_still c.args.players.now, c.requires.begun, refl);
 }
 
 pub returns-in_default-clause-outcome : goal.returns-in_default-clause-outcome
@@ -20,6 +20,7 @@ returns-in_default-clause-outcome g c =
       g.met.S.Source.hands_more _ _ _ _ _ ran.2 c.in_default.ensures.err,
       ran.3,
       subst (λ s. EndsEarly rules s turns) (sym (append-nil ran.0)) (stopped rules ran.0 ran.1 c.loop-read.reading ran.4),
+      ran.5,
     )
 
 pub returns-then-n-eq0-clause-outcome : goal.returns-then-n-eq0-clause-outcome
@@ -34,6 +35,7 @@ returns-then-n-eq0-clause-outcome g c =
       ran.3,
       subst (λ s. EndsTrace rules s (ran.1 ++ c.end_line.new.self.turns.items) c.end_line.result) (sym (append-nil ran.0))
           (line_ended rules ran.0 ran.1 c.loop-read.reading c.end_line.new.self ran.4 c.end_line.result c.end_line.ensures),
+      ran.5,
     )
 
 pub returns-then-n-eq0-clause-read : goal.returns-then-n-eq0-clause-read
@@ -52,6 +54,7 @@ returns-in-Err-clause-outcome g c =
       g.met.S.Source.hands_more _ _ _ _ _ ran.2 c.in-Ok.ensures.bytes,
       ran.3,
       fault_ends rules seen ran.1 c.feed_all.new.self c.in-Err.fault (c.in-Err.ensures rules ran.0 ran.1 ran.4),
+      ran.5,
     )
 
 pub returns-in-Err-clause-read : goal.returns-in-Err-clause-read
@@ -75,10 +78,11 @@ loop-read-preserved g c =
         g.met.S.Source.hands_more _ _ _ _ _ ran.2 c.in-Ok.ensures.bytes,
         all_play_on ran.1 some.0 _ _ _ ran.3 some.2,
         some.1 rules seen ran.1 (c.in_default-feed_all.ensures rules ran.0 ran.1 ran.4),
+        adds_on ran.1 some.0 _ _ _ ran.5 some.3,
       );
     }
 
 pub returns-clause-outcome : goal.returns-clause-outcome
 returns-clause-outcome g c =
     let ran = c.loop-read.invariant.ran in
-    (ran.0, ran.1, ran.2, ran.3, stopped c.args.reading.now.rules ran.0 ran.1 c.loop-read.reading ran.4)
+    (ran.0, ran.1, ran.2, ran.3, stopped c.args.reading.now.rules ran.0 ran.1 c.loop-read.reading ran.4, ran.5)
