@@ -1,5 +1,5 @@
 use Rattle.std.proofs.Common.{rules, ◌≡◌, ◌<◌, Some, arith}
-use Rattle.segmodel.proofs.room.Plain.room.Goals as goal
+use Rattle.segmodel.proofs.plain.Plain.room.Goals as goal
 
 pub used_rows-requires : goal.used_rows-requires
 used_rows-requires c =
