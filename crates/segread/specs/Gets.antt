@@ -11,6 +11,7 @@ use Rattle.segbase.specs.Words.{Board, count, locked_of, number, Pass, Place, po
 use Rattle.segbase.specs.Words.{SinceFirst, trace}
 use Rattle.segstore.specs.Words.{ChangesNothing, FoundItem, GoesOn, IsReader, IsReaderIn}
 use Rattle.segstore.specs.Words.{RaisesNothing, step_count, word_of_place}
+use Rattle.segread.specs.Loads.{look_steps}
 use Rattle.segread.specs.declared.scan.Hit.{Hit}
 use Rattle.segread.specs.declared.version.VersionLook.{VersionLook}
 use Rattle.segread.specs.declared.version.VersionLook.TheVariants as look
@@ -116,10 +117,11 @@ pub record IsMissed (shape : Shape) (key : List ℕ) (now from tries : ℕ) (p q
 -- ---- steps
 
 -- From one position to another the pass took at most a step for each word,
--- and fourteen for each time that it came into a segment. So many of them are left to take.
+-- and those of a coming for each time that it came into a segment, fourteen for a key of three
+-- words and a value of four. So many of them are left to take.
 pub record Strides (from to left : ℕ) (p q : Pass) : Type 0 where
-  pub most : step_count q + left + words_below from + 14 * count entered p
-      ≤ step_count p + words_below to + 14 * count entered q
+  pub most : step_count q + left + words_below from + look_steps * count entered p
+      ≤ step_count p + words_below to + look_steps * count entered q
   pub visits : PaysForGlances p q
 
 -- where one scan stopped, and the step that is left: to leave the segment of what was found

@@ -1,6 +1,6 @@
 -- What a hold says of the pass that has it, and what the calls of holds do.
-use Rattle.std.specs.Prelude.{◌≡◌, ◌≢◌, ◌↔◌, ℕ, ◌<◌, ◌≤◌, true, is_some, List, [], ◌∷◌, ◌++◌, Option, Some, None, IfSome}
-use Rattle.segword.specs.Words.{IsKey, IsValue, Shape}
+use Rattle.std.specs.Prelude.{◌≡◌, ◌≢◌, ◌↔◌, ℕ, ◌+◌, ◌<◌, ◌≤◌, true, is_some, List, [], ◌∷◌, ◌++◌, Option, Some, None, IfSome}
+use Rattle.segword.specs.Words.{IsKey, IsValue, Shape, value_width}
 use Rattle.segmodel.specs.declared.entry.Entry.TheVariants.{Refilled}
 use Rattle.segmodel.specs.Words.{after, Entry, IsBetween, present, stirred}
 use Rattle.segcore.specs.Event as event
@@ -73,12 +73,13 @@ pub record HoldsItem (b : Board) (key : List ℕ) (now : ℕ) (told : HoldAnswer
   pub costs : CostsOfHold p q
 
 -- The value that is read is the one that the pass holds.
--- Reading it changes nothing and costs nothing but five loads, and the hold stays.
+-- Reading it changes nothing and costs nothing but loads, one more than a value has words, and the
+-- hold stays.
 pub record ReadsRow (b : Board) (row : HeldRow) (told : List ℕ) (p q : Pass) : Type 0 where
   pub on : GoesOn b p q
   pub keeps : ChangesNothing p q
   pub costs_nothing : CostsNothing p q
-  pub steps : TakesAtMost 5 p q
+  pub steps : TakesAtMost (1 + value_width) p q
   pub hold : IsHeldRow b.shape row q
   pub value : IfSome (holding p) (λ held. told ≡ held.value)
 

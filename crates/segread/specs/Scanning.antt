@@ -13,6 +13,7 @@ use Rattle.segread.specs.declared.scan.Hit.{Hit}
 use Rattle.segread.specs.declared.scan.Scan.{Scan}
 use Rattle.segread.specs.declared.scan.Scan.TheVariants as scan
 use Rattle.segread.specs.Hits.{OnlyScans, TriesFew}
+use Rattle.segread.specs.Loads.{try_steps}
 
 -- ---- chains
 
@@ -96,9 +97,9 @@ left_of_scan (scan.Found hit) = 1
 left_of_scan (scan.Passed word tries) = 0
 left_of_scan scan.Busy = 0
 
--- a try takes seven steps, of which the last may be left
+-- a try takes so many steps, seven for a key of three words, of which the last may be left
 abbrev pub TriesInSeven : Keyed → Pass → Pass → Type 0
-TriesInSeven told p q = step_count q + left_of_try told ≤ step_count p + 7
+TriesInSeven told p q = step_count q + left_of_try told ≤ step_count p + try_steps
 
 -- where a scan ended: behind the item that it found, or else at a position
 abbrev pub end_of_scan : Shape → ℕ → Scan → Pass → ℕ
@@ -107,10 +108,10 @@ end_of_scan shape to (scan.Passed word tries) q = to
 end_of_scan shape to scan.Busy q = 32
 
 -- From one position to another the pass took at most a step for each word,
--- and seven for each time that it came into a segment. It came in, if a step is left.
+-- and those of a try for each time that it came into a segment. It came in, if a step is left.
 pub record Paces (from to left : ℕ) (p q : Pass) : Type 0 where
-  pub most : step_count q + left + words_below from + 7 * count entered p
-      ≤ step_count p + words_below to + 7 * count entered q
+  pub most : step_count q + left + words_below from + try_steps * count entered p
+      ≤ step_count p + words_below to + try_steps * count entered q
   pub came_in : count entered p + left ≤ count entered q
 
 -- the same from a place to where a scan ended
