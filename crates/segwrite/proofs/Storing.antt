@@ -102,7 +102,7 @@ one_used segment row x used = own_alike x segment (counted (row + 1)) one_more (
     same None is = refl
     same (Some own) is = ap (λ n. Some (counted (n + 1) own)) (sym (same_Some own.used row is))
 
-module _ (b : Board) (request : Request) (target : Target) (segment row : ℕ) (p q r : Pass) (next : IsNextRow b segment row p)
+module _ (b : Board) (request : Request) (target : Target) (segment row : ℕ) (p q r : Pass) (next : IsNextRow b request segment row p)
     (places : List ℕ) (m : AddsEvents b (fills (number p) segment row (row_of (key_of request) (value_of request)) places) p q) (d : AddsAtOnce b (linked_by b request segment row target.place q ∷ []) q r) where
   abbrev at : ℕ
   at = position b.shape (trace q) target.place

@@ -202,11 +202,11 @@ module _ (b : Board) (w : When) (request : Request) (key value words : List ℕ)
 
         -- what storing asks for
         pub may_store : (segment row tag : ℕ) → refusal ≡ None → (current_of p ≡ Some segment) × (used_of p segment ≡ Some row) × (row < b.shape.rows) → IsKey words → tag ≡ tag_of words
-            → IsPassOf b r × (KeepsSegments b r × (IsNextRow b segment row r × (Requests b request words value r × (IsKey words × (tag ≡ tag_of words × (HasCleanBit b r k × IsTarget b (key_of request) target r))))))
+            → IsPassOf b r × (KeepsSegments b r × (IsNextRow b request segment row r × (Requests b request words value r × (IsKey words × (tag ≡ tag_of words × (HasCleanBit b r k × IsTarget b (key_of request) target r))))))
         may_store segment row tag unrefused next key_of_words tagged =
             let same = there.ready.plain ∙ had.plain in let a = asks w key value now request asked in
             let stored = sym (subst (IsToldBy (reply_now b g request)) unrefused told) in
-            let row_is : IsNextRow b segment row r = record { current = ap (λ (x : PlainPart). x.current) same ∙ next.0; used = same_used p r segment same ∙ next.1; fits = next.2 } in
+            let row_is : IsNextRow b request segment row r = record { current = ap (λ (x : PlainPart). x.current) same ∙ next.0; used = same_used p r segment same ∙ next.1; fits = next.2 } in
             let requests : Requests b request words value r = record { of = (a.0 ∙ sym copied, a.1); stored = stored ∙ (λ i. reply_to request (is_some ((sym (there.same.finds (moment_of request))) i)) ((sym there.same.version) i)) } in
             (there.ready.moved.pass, (keeps, (row_is, (requests, (key_of_words, (tagged, (there.ready.clean, there.target_is)))))))
 

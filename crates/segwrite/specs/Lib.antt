@@ -3,6 +3,7 @@ pub mod Full
 pub mod Growing
 pub mod Presence
 pub mod Refusing
+pub mod Spans
 pub mod Steps
 pub mod Storing
 pub mod Telling

@@ -1,19 +1,24 @@
 -- What storing under a bucket's bit leaves, before the bit is given back.
-use Rattle.std.specs.Prelude.{◌≡◌, ℕ, ◌<◌, true, List, ◌∷◌, Some, None}
+use Rattle.std.specs.Prelude.{◌≡◌, ℕ, true, List, ◌∷◌, Some, None}
 use Rattle.segword.specs.Words.{row_of}
 use Rattle.segmodel.specs.declared.request.Reply.TheVariants.{Stored}
 use Rattle.segmodel.specs.Words.{after, key_of, reply_in, Request, value_of}
 use Rattle.segcore.specs.declared.event.Event.TheVariants.{Linked}
 use Rattle.segcore.specs.Words.{bucket_after, Event, HasBit}
 use Rattle.segbase.specs.Words.{AddsEvents, Board, current_of, number, Pass, seen, trace, used_of}
-use Rattle.segstore.specs.Words.{fills}
+use Rattle.segstore.specs.Words.{AreRows, fills}
 use Rattle.segwrite.specs.FirstEmpty.{LinkedFirst}
+use Rattle.segwrite.specs.Spans.{rows_of}
 
--- the row is the next one of the pass's current segment
-pub record IsNextRow (b : Board) (segment row : ℕ) (p : Pass) : Type 0 where
+-- the row is the next one of the pass's current segment, with so many rows from there on
+pub record AreNextRows (b : Board) (segment row rows : ℕ) (p : Pass) : Type 0 where
   pub current : current_of p ≡ Some segment
   pub used : used_of p segment ≡ Some row
-  pub fits : row < b.shape.rows
+  pub fits : AreRows b.shape row rows
+
+-- the row is the next one, with as many as a request's item takes
+abbrev pub IsNextRow : Board → Request → ℕ → ℕ → Pass → Type 0
+IsNextRow b request segment row p = AreNextRows b segment row (rows_of request) p
 
 -- the request is one to store this pair, and would be replied Stored now
 pub record Requests (b : Board) (request : Request) (key value : List ℕ) (p : Pass) : Type 0 where

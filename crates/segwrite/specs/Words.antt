@@ -1,11 +1,12 @@
 -- The words of this crate that others use, from one place.
 pub use Rattle.segwrite.specs.Full.{CanGrow, GrowsFor, HasNoWord, WasFull}
+pub use Rattle.segwrite.specs.Spans.{or_one, rows_of}
 pub use Rattle.segwrite.specs.Steps.{most_steps_of_delete, most_steps_of_row, most_steps_of_write}
 pub use Rattle.segwrite.specs.Steps.{most_tries_for_bit, most_tries_to_exchange, WritesInSteps}
 pub use Rattle.segwrite.specs.Storing.{IsNextRow}
 pub use Rattle.segwrite.specs.Telling.{cas_reply, IsTold, WasTold}
 pub use Rattle.segwrite.specs.Writes.{AddsReply, CostsOfWrite, Deletes, IsDeleteAnswer, IsSetAnswer}
-pub use Rattle.segwrite.specs.Writes.{IsWriteAnswer, one_more, UsesRow, Writes}
+pub use Rattle.segwrite.specs.Writes.{IsWriteAnswer, more, one_more, UsesRow, UsesRows, Writes}
 pub use Rattle.segwrite.specs.Writing.{IsEarlier, IsInChain}
 use Rattle.segwrite.specs.declared.find.Target as declared_target
 

@@ -12,25 +12,32 @@ use Rattle.segcore.specs.Words.{entered, glanced}
 use Rattle.segbase.specs.Words.{Board, count, current_of, locked_of, marked, number, OwnSegment}
 use Rattle.segbase.specs.Words.{Pass, SinceFirst, trace, with_own}
 use Rattle.segcore.specs.Mark as mark
-use Rattle.segstore.specs.Words.{AddsEntry, ChangesNothing, DrawsNothing, GoesOn, has_room, IsBusy}
+use Rattle.segstore.specs.Words.{AddsEntry, ChangesNothing, DrawsNothing, GoesOn, has_room_for, IsBusy}
 use Rattle.segstore.specs.Words.{memo, RaisesNothing, ReadsNothing, TakesAtMost, TakesOneBit}
 use Rattle.segwrite.specs.Presence.{CameIn, depends_on_key}
 use Rattle.segwrite.specs.FirstEmpty.{TookFirstEmpty}
+use Rattle.segwrite.specs.Spans.{rows_of}
 use Rattle.segwrite.specs.Full.{WasFull, GrowsFor}
 use Rattle.segwrite.specs.Steps.{most_steps_of_delete, WritesInSteps}
 
 -- ---- writes
 
--- one more row of an own segment is used
-abbrev pub one_more : OwnSegment → OwnSegment
-one_more own = record own { used = own.used + 1 }
+-- so many rows more of an own segment are used
+abbrev pub more : ℕ → OwnSegment → OwnSegment
+more rows own = record own { used = own.used + rows }
 
--- one more row of the pass's current segment is used,
+abbrev pub one_more : OwnSegment → OwnSegment
+one_more own = more 1 own
+
+-- so many rows more of the pass's current segment are used,
 -- and nothing else of what the pass keeps is changed
-pub record UsesRow (segment : ℕ) (p q : Pass) : Type 0 where
+pub record UsesRows (segment rows : ℕ) (p q : Pass) : Type 0 where
   pub current : current_of p ≡ Some segment
-  pub plain : q.plain ≡ with_own segment one_more p.plain
+  pub plain : q.plain ≡ with_own segment (more rows) p.plain
   pub memo : memo q ≡ memo p
+
+abbrev pub UsesRow : ℕ → Pass → Pass → Type 0
+UsesRow segment p q = UsesRows segment 1 p q
 
 -- the request has this reply, by an entry that stores nothing
 abbrev pub AddsReply : Request → Reply → Pass → Pass → Type 0
@@ -45,7 +52,7 @@ abbrev pub IsWriteAnswer : Shape → Request → WriteAnswer → Pass → Pass �
 IsWriteAnswer shape request write.Stored p q =
     (segment : ℕ)
     × AddsEntry (Wrote (number p) request reply.Stored (Some segment)) p q
-    × UsesRow segment p q
+    × UsesRows segment (rows_of request) p q
 IsWriteAnswer shape request write.NotStored p q = AddsReply request reply.NotStored p q
 IsWriteAnswer shape request write.Exists p q = AddsReply request reply.Exists p q
 IsWriteAnswer shape request write.NotFound p q = AddsReply request reply.NotFound p q
@@ -114,13 +121,13 @@ pub record CostsOfDelete (shape : Shape) (key : List ℕ) (told : DeleteAnswer) 
 -- ---- whole calls
 
 -- A set, an add, a replace or a cas has this answer.
--- NoRoom comes first, exactly if the pass has no row left.
+-- NoRoom comes first, exactly if the pass has too few rows left.
 -- Then comes Busy, always if the pass itself has the bucket locked.
 pub record Writes (b : Board) (request : Request) (told : WriteAnswer) (p q : Pass) : Type 0 where
   pub on : GoesOn b p q
   pub answer : IsWriteAnswer b.shape request told p q
-  pub no_room : (told ≡ write.NoRoom) ↔ (has_room b.shape p ≡ false)
-  pub locked : has_room b.shape p ≡ true
+  pub no_room : (told ≡ write.NoRoom) ↔ (has_room_for b.shape (rows_of request) p ≡ false)
+  pub locked : has_room_for b.shape (rows_of request) p ≡ true
       → locked_of p ≡ Some (bucket_of b.shape (key_of request))
       → told ≡ write.Busy
   pub costs : CostsOfWrite b.shape request told p q

@@ -4,6 +4,7 @@
 mod find;
 mod grow;
 mod removal;
+mod spans;
 mod write;
 
 pub use find::Target;

@@ -10,7 +10,8 @@ ghost use Rattle.segstore.specs.Words.{HasCleanBit, Idles, IsQuiet, IsSought, Ke
 ghost use Rattle.segstore.specs.Words.{MayEnterAny, memo, TakesAtMost};
 ghost use Rattle.segbase.specs.Words.{AddsLink, IsPassOf, number, position_at, seen, trace};
 ghost use Rattle.segwrite.specs.Presence.{PeeksFor};
-ghost use Rattle.segwrite.specs.Writes.{UsesRow, IsSetAnswer, Writes};
+ghost use Rattle.segwrite.specs.Spans.{rows_of};
+ghost use Rattle.segwrite.specs.Writes.{UsesRows, IsSetAnswer, Writes};
 ghost use Rattle.segwrite.specs.Writing.{Finds, IsTarget};
 ghost use Rattle.segwrite.specs.Storing.{IsNextRow, Requests, StoresUnderBit, HasWritten};
 ghost use Rattle.segwrite.specs.Refusing.{request_of, IsToldBy, reply_now, RefusesUnderBit};
@@ -19,6 +20,7 @@ ghost use Rattle.segwrite.specs.Steps.{most_steps_to_tell, most_tries_to_exchang
 
 use crate::find::{Target, present_word, search};
 use crate::grow::make_room;
+use crate::spans::use_rows;
 use segbase::{Board, Pass};
 use segmodel::WriteAnswer;
 use segstore::{RowRef, Sought, fill_row, next_row, take_to_write};
@@ -148,7 +150,7 @@ fn write(board: &Board, pass: &mut Pass, write: &WriteCall<'_>) -> (WriteAnswer,
         ≡ request_of write.now.when write.now.sought.key write.now.value.now write.now.clock }
     ensures writes { Writes board.now request result.0 pass.old pass.new }
 {
-    let Ok(row) = next_row(board, pass) else {
+    let Ok(row) = next_row(board, pass, &write.sought.key, write.value) else {
         return (WriteAnswer::NoRoom, None);
     };
     let bucket = write.sought.bucket;
@@ -255,12 +257,12 @@ pub(crate) fn refuse(board: &Board, pass: &mut Pass, bucket: u32)
     board.release(pass, bucket, false);
 }
 
-// Writes the pair into the next row, and lets the key's word name it.
+// Writes the pair into the next row, or from that one on into as many as it takes, and lets the key's word name it.
 fn store(board: &Board, pass: &mut Pass, target: Target, row: RowRef, write: &WriteCall<'_>)
     ghost request: { Request }
     requires pass { IsPassOf board.now pass.old }
     requires segments { KeepsSegments board.now pass.old }
-    requires next { IsNextRow board.now row.segment row.row pass.old }
+    requires next { IsNextRow board.now request row.segment row.row pass.old }
     requires request { Requests board.now request write.now.sought.key write.now.value.now
         pass.old }
     requires key { IsKey write.now.sought.key }
@@ -270,7 +272,7 @@ fn store(board: &Board, pass: &mut Pass, target: Target, row: RowRef, write: &Wr
     ensures stores { StoresUnderBit board.now request row.segment row.row pass.old pass.new }
     ensures steps { TakesAtMost (most_steps_of_row + most_tries_to_exchange) pass.old pass.new }
     ensures segments { KeepsSegments board.now pass.new }
-    ensures uses { UsesRow row.segment pass.old pass.new }
+    ensures uses { UsesRows row.segment (rows_of request) pass.old pass.new }
     ensures bit { HasWritten board.now pass.new (bucket_of board.now.shape (key_of request)) }
 {
     fill_row(board, pass, row, &write.sought.key, write.value);
@@ -281,7 +283,7 @@ fn store(board: &Board, pass: &mut Pass, target: Target, row: RowRef, write: &Wr
         row: row.row,
     };
     link(board, pass, target, item);
-    pass.set_used(row.segment, row.row + 1);
+    use_rows(pass, row, write.sought.key.span(write.value));
 }
 
 // Puts the item of a stored write into the key's word. If that has an item of the key, and a hit
