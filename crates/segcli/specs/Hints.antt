@@ -30,5 +30,18 @@ abbrev pub miss_hint : ℕ → List CacheTotals → List ℕ
 miss_hint warm [] = []
 miss_hint warm (t ∷ totals) = first_hint (are_mostly_first warm t.counts)
 
+-- a client keeps one time to live apart: that of its segment in use
+abbrev pub lives_hint : ℕ → List ℕ
+lives_hint lives =
+    if nat_lt 1 lives
+    then codes "the trace has more times to live than a client keeps apart: items can go early\n"
+    else []
+
+-- each of the totals has what is known of the trace
+abbrev pub trace_hint : List CacheTotals → List ℕ
+trace_hint [] = []
+trace_hint (t ∷ totals) = lives_hint t.lives
+
 abbrev pub hints_text : Replay → List CacheTotals → List ℕ
-hints_text asked totals = small_hint (rows_of asked.shape) ++ miss_hint asked.warm totals
+hints_text asked totals =
+    small_hint (rows_of asked.shape) ++ miss_hint asked.warm totals ++ trace_hint totals

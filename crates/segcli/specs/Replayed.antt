@@ -44,6 +44,10 @@ policy_text (policy.Cutoff least) = codes "cutoff:" ++ decimal least
 abbrev pub share : ℕ → ℕ → ℕ
 share hits gets = hits * 10000 / max gets 1
 
+-- which share of its time to live a put was given on average, in hundredths of a hundredth
+abbrev pub mean : ℕ → ℕ → ℕ
+mean given stored = given / max stored 1
+
 abbrev pub point : ℕ → List ℕ
 point places = if nat_lt places 10 then codes ".0" else codes "."
 
@@ -65,7 +69,9 @@ cache_line totals =
     ++ rate_part (codes " rate=") (share c.hits c.gets) ++ codes " sets=" ++ decimal c.sets
     ++ codes " deletes=" ++ decimal c.deletes ++ codes " evicted=" ++ decimal c.evicted
     ++ codes " kept=" ++ decimal c.kept ++ codes " refused=" ++ decimal c.refused
-    ++ codes " busy=" ++ decimal c.busy ++ codes "\n"
+    ++ codes " busy=" ++ decimal c.busy ++ codes " items=" ++ decimal c.items
+    ++ codes " lives=" ++ decimal totals.lives
+    ++ rate_part (codes " given=") (mean c.given c.stored) ++ codes "\n"
 
 -- ---- as JSON
 
@@ -80,7 +86,8 @@ cache_object totals =
     ++ codes ",\"sets\":" ++ decimal c.sets ++ codes ",\"deletes\":" ++ decimal c.deletes
     ++ codes ",\"evicted\":" ++ decimal c.evicted ++ codes ",\"kept\":" ++ decimal c.kept
     ++ codes ",\"refused\":" ++ decimal c.refused ++ codes ",\"busy\":" ++ decimal c.busy
-    ++ codes "}"
+    ++ codes ",\"items\":" ++ decimal c.items ++ codes ",\"lives\":" ++ decimal totals.lives
+    ++ rate_part (codes ",\"given\":") (mean c.given c.stored) ++ codes "}"
 
 -- such an object behind another one
 abbrev pub next_object : CacheTotals → List ℕ

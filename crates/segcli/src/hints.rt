@@ -1,13 +1,16 @@
 //! What is told on standard error of a replay that shows less than it may seem.
 ghost use Rattle.std.specs.Prelude.{◌≡◌, IfOk};
-ghost use Rattle.segcli.specs.Hints.{are_mostly_first, first_hint, hints_text, miss_hint};
-ghost use Rattle.segcli.specs.Hints.{small_hint, taken_away};
+ghost use Rattle.segcli.specs.Hints.{are_mostly_first, first_hint, hints_text, lives_hint};
+ghost use Rattle.segcli.specs.Hints.{miss_hint, small_hint, taken_away, trace_hint};
 
 use crate::asked::Replay;
 use crate::replayed::rows_of;
 use crate::totals::put;
 use segreplay::{CacheTotals, Counts};
 use std::alloc::{AllocError, Global};
+
+/// How many times to live a client keeps apart: that of the segment that it stores into.
+const CLASSES: usize = 1;
 
 fn small_hint(rows: u128) -> &'static [u8]
     ensures { result.now ≡ small_hint rows }
@@ -54,6 +57,25 @@ fn miss_hint(warm: u64, totals: &[CacheTotals]) -> &'static [u8]
     first_hint(are_mostly_first(warm, &totals[0].counts))
 }
 
+fn lives_hint(lives: usize) -> &'static [u8]
+    ensures { result.now ≡ lives_hint lives }
+{
+    if lives > CLASSES {
+        b"the trace has more times to live than a client keeps apart: items can go early\n"
+    } else {
+        b""
+    }
+}
+
+fn trace_hint(totals: &[CacheTotals]) -> &'static [u8]
+    ensures { result.now ≡ trace_hint totals.now }
+{
+    if totals.is_empty() {
+        return b"";
+    }
+    lives_hint(totals[0].lives)
+}
+
 /// The lines that are told of a replay, if there are any.
 pub fn hints_text(
     alloc: Global,
@@ -65,5 +87,6 @@ pub fn hints_text(
     let mut text = Vec::new(alloc);
     put(&mut text, small_hint(rows_of(asked.shape)))?;
     put(&mut text, miss_hint(asked.warm, totals))?;
+    put(&mut text, trace_hint(totals))?;
     Ok(text)
 }

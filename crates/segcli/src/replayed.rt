@@ -1,8 +1,8 @@
 //! What the program prints of a replay, and the plan of one that is asked for.
 ghost use Rattle.std.specs.Prelude.{◌≡◌, ◌++◌, codes, IfOk};
 ghost use Rattle.std.specs.List.{flat_map};
-ghost use Rattle.segcli.specs.Replayed.{cache_line, cache_object, IsPlanOf, next_object, point};
-ghost use Rattle.segcli.specs.Replayed.{policies_of, policy_text, rate_part, replay_json};
+ghost use Rattle.segcli.specs.Replayed.{cache_line, cache_object, IsPlanOf, mean, next_object};
+ghost use Rattle.segcli.specs.Replayed.{point, policies_of, policy_text, rate_part, replay_json};
 ghost use Rattle.segcli.specs.Replayed.{replay_text, rows_of, share, sizes_of};
 
 use crate::asked::{Format, Policies, Replay};
@@ -65,6 +65,13 @@ fn share(hits: u64, gets: u64) -> u128
     u128::from(hits) * 10_000 / u128::from(gets.max(1))
 }
 
+// Which share of its time to live a put was given on average, in hundredths of a hundredth.
+fn mean(given: u64, stored: u64) -> u128
+    ensures { result ≡ mean given stored }
+{
+    u128::from(given) / u128::from(stored.max(1))
+}
+
 // What stands before the places of a rate.
 fn point(places: u128) -> &'static [u8]
     ensures { result.now ≡ point places }
@@ -104,6 +111,9 @@ fn put_line(text: &mut Vec<u8>, totals: &CacheTotals) -> Result<(), AllocError>
     put_count(text, b" kept=", counts.kept)?;
     put_count(text, b" refused=", counts.refused)?;
     put_count(text, b" busy=", counts.busy)?;
+    put_count(text, b" items=", counts.items)?;
+    put_count(text, b" lives=", totals.lives)?;
+    put_rate(text, b" given=", mean(counts.given, counts.stored))?;
     put(text, b"\n")
 }
 
@@ -125,6 +135,9 @@ fn put_object(text: &mut Vec<u8>, totals: &CacheTotals) -> Result<(), AllocError
     put_count(text, b",\"kept\":", counts.kept)?;
     put_count(text, b",\"refused\":", counts.refused)?;
     put_count(text, b",\"busy\":", counts.busy)?;
+    put_count(text, b",\"items\":", counts.items)?;
+    put_count(text, b",\"lives\":", totals.lives)?;
+    put_rate(text, b",\"given\":", mean(counts.given, counts.stored))?;
     put(text, b"}")
 }
 

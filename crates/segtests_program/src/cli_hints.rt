@@ -12,6 +12,9 @@ const SMALL: &str = "the cache has at most 8 rows: --for-keys N makes room for N
 
 const FIRST: &str = "most misses are first requests of their keys, or came after a time to live\n";
 
+const LIVES: &str =
+    "the trace has more times to live than a client keeps apart: items can go early\n";
+
 /// A watch that keeps how many bytes are told of a replay.
 #[derive(Drop)]
 struct Told {
@@ -65,5 +68,19 @@ fn first_requests_are_told(rt: HostRuntime) {
         &["replay", "--for-keys=64", "--warm=1"],
         b"a\na\nb\n",
         &[],
+    );
+}
+
+// A delete puts nothing, so its time to live counts for nothing.
+#[test]
+fn more_times_than_a_client_keeps_apart_are_told(rt: HostRuntime) {
+    let words = ["replay", "--csv", "--for-keys=64"];
+    check_told(&rt, &words, b"0,a,set,10\n0,b,set,20\n", &[LIVES]);
+    check_told(&rt, &words, b"0,a,set,10\n0,b,delete,20\n", &[]);
+    check_told(
+        &rt,
+        &["replay", "--csv"],
+        b"0,a,get,10\n0,b,get,0\n",
+        &[SMALL, FIRST, LIVES],
     );
 }

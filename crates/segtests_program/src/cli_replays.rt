@@ -34,13 +34,13 @@ fn each_line_is_a_command(rt: HostRuntime) {
         &rt,
         &[],
         TRACE,
-        "default rows=32 bytes=3272 gets=4 hits=1 rate=25.00 sets=1 deletes=1 evicted=0 kept=0 refused=0 busy=0\n",
+        "default rows=32 bytes=3272 gets=4 hits=1 rate=25.00 sets=1 deletes=1 evicted=0 kept=0 refused=0 busy=0 items=2 lives=1 given=100.00\n",
     );
     check_totals(
         &rt,
         &["--policy=nothing", "--value-bytes", "0"],
         b"\nget get\nget\n\nset\nset set",
-        "nothing rows=32 bytes=3112 gets=3 hits=1 rate=33.33 sets=1 deletes=0 evicted=0 kept=0 refused=0 busy=0\n",
+        "nothing rows=32 bytes=3112 gets=3 hits=1 rate=33.33 sets=1 deletes=0 evicted=0 kept=0 refused=0 busy=0 items=2 lives=1 given=100.00\n",
     );
 }
 
@@ -50,7 +50,7 @@ fn totals_are_an_object(rt: HostRuntime) {
         &rt,
         &["--policy", "cutoff:3", "--format=json"],
         TRACE,
-        "{\"policy\":\"cutoff:3\",\"rows\":32,\"bytes\":3112,\"gets\":4,\"hits\":1,\"rate\":25.00,\"sets\":1,\"deletes\":1,\"evicted\":0,\"kept\":0,\"refused\":0,\"busy\":0}\n",
+        "{\"policy\":\"cutoff:3\",\"rows\":32,\"bytes\":3112,\"gets\":4,\"hits\":1,\"rate\":25.00,\"sets\":1,\"deletes\":1,\"evicted\":0,\"kept\":0,\"refused\":0,\"busy\":0,\"items\":2,\"lives\":1,\"given\":100.00}\n",
     );
 }
 
@@ -60,13 +60,13 @@ fn the_first_commands_are_not_counted(rt: HostRuntime) {
         &rt,
         &["--warm=2"],
         TRACE,
-        "default rows=32 bytes=3272 gets=2 hits=0 rate=0.00 sets=1 deletes=1 evicted=0 kept=0 refused=0 busy=0\n",
+        "default rows=32 bytes=3272 gets=2 hits=0 rate=0.00 sets=1 deletes=1 evicted=0 kept=0 refused=0 busy=0 items=2 lives=1 given=100.00\n",
     );
     check_totals(
         &rt,
         &["--warm=6"],
         TRACE,
-        "default rows=32 bytes=3272 gets=0 hits=0 rate=0.00 sets=0 deletes=0 evicted=0 kept=0 refused=0 busy=0\n",
+        "default rows=32 bytes=3272 gets=0 hits=0 rate=0.00 sets=0 deletes=0 evicted=0 kept=0 refused=0 busy=0 items=2 lives=1 given=0.00\n",
     );
 }
 
@@ -76,7 +76,7 @@ fn clients_share_the_keys(rt: HostRuntime) {
         &rt,
         &["--threads=2"],
         TRACE,
-        "default rows=64 bytes=5512 gets=4 hits=1 rate=25.00 sets=1 deletes=1 evicted=0 kept=0 refused=0 busy=0\n",
+        "default rows=64 bytes=5512 gets=4 hits=1 rate=25.00 sets=1 deletes=1 evicted=0 kept=0 refused=0 busy=0 items=2 lives=1 given=100.00\n",
     );
 }
 
@@ -87,7 +87,7 @@ fn a_key_expires_by_the_clock_of_its_line(rt: HostRuntime) {
         &rt,
         &["--csv", "--policy=nothing"],
         b"time,key,op,ttl\n0,a,set,10\n9,a,get,10\n10,a,get,10\n4294967295,b,get,0\n",
-        "nothing rows=32 bytes=3112 gets=3 hits=1 rate=33.33 sets=1 deletes=0 evicted=0 kept=0 refused=0 busy=0\n",
+        "nothing rows=32 bytes=3112 gets=3 hits=1 rate=33.33 sets=1 deletes=0 evicted=0 kept=0 refused=0 busy=0 items=2 lives=2 given=66.66\n",
     );
 }
 
@@ -98,7 +98,7 @@ fn a_long_key_goes_by_its_hash(rt: HostRuntime) {
         &rt,
         &[],
         b"abcdefghijklmnopqrstuvwxy\nabcdefghijklmnopqrstuvwxy\nabcdefghijklmnopqrstuvwxz\n",
-        "default rows=32 bytes=3272 gets=3 hits=1 rate=33.33 sets=0 deletes=0 evicted=0 kept=0 refused=0 busy=0\n",
+        "default rows=32 bytes=3272 gets=3 hits=1 rate=33.33 sets=0 deletes=0 evicted=0 kept=0 refused=0 busy=0 items=2 lives=1 given=100.00\n",
     );
 }
 
@@ -110,7 +110,7 @@ fn a_full_cache_evicts(rt: HostRuntime) {
         &["replay", "--rows=1", "--policy=nothing"],
         b"a\nb\nb\na\n",
         writes(
-            b"nothing rows=1 bytes=144 gets=4 hits=1 rate=25.00 sets=0 deletes=0 evicted=2 kept=0 refused=0 busy=0\n",
+            b"nothing rows=1 bytes=144 gets=4 hits=1 rate=25.00 sets=0 deletes=0 evicted=2 kept=0 refused=0 busy=0 items=1 lives=1 given=100.00\n",
         ),
     );
 }
@@ -126,7 +126,7 @@ fn a_long_trace_is_read_to_its_end(rt: HostRuntime) {
         &rt,
         &[],
         trace.as_slice(),
-        "default rows=32 bytes=3272 gets=5000 hits=4999 rate=99.98 sets=0 deletes=0 evicted=0 kept=0 refused=0 busy=0\n",
+        "default rows=32 bytes=3272 gets=5000 hits=4999 rate=99.98 sets=0 deletes=0 evicted=0 kept=0 refused=0 busy=0 items=1 lives=1 given=100.00\n",
     );
 }
 
@@ -178,12 +178,12 @@ fn each_size_has_rows_of_its_own(rt: HostRuntime) {
         ],
         b"a\na\na\nb\nc\nd\ne\nf\ng\nh\ni\nj\nk\nl\na\nm\nn\no\np\nq\nr\ns\nt\nu\nv\nw\nx\ny\nz\na\n",
         writes(
-            b"nothing rows=32 bytes=3112 gets=30 hits=4 rate=13.33 sets=0 deletes=0 evicted=0 kept=0 refused=0 busy=0
-nothing rows=16 bytes=1576 gets=30 hits=3 rate=10.00 sets=0 deletes=0 evicted=12 kept=0 refused=0 busy=0
-nothing rows=8 bytes=808 gets=30 hits=2 rate=6.66 sets=0 deletes=0 evicted=20 kept=0 refused=0 busy=0
-nothing rows=4 bytes=424 gets=30 hits=2 rate=6.66 sets=0 deletes=0 evicted=24 kept=0 refused=0 busy=0
-nothing rows=4 bytes=360 gets=30 hits=2 rate=6.66 sets=0 deletes=0 evicted=24 kept=0 refused=0 busy=0
-nothing rows=4 bytes=360 gets=30 hits=2 rate=6.66 sets=0 deletes=0 evicted=24 kept=0 refused=0 busy=0
+            b"nothing rows=32 bytes=3112 gets=30 hits=4 rate=13.33 sets=0 deletes=0 evicted=0 kept=0 refused=0 busy=0 items=26 lives=1 given=100.00
+nothing rows=16 bytes=1576 gets=30 hits=3 rate=10.00 sets=0 deletes=0 evicted=12 kept=0 refused=0 busy=0 items=15 lives=1 given=100.00
+nothing rows=8 bytes=808 gets=30 hits=2 rate=6.66 sets=0 deletes=0 evicted=20 kept=0 refused=0 busy=0 items=8 lives=1 given=100.00
+nothing rows=4 bytes=424 gets=30 hits=2 rate=6.66 sets=0 deletes=0 evicted=24 kept=0 refused=0 busy=0 items=4 lives=1 given=100.00
+nothing rows=4 bytes=360 gets=30 hits=2 rate=6.66 sets=0 deletes=0 evicted=24 kept=0 refused=0 busy=0 items=4 lives=1 given=100.00
+nothing rows=4 bytes=360 gets=30 hits=2 rate=6.66 sets=0 deletes=0 evicted=24 kept=0 refused=0 busy=0 items=4 lives=1 given=100.00
 ",
         ),
     );
@@ -192,7 +192,7 @@ nothing rows=4 bytes=360 gets=30 hits=2 rate=6.66 sets=0 deletes=0 evicted=24 ke
 // Checks that the third line is told as bad, behind the totals of the first.
 fn check_bad<R: Threads + Wait + AllocGlobal + Abort + Sync>(rt: &R, words: &[&str], trace: &[u8]) {
     let totals =
-        b"default rows=8 bytes=632 gets=1 hits=0 rate=0.00 sets=0 deletes=0 evicted=0 kept=0 refused=0 busy=0\n";
+        b"default rows=8 bytes=632 gets=1 hits=0 rate=0.00 sets=0 deletes=0 evicted=0 kept=0 refused=0 busy=0 items=1 lives=1 given=100.00\n";
     let ended = run(rt, words, trace);
     check_ended(
         rt,
@@ -271,7 +271,7 @@ fn spaces_cases_and_returns_count_for_nothing(rt: HostRuntime) {
         &rt,
         &["--policy=nothing"],
         b"GET a\r\nget a\r\nPut b\r\n\r\nDELETE a\r\n",
-        "nothing rows=32 bytes=3112 gets=2 hits=1 rate=50.00 sets=1 deletes=1 evicted=0 kept=0 refused=0 busy=0\n",
+        "nothing rows=32 bytes=3112 gets=2 hits=1 rate=50.00 sets=1 deletes=1 evicted=0 kept=0 refused=0 busy=0 items=1 lives=1 given=100.00\n",
     );
 }
 
@@ -295,7 +295,7 @@ fn check_explained<R: Threads + Wait + AllocGlobal + Abort + Sync>(
 ) {
     let ended = run(rt, words, trace);
     let written =
-        b"default rows=8 bytes=632 gets=1 hits=0 rate=0.00 sets=0 deletes=0 evicted=0 kept=0 refused=0 busy=0\n";
+        b"default rows=8 bytes=632 gets=1 hits=0 rate=0.00 sets=0 deletes=0 evicted=0 kept=0 refused=0 busy=0 items=1 lives=1 given=100.00\n";
     check_ended(
         rt,
         words,
@@ -353,7 +353,7 @@ fn a_failed_reader_loses_nothing(rt: HostRuntime) {
     devices.good = Some(4);
     let ended = run_with(&rt, &words, TRACE, devices);
     let totals =
-        b"default rows=8 bytes=632 gets=2 hits=1 rate=50.00 sets=0 deletes=0 evicted=0 kept=0 refused=0 busy=0\n";
+        b"default rows=8 bytes=632 gets=2 hits=1 rate=50.00 sets=0 deletes=0 evicted=0 kept=0 refused=0 busy=0 items=1 lives=1 given=100.00\n";
     check_ended(
         &rt,
         &words,

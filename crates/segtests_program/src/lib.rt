@@ -10,6 +10,8 @@ mod cli_help;
 #[cfg(test)]
 mod cli_hints;
 #[cfg(test)]
+mod cli_lives;
+#[cfg(test)]
 mod cli_loads;
 #[cfg(test)]
 mod cli_options;

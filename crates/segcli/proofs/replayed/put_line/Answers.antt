@@ -1,5 +1,5 @@
 use Rattle.std.proofs.Common.{◌++◌, ◌∙◌, List, ℕ, ap, codes, decimal}
-use Rattle.segcli.specs.Replayed.{policy_text, rate_part, rows_of, share}
+use Rattle.segcli.specs.Replayed.{mean, policy_text, rate_part, rows_of, share}
 use Rattle.segcli.proofs.TotalsText.{put_more, put_bytes, if_ok}
 use Rattle.segcli.proofs.replayed.put_line.Goals as goal
 
@@ -10,6 +10,7 @@ returns c =
     let old : List ℕ = c.args.text.now.items in
     let rows = c.in_ok-put_count.ensures.text ∙ ap (λ n. c.put_policy.new.text.items ++ codes " rows=" ++ decimal n) c.rows_of.ensures in
     let rate = c.in_ok-put_rate.ensures.text ∙ ap (λ n. c.put_count-4.new.text.items ++ rate_part (codes " rate=") n) c.share.ensures in
+    let given = c.in_ok-put_rate-2.ensures.text ∙ ap (λ n. c.put_count-12.new.text.items ++ rate_part (codes " given=") n) c.mean.ensures in
     let zero = put_more old (policy_text totals.cache.policy) (codes " rows=") (decimal (rows_of totals.cache.shape)) c.in_ok-put_policy.ensures.text rows in
     let one = put_more old _ (codes " bytes=") (decimal totals.bytes) zero c.in_ok-put_count-2.ensures.text in
     let two = put_more old _ (codes " gets=") (decimal t.gets) one c.in_ok-put_count-3.ensures.text in
@@ -21,4 +22,7 @@ returns c =
     let eight = put_more old _ (codes " kept=") (decimal t.kept) seven c.in_ok-put_count-8.ensures.text in
     let nine = put_more old _ (codes " refused=") (decimal t.refused) eight c.in_ok-put_count-9.ensures.text in
     let ten = put_more old _ (codes " busy=") (decimal t.busy) nine c.in_ok-put_count-10.ensures.text in
-    record { text = if_ok c.put.result (λ _ more. put_bytes old _ (codes "\n") ten more) c.put.ensures.text }
+    let eleven = put_more old _ (codes " items=") (decimal t.items) ten c.in_ok-put_count-11.ensures.text in
+    let twelve = put_more old _ (codes " lives=") (decimal totals.lives) eleven c.in_ok-put_count-12.ensures.text in
+    let thirteen = put_bytes old _ (rate_part (codes " given=") (mean t.given t.stored)) twelve given in
+    record { text = if_ok c.put.result (λ _ more. put_bytes old _ (codes "\n") thirteen more) c.put.ensures.text }

@@ -1,5 +1,5 @@
 use Rattle.std.proofs.Common.{◌++◌, ◌∙◌, List, ℕ, ap, codes, decimal}
-use Rattle.segcli.specs.Replayed.{policy_text, rate_part, rows_of, share}
+use Rattle.segcli.specs.Replayed.{mean, policy_text, rate_part, rows_of, share}
 use Rattle.segcli.proofs.TotalsText.{put_more, put_bytes, if_ok}
 use Rattle.segcli.proofs.replayed.put_object.Goals as goal
 
@@ -10,6 +10,7 @@ returns c =
     let old : List ℕ = c.args.text.now.items in
     let rows = c.in_ok-put_count.ensures.text ∙ ap (λ n. c.put_policy.new.text.items ++ codes "\",\"rows\":" ++ decimal n) c.rows_of.ensures in
     let rate = c.in_ok-put_rate.ensures.text ∙ ap (λ n. c.put_count-4.new.text.items ++ rate_part (codes ",\"rate\":") n) c.share.ensures in
+    let given = c.in_ok-put_rate-2.ensures.text ∙ ap (λ n. c.put_count-12.new.text.items ++ rate_part (codes ",\"given\":") n) c.mean.ensures in
     let begun = put_bytes old (codes "{\"policy\":\"") (policy_text totals.cache.policy) c.in_ok-put.ensures.text c.in_ok-put_policy.ensures.text in
     let zero = put_more old _ (codes "\",\"rows\":") (decimal (rows_of totals.cache.shape)) begun rows in
     let one = put_more old _ (codes ",\"bytes\":") (decimal totals.bytes) zero c.in_ok-put_count-2.ensures.text in
@@ -22,4 +23,7 @@ returns c =
     let seven = put_more old _ (codes ",\"kept\":") (decimal t.kept) six c.in_ok-put_count-8.ensures.text in
     let eight = put_more old _ (codes ",\"refused\":") (decimal t.refused) seven c.in_ok-put_count-9.ensures.text in
     let nine = put_more old _ (codes ",\"busy\":") (decimal t.busy) eight c.in_ok-put_count-10.ensures.text in
-    record { text = if_ok c.put-2.result (λ _ more. put_bytes old _ (codes "}") nine more) c.put-2.ensures.text }
+    let ten = put_more old _ (codes ",\"items\":") (decimal t.items) nine c.in_ok-put_count-11.ensures.text in
+    let eleven = put_more old _ (codes ",\"lives\":") (decimal totals.lives) ten c.in_ok-put_count-12.ensures.text in
+    let twelve = put_bytes old _ (rate_part (codes ",\"given\":") (mean t.given t.stored)) eleven given in
+    record { text = if_ok c.put-2.result (λ _ more. put_bytes old _ (codes "}") twelve more) c.put-2.ensures.text }
