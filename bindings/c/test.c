@@ -136,7 +136,7 @@ static void test_opening(void) {
 }
 
 static void test_reading_and_writing(segcache_client *one, segcache_client *other) {
-  char value[64] = "", key[25] = "a key of 24 bytes, all.", long_value[33] = "a value of thirty-two bytes here";
+  char value[SEGCACHE_MAX_VALUE] = "", key[SEGCACHE_MAX_KEY], long_value[SEGCACHE_MAX_VALUE];
   size_t length = 99;
   uint32_t version = 0, later = 0;
   CHECK(reads(one, "k", 0, NULL));
@@ -168,10 +168,14 @@ static void test_reading_and_writing(segcache_client *one, segcache_client *othe
   EXPECT(segcache_delete(other, "added", 5, 0), SEGCACHE_OK);
   EXPECT(segcache_delete(one, "added", 5, 0), SEGCACHE_NOT_FOUND);
   CHECK(reads(one, "added", 0, NULL));
-  EXPECT(segcache_put(one, key, 24, long_value, 32, 0), SEGCACHE_OK);
-  EXPECT(segcache_get(other, key, 24, 0, value, 32, &length), SEGCACHE_OK);
-  CHECK(length == 32 && memcmp(value, long_value, 32) == 0);
-  EXPECT(segcache_get(other, key, 23, 0, value, 32, &length), SEGCACHE_MISS);
+  for (size_t i = 0; i < sizeof key; i++) key[i] = (char)('a' + i % 26);
+  for (size_t i = 0; i < sizeof long_value; i++) long_value[i] = (char)(i % 251);
+  EXPECT(segcache_put(one, key, sizeof key, long_value, sizeof long_value, 0), SEGCACHE_OK);
+  EXPECT(segcache_get(other, key, sizeof key, 0, value, sizeof value, &length), SEGCACHE_OK);
+  CHECK(length == sizeof long_value && memcmp(value, long_value, length) == 0);
+  EXPECT(segcache_get(other, key, sizeof key - 1, 0, value, sizeof value, &length), SEGCACHE_MISS);
+  key[sizeof key - 1] ^= 1;
+  EXPECT(segcache_get(other, key, sizeof key, 0, value, sizeof value, &length), SEGCACHE_MISS);
 }
 
 /* Each key has its own answer, whatever the others have. */
@@ -187,7 +191,8 @@ static void test_many(segcache_client *one, segcache_client *other) {
     lookups[i] =
         (segcache_lookup){.key_at = 2 * i, .key_len = 2, .value_len = 99, .status = 99, .version = 99, .value = "????"};
   }
-  lookups[3].key_len = 0, lookups[5].key_len = 25, lookups[39].key_len = 3, lookups[38].key_at = SIZE_MAX;
+  lookups[3].key_len = 0, lookups[5].key_len = SEGCACHE_MAX_KEY + 1, lookups[39].key_len = 3,
+  lookups[38].key_at = SIZE_MAX;
   EXPECT(segcache_get_many(other, keys, sizeof keys, 0, lookups, 40), SEGCACHE_OK);
   for (uint8_t i = 0; i < 40; i++) {
     const segcache_lookup *it = &lookups[i];
@@ -208,10 +213,10 @@ static void test_many(segcache_client *one, segcache_client *other) {
 }
 
 static void test_bad_arguments(segcache_client *client) {
-  char key[25] = "k", value[33] = "v";
+  char key[SEGCACHE_MAX_KEY + 1] = "k", value[SEGCACHE_MAX_VALUE + 1] = "v";
   size_t length = 7;
   uint32_t version;
-  for (size_t bad = 0; bad <= 25; bad += 25) {
+  for (size_t bad = 0; bad <= sizeof key; bad += sizeof key) {
     EXPECT(segcache_get(client, key, bad, 0, value, 32, &length), SEGCACHE_BAD_KEY);
     EXPECT(segcache_gets(client, key, bad, 0, value, 32, &length, &version), SEGCACHE_BAD_KEY);
     EXPECT(segcache_put(client, key, bad, value, 1, 0), SEGCACHE_BAD_KEY);
@@ -221,11 +226,11 @@ static void test_bad_arguments(segcache_client *client) {
     EXPECT(segcache_cas(client, key, bad, value, 1, 0, 0), SEGCACHE_BAD_KEY);
     EXPECT(segcache_delete(client, key, bad, 0), SEGCACHE_BAD_KEY);
   }
-  EXPECT(segcache_put(client, key, 1, value, 33, 0), SEGCACHE_BAD_VALUE);
-  EXPECT(segcache_set(client, key, 1, value, 33, 0), SEGCACHE_BAD_VALUE);
-  EXPECT(segcache_add(client, key, 1, value, 33, 0), SEGCACHE_BAD_VALUE);
-  EXPECT(segcache_replace(client, key, 1, value, 33, 0), SEGCACHE_BAD_VALUE);
-  EXPECT(segcache_cas(client, key, 1, value, 33, 0, 0), SEGCACHE_BAD_VALUE);
+  EXPECT(segcache_put(client, key, 1, value, sizeof value, 0), SEGCACHE_BAD_VALUE);
+  EXPECT(segcache_set(client, key, 1, value, sizeof value, 0), SEGCACHE_BAD_VALUE);
+  EXPECT(segcache_add(client, key, 1, value, sizeof value, 0), SEGCACHE_BAD_VALUE);
+  EXPECT(segcache_replace(client, key, 1, value, sizeof value, 0), SEGCACHE_BAD_VALUE);
+  EXPECT(segcache_cas(client, key, 1, value, sizeof value, 0, 0), SEGCACHE_BAD_VALUE);
   EXPECT(segcache_keep_from(client, UINT32_MAX), SEGCACHE_OK); /* counts as 255 */
   EXPECT(segcache_keep_from(client, 0), SEGCACHE_OK);
 }
@@ -322,7 +327,7 @@ static void test_no_handles(void) {
   segcache_stats_t stats;
   segcache_index_stats_t table;
   segcache_lookup lookup = {.key_len = 1};
-  char key[24] = "k", value[32] = "v";
+  char key[SEGCACHE_MAX_KEY] = "k", value[SEGCACHE_MAX_VALUE] = "v";
   size_t length, key_length;
   uint32_t version;
   memset(&client, 0, sizeof client);
@@ -360,7 +365,7 @@ static void test_ends(void) {
   segcache cache, another;
   segcache_client clients[2], foreign;
   segcache_cursor cursor;
-  char key[24], value[32];
+  char key[SEGCACHE_MAX_KEY], value[SEGCACHE_MAX_VALUE];
   size_t key_length, length;
   long before = out;
   EXPECT(segcache_open(100, 2, &cache, clients), SEGCACHE_OK);
@@ -426,7 +431,7 @@ static void test_memory_of_close(void) {
   segcache cache;
   segcache_client clients[3];
   segcache_cursor cursor;
-  char key[24], value[32];
+  char key[SEGCACHE_MAX_KEY], value[SEGCACHE_MAX_VALUE];
   size_t key_length, length;
   uint32_t status = SEGCACHE_OUT_OF_MEMORY;
   long before = out, refused = 0;

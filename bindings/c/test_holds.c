@@ -74,13 +74,14 @@ static void test_room_and_holds(void) {
 void test_holds(void) {
   segcache cache;
   segcache_client clients[2], none;
-  char key[25] = "k", value[32];
+  char key[SEGCACHE_MAX_KEY + 1] = "k", value[32];
   size_t length;
   memset(&none, 0, sizeof none);
   EXPECT(segcache_open(1000, 2, &cache, clients), SEGCACHE_OK);
   test_reading_a_hold(&clients[0], &clients[1]);
   test_time_and_holds(&clients[0]);
-  for (size_t bad = 0; bad <= 25; bad += 25) EXPECT(segcache_hold(&clients[0], key, bad, 0), SEGCACHE_BAD_KEY);
+  for (size_t bad = 0; bad <= sizeof key; bad += sizeof key)
+    EXPECT(segcache_hold(&clients[0], key, bad, 0), SEGCACHE_BAD_KEY);
   EXPECT(segcache_release(&clients[0]), SEGCACHE_NOT_HOLDING);
   for (int i = 0; i < 2; i++) EXPECT(segcache_give_back(&cache, &clients[i]), SEGCACHE_OK);
   EXPECT(segcache_free(&cache), SEGCACHE_OK);

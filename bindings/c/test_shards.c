@@ -97,7 +97,7 @@ static void test_calls(void) {
   segcache_stats_t counts;
   segcache_index_stats_t table;
   static unsigned char seen[FILLED];
-  char key[24], value[32];
+  char key[SEGCACHE_MAX_KEY], value[SEGCACHE_MAX_VALUE];
   size_t key_length, length, listed = 0;
   long before = out;
   EXPECT(segcache_open(KEYS, THREADS, &cache, clients), SEGCACHE_OK);
@@ -151,7 +151,7 @@ static void test_memory_of_close(void) {
   segcache cache;
   segcache_client clients[THREADS];
   segcache_cursor cursor;
-  char key[24], value[32];
+  char key[SEGCACHE_MAX_KEY], value[SEGCACHE_MAX_VALUE];
   size_t key_length, length;
   long before = out, refused = 0, losses = 0;
   for (int whole = 0; !whole; refused++) {

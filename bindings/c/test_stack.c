@@ -92,7 +92,7 @@ static void close_cache(void) {
 }
 
 static void list(void) {
-  char key[24], value[32];
+  char key[SEGCACHE_MAX_KEY], value[SEGCACHE_MAX_VALUE];
   size_t key_len, value_len, pairs = 0;
   while (segcache_next(&cursor, key, &key_len, value, &value_len) == SEGCACHE_OK) pairs++;
   if (pairs == 0) faults++, printf("nothing is listed\n");
