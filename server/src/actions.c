@@ -61,8 +61,7 @@ static void apply(const struct caller *caller, const struct write *write, struct
   if (!extends) item->flags = write->flags;
   if (!extends && !stale) item->expires = write->expires;
   renew_item(caller, item);
-  set_mark(item, STALE, stale);
-  set_mark(item, TOKEN_SENT, stale && token);
+  if (stale) set_mark(item, STALE | (token ? TOKEN_SENT : 0));
 }
 
 static bool edit_write(struct found *found, bool present, void *argument) {
@@ -222,7 +221,7 @@ static bool edit_removal(struct found *found, bool present, void *argument) {
   if (wish->answer != DID) return false;
   if (removal->marks_stale) {
     renew_item(wish->caller, &found->item);
-    set_mark(&found->item, STALE, true);
+    set_mark(&found->item, STALE);
     if (removal->sets_expiry) found->item.expires = removal->expires;
   } else {
     found->item.expires = PAST;

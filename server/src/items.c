@@ -40,10 +40,7 @@ uint64_t unique_of(const struct item *item) { return item->mark & UNIQUES; }
 uint32_t second_of(const struct item *item) { return (uint32_t)(unique_of(item) >> SECOND_AT); }
 bool has_mark(const struct item *item, uint64_t mark) { return (item->mark >> UNIQUE_BITS & mark) != 0; }
 
-void set_mark(struct item *item, uint64_t mark, bool on) {
-  if (on) item->mark |= mark << UNIQUE_BITS;
-  else item->mark &= ~(mark << UNIQUE_BITS);
-}
+void set_mark(struct item *item, uint64_t mark) { item->mark |= mark << UNIQUE_BITS; }
 
 void renew_item(const struct caller *caller, struct item *item) {
   item->mark = (atomic_fetch_add(&caller->uniques->last, 1) + 1) & UNIQUES;

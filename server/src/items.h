@@ -60,7 +60,7 @@ void uniques_flush(struct uniques *uniques, uint32_t at, uint32_t now, bool whol
 uint64_t unique_of(const struct item *item);
 uint32_t second_of(const struct item *item);
 bool has_mark(const struct item *item, uint64_t mark);
-void set_mark(struct item *item, uint64_t mark, bool on);
+void set_mark(struct item *item, uint64_t mark);
 
 /* Gives an item a new unique version, and takes its marks away. */
 void renew_item(const struct caller *caller, struct item *item);

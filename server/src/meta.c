@@ -188,9 +188,9 @@ static bool edit_mget(struct found *found, bool present, void *argument) {
   bool sent = has_mark(item, TOKEN_SENT);
   bool old = meta->recaches && item->expires != NEVER && item->expires < meta->recache_at;
   mget->won = mget->made || (!sent && (old || has_mark(item, STALE)));
-  if (mget->won) set_mark(item, TOKEN_SENT, true);
+  if (mget->won) set_mark(item, TOKEN_SENT);
   bool first_hit = meta->hit && !meta->keeps_unread && !has_mark(item, WAS_READ);
-  if (first_hit) set_mark(item, WAS_READ, true);
+  if (first_hit) set_mark(item, WAS_READ);
   if (meta->sets_expiry) item->expires = meta->expires;
   return mget->won || first_hit || meta->sets_expiry;
 }

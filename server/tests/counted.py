@@ -39,6 +39,8 @@ DEEDS = [
      "cmd_set total_items cmd_flush cmd_get get_misses get_flushed"),
     ("mn\r\n", "MN\r\n", 2, ""),
     ("mg no\r\n", "EN\r\n", 59, "cmd_meta cmd_get get_misses"),
+    ("set e 0 -1 1\r\n1\r\nmg e\r\n", "STORED\r\nEN\r\n", 2,
+     "cmd_set total_items cmd_meta cmd_get get_misses get_expired"),
     ("mg no T0\r\n", "EN\r\n", 1, "cmd_meta cmd_touch touch_misses"),
     ("ms m 1\r\n1\r\n", "HD\r\n", 1, "cmd_meta cmd_set total_items"),
     ("mg m v\r\n", "VA 1\r\n1\r\n", 2, "cmd_meta cmd_get get_hits"),
@@ -54,7 +56,7 @@ DEEDS = [
     ("set n 0 0 1\r\nx\r\nincr n 1\r\n", "STORED\r\n" + NOT_A_NUMBER, 1, "cmd_set total_items"),
 ]
 
-NAMES = sorted({name for *_, names in DEEDS for name in names.split()})
+NAMES = sorted({"cas_hits", *(name for *_, names in DEEDS for name in names.split())})
 
 
 def counts(command):

@@ -223,6 +223,7 @@ CONVERSATIONS = {
         ("mg 44OG44K544OI v\r\n", "EN\r\n"),
         ("mg 44OG44K544OI b k v\r\n", "VA 2 k44OG44K544OI b\r\npo\r\n"),
         ("mg 44OG44K54*OI b k v\r\n", "CLIENT_ERROR error decoding key\r\n"),
+        ("mg abc b\r\nmg abcde b\r\nmg a=== b\r\n", "CLIENT_ERROR error decoding key\r\n" * 3),
         ("set abcdefghi 0 0 1\r\n1\r\nmg YWJjZGVmZ2hp b v\r\n", "STORED\r\nVA 1\r\n1\r\n"),
         ("set ijklmnop 0 0 1\r\n2\r\nmg aWprbG1ub3A= b v\r\n", "STORED\r\nVA 1\r\n2\r\n"),
         ("ms b 2000000\r\n" + "x" * 2000000 + "\r\nmg b v\r\n", TOO_LARGE + "EN\r\n"),

@@ -47,7 +47,7 @@ BAD_OPTIONS = [
     (["-p"], "-p: needs an argument; -h shows them all"),
     (["--keys"], "--keys: needs an argument; -h shows them all"),
     (["what"], "what: isn't an option; -h shows them"),
-    (["-p", "0"], "-p 0: needs a socket by -s"),
+    (["-p", "0", "-P", "/nowhere/pid"], "-p 0: needs a socket by -s"),
 ]
 
 # Options with a number at its bound, by which a server starts, and what stats settings has of them.
@@ -128,8 +128,10 @@ def files(command):
     """A UNIX socket, its access bits, and what a server that was killed leaves."""
     with tempfile.TemporaryDirectory() as folder:
         path = Path(folder, "s")
-        for words, bits in ((["-a", "666"], 0o666), ([], 0o700), (["--unix-mask", "777"], 0o777)):
-            with start([*command, "-s", str(path), *words]) as server:
+        for words, bits in ((["-s", str(path), "-a", "666"], 0o666), (["-p", "0", "-s", str(path)], 0o700),
+                            (["--unix-socket", str(path), "--unix-mask", "777"], 0o777)):
+            killed = "-p" not in words
+            with start([*command, *words]) as server:
                 with socket.socket(socket.AF_UNIX) as connection:
                     for _ in range(200):
                         if connection.connect_ex(str(path)) == 0:
@@ -143,16 +145,16 @@ def files(command):
                               f"to listen, {path}: the file is there and isn't a socket left over")
                     say(connection, "mn\r\n", "MN\r\n")
                     check(path.is_socket(), "who finds the file in use leaves it")
-                server.send_signal(signal.SIGKILL if words else signal.SIGTERM)
-            check(path.exists() == bool(words), f"the socket's file is taken away: {words}")
+                server.send_signal(signal.SIGKILL if killed else signal.SIGTERM)
+            check(path.exists() == killed, f"the socket's file is taken away: {words}")
 
 
-def background(command):
+def background(command, names=("-d", "-P")):
     """A file with the process's number, the background, and a file with the ports."""
     with tempfile.TemporaryDirectory() as folder:
         pid_file, ports = Path(folder, "pid"), Path(folder, "ports")
         environment = {**os.environ, "MEMCACHED_PORT_FILENAME": str(ports)}
-        words = [*command, "-p", "-1", "-l", "127.0.0.1,127.0.0.2", "-d", "-P", str(pid_file)]
+        words = [*command, "-p", "-1", "-l", "127.0.0.1,127.0.0.2", *names, str(pid_file)]
         check(subprocess.run(words, env=environment).returncode == 0, "-d ends well at once")
         for _ in range(200):
             if ports.exists():
@@ -207,7 +209,7 @@ def user(command):
         return print("left out: -u: only root can give rights up")
     ends_with(command, ["-p", "-1", "-u", "nonesuch"], 71, "nonesuch: there is no such user")
     nobody = pwd.getpwnam("nobody")
-    with running(command, "-u", "nobody") as port, connect(port) as connection:
+    with running(command, "--user", "nobody") as port, connect(port) as connection:
         status = Path(f"/proc/{stats_of(connection)['pid']}/status").read_text()
         wanted = ((f"Uid:{f'{chr(9)}{nobody.pw_uid}' * 4}\n"), f"Gid:{f'{chr(9)}{nobody.pw_gid}' * 4}\n")
         check(all(line in status for line in wanted) and re.search(r"^Groups:\s*$", status, re.M), f"-u: {status}")
@@ -255,8 +257,9 @@ def seen_by_all(command):
         socket.create_server(("::1", 0), family=socket.AF_INET6).close()
     except OSError:
         families = families[1:]
-    for group in (addresses, [address for _, address in families], ["localhost"]):
-        words = [*command, "-p", str(port := free_port()), "-l", ",".join(group)]
+    anywhere = ["0.0.0.0", "::"] if len(families) == 2 else ["0.0.0.0"]
+    for group in (addresses, [address for _, address in families], ["localhost"], anywhere):
+        words = [*command, "-p", str(port := free_port()), "--listen", ",".join(group)]
         with start(words) as server:
             for address in group:
                 for _ in range(200):
