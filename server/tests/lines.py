@@ -149,6 +149,7 @@ CONVERSATIONS = {
     "bad lines": [
         ("\r\n", "ERROR\r\n"),
         ("foo\r\n", "ERROR\r\n"),
+        ("mn\r\n\nmn\n\nmn\r\n", "MN\r\nERROR\r\nMN\r\nERROR\r\nMN\r\n"),
         ("GET a\r\n", "ERROR\r\n"),
         ("get\r\n", "ERROR\r\n"),
         ("set\r\n", "ERROR\r\n"),

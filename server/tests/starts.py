@@ -112,6 +112,9 @@ def bad_places(command):
             ends_with(command, words, 71, f"to listen, {line}")
         ends_with(command, ["-p", str(free_port()), "-l", "fooble.invalid"], 71,
                   lambda text: re.fullmatch(r"segcache-server: to listen, fooble.invalid: .+\n", text))
+        if command[0].endswith("tested"):
+            ends_with(["prlimit", f"--as={512 << 20}", *command], ["-p", "-1", "-m", "4096"], 71,
+                      "the cache can't be opened: out of memory")
         ends_with(command, ["-p", "-1", "-P", "/nowhere/pid"], 1, "/nowhere/pid: No such file or directory")
         for name, line in (("/nowhere/ports", "/nowhere/ports.new: No such file or directory"),
                            (folder, f"{folder}: Is a directory"),
@@ -180,7 +183,7 @@ def background(command, names=("-d", "-P")):
 
 def told(command):
     """What is said on standard error: with -v connections that were turned away, with -vv commands, else nothing."""
-    for words, wanted in (([], r""), (["-vv"], r"(?s).*<\d+ set told 0 0 1\n<\d+ stats settings\n.*"),
+    for words, wanted in ((["-c", "2"], r""), (["-vv"], r"(?s).*<\d+ set told 0 0 1\n<\d+ stats settings\n.*"),
                           (["-v", "-c", "2"], r"(?:segcache-server: too many connections: [1-4] refused\n)+")):
         words = [*command, "-p", str(port := free_port()), "-o", "idle_timeout=600", "-b", "7", "-B", "ascii", *words]
         with start(words, stderr=subprocess.PIPE, text=True) as server:
