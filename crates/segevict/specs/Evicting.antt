@@ -50,7 +50,8 @@ IsEvictAnswer shape segment (evict.Busy count) p q =
 
 -- ---- rows in their order
 
--- This number of rows was gone over, from this one on, each by an evict of one row.
+-- This number of rows was gone over, from this one on, each by an evict of one row. One behind an
+-- item's first row is Left, by no step.
 -- This number of their keys was taken out.
 abbrev pub EvictsOver : Board → ℕ → ℕ → ℕ → ℕ → Pass → Pass → Type 0
 EvictsOver b segment from zero count p q = (count ≡ 0) × (q ≡ p)

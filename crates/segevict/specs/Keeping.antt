@@ -1,20 +1,43 @@
 -- What a keep answers: how many items it moved into the current segment, each by one entry.
 -- Either what is left was below the cutoff, or something was in the way. And what a keep costs.
-use Rattle.std.specs.Prelude.{◌≡◌, ◌≢◌, ◌↔◌, ◌⊎◌, ℕ, zero, suc, ◌+◌, ◌<◌, List, [], ◌∷◌, ◌++◌, length, true, false, Some, None}
-use Rattle.segword.specs.Words.{Shape}
+use Rattle.std.specs.Prelude.{◌≡◌, ◌≢◌, ◌↔◌, ◌⊎◌, ℕ, zero, suc, ◌+◌, ◌<◌, ◌≤◌, ◌==◌, List, [], ◌∷◌, ◌++◌, length, true, false, Some, None, MatchBool}
+use Rattle.segword.specs.Words.{most_span, Shape}
 use Rattle.segmodel.specs.declared.entry.Entry.TheVariants as entry
 use Rattle.segmodel.specs.declared.answer.KeepAnswer.{KeepAnswer}
 use Rattle.segmodel.specs.declared.answer.KeepAnswer.TheVariants as keep
 use Rattle.segmodel.specs.declared.answer.SegState.TheVariants.{InUse}
 use Rattle.segmodel.specs.Words.{after, Entry, StandsIn}
-use Rattle.segbase.specs.Words.{Board, mine, number, Pass, seen, state_of, used_of}
-use Rattle.segstore.specs.Words.{DrawsNothing, GoesOn, has_room, ReadsNothing}
+use Rattle.segcore.specs.Words.{span_in}
+use Rattle.segbase.specs.Words.{Board, mine, number, Pass, seen, state_of, trace, used_of}
+use Rattle.segstore.specs.Words.{DrawsNothing, GoesOn, has_room, has_room_for, ReadsNothing}
 use Rattle.segevict.specs.declared.retention.KeepRowAnswer.{KeepRowAnswer}
 use Rattle.segevict.specs.declared.retention.KeepRowAnswer.TheVariants as kept
 use Rattle.segevict.specs.Frequencies.{IsOften, WasOften, WasSeldom}
 use Rattle.segevict.specs.OneRow.{KeepsItem}
 use Rattle.segevict.specs.Target.{IsKeepTarget, UsesRows}
 use Rattle.segevict.specs.Tries.{IsInTheWay, TriesFor}
+
+-- ---- rows
+
+-- so many items use that many rows of the segment; where they take several, at least one for each
+abbrev pub UsesSome : ℕ → ℕ → Pass → Pass → Type 0
+UsesSome into count p q =
+    MatchBool (most_span == 1)
+    (UsesRows into count p q)
+    ((rows : ℕ) × (count ≤ rows) × UsesRows into rows p q)
+
+-- the current segment has too few rows left for an item of the segment, or rows enough for one
+abbrev pub LacksRows : Shape → ℕ → Pass → Type 0
+LacksRows shape segment q =
+    MatchBool (most_span == 1)
+    (has_room shape q ≡ false)
+    ((row : ℕ) × (has_room_for shape (span_in (trace q) segment row) q ≡ false))
+
+abbrev pub HasRowsForOne : Shape → ℕ → Pass → Type 0
+HasRowsForOne shape segment q =
+    MatchBool (most_span == 1)
+    (has_room shape q ≡ true)
+    ((row : ℕ) × (has_room_for shape (span_in (trace q) segment row) q ≡ true))
 
 -- ---- what is moved
 
@@ -26,14 +49,14 @@ AreMoves pass segment into IsSo (added ∷ more) =
     ((key : List ℕ) × (added ≡ entry.Moved pass key segment into) × IsSo key)
     × AreMoves pass segment into IsSo more
 
--- This number of items was moved, each by one entry and into a row of its own.
+-- This number of items was moved, each by one entry and into rows of its own.
 -- Each had a frequency that was the cutoff or over it at a moment of the call.
 pub record MovesItems (shape : Shape) (segment into cutoff count : ℕ) (p q : Pass) : Type 0 where
   pub moves : List Entry
   pub counted : length moves ≡ count
   pub all : AreMoves (number p) segment into (WasOften shape segment cutoff p q) moves
   pub entries : mine q ≡ moves ++ mine p
-  pub uses : UsesRows into count p q
+  pub uses : UsesSome into count p q
 
 -- each key that stands in the segment then was below the cutoff at a moment of the call
 abbrev pub AreSeldom : Shape → ℕ → ℕ → Pass → Pass → Type 0
@@ -51,9 +74,9 @@ MovesAway shape segment cutoff count p q =
 
 -- Kept: each key that still stands in the segment was below the cutoff at a moment of the call,
 -- or the segment isn't in use, and nothing is moved.
--- NoRoom: there is no segment to move into; or no row of it is left,
+-- NoRoom: there is no segment to move into; or it has too few rows left,
 -- and an item of the cutoff's frequency or a higher one is still in the old one.
--- Busy: there is a row, but a bucket was in the way.
+-- Busy: there are rows, but a bucket was in the way.
 -- What was moved stays so, and calling again goes on.
 abbrev pub IsKeepAnswer : Shape → ℕ → ℕ → KeepAnswer → Pass → Pass → Type 0
 IsKeepAnswer shape segment cutoff (keep.Kept count) p q =
@@ -63,16 +86,17 @@ IsKeepAnswer shape segment cutoff keep.NotYours p q = q ≡ p
 IsKeepAnswer shape segment cutoff (keep.NoRoom count) p q =
     ((state_of p segment ≡ Some InUse) × ((into : ℕ) → ¬ (IsKeepTarget segment into p))
     × (count ≡ 0) × (q ≡ p))
-    ⊎ (MovesAway shape segment cutoff count p q × (has_room shape q ≡ false)
+    ⊎ (MovesAway shape segment cutoff count p q × LacksRows shape segment q
     × ((key : List ℕ) × IsOften shape segment cutoff q key))
 IsKeepAnswer shape segment cutoff (keep.Busy count) p q =
     MovesAway shape segment cutoff count p q
-    × (has_room shape q ≡ true)
+    × HasRowsForOne shape segment q
     × IsInTheWay shape (WasOften shape segment cutoff p q) p q
 
 -- ---- rows in their order
 
--- This number of rows was gone over, from the first on, each by a keep of one row.
+-- This number of rows was gone over, from the first on, each by a keep of one row. One behind an
+-- item's first row is Left, by no step.
 -- This number of their items was moved.
 abbrev pub GoesOver : Board → ℕ → ℕ → ℕ → ℕ → Pass → Pass → Type 0
 GoesOver b segment cutoff zero count p q = (count ≡ 0) × (q ≡ p)

@@ -8,6 +8,7 @@ pub mod Naming
 pub mod OneRow
 pub mod Relinking
 pub mod Rows
+pub mod Spans
 pub mod Steps
 pub mod Target
 pub mod Tries

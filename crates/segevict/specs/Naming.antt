@@ -1,8 +1,8 @@
 -- The rows of a pass's own segments: which of them items name, and how many.
-use Rattle.std.specs.Prelude.{◌≡◌, ◌⊎◌, ℕ, zero, suc, ◌+◌, ◌*◌, ◌<◌, ◌≤◌, Bool, true, false, List, Option, Some, None}
-use Rattle.segword.specs.Words.{Shape}
+use Rattle.std.specs.Prelude.{◌≡◌, ◌⊎◌, ℕ, zero, suc, ◌+◌, ◌*◌, ◌<◌, ◌≤◌, ◌==◌, Bool, true, false, List, Option, Some, None, MatchBool}
+use Rattle.segword.specs.Words.{covers, most_span, Shape}
 use Rattle.segmodel.specs.Words.{after, Begins, StandsIn}
-use Rattle.segcore.specs.Words.{entries, last_at, Mark, RowGone, slot}
+use Rattle.segcore.specs.Words.{entries, last_at, Mark, RowGone, slot, span_in}
 use Rattle.segcore.specs.Mark as mark
 use Rattle.segbase.specs.Words.{marked, number, Pass, SinceFirst, trace, used_of}
 use Rattle.segevict.specs.Rows.{IsUsedRow}
@@ -38,6 +38,14 @@ abbrev pub ReturnsNamed : Shape → ℕ → ℕ → Bool → Pass → Type 0
 ReturnsNamed shape segment row true q = IsNamed shape segment row (marked q)
 ReturnsNamed shape segment row false q = RowGone shape segment row (trace q)
 
+-- the row is one of an item that was named so, the first one where each has one row
+abbrev pub WasTaken : Shape → ℕ → ℕ → Pass → Pass → Type 0
+WasTaken shape segment row p q =
+    MatchBool (most_span == 1)
+    (WasNamedIn shape segment row p q)
+    ((first : ℕ) × (covers first (span_in (trace q) segment first) row ≡ true)
+    × WasNamedIn shape segment first p q)
+
 -- ---- how many
 
 -- of the numbers below one, so many are so, and of the others that is so
@@ -47,18 +55,18 @@ Tallies IsSo IsNot (suc row) count =
     ((before : ℕ) × (count ≡ before + 1) × Tallies IsSo IsNot row before × IsSo row)
     ⊎ (Tallies IsSo IsNot row count × IsNot row)
 
--- of the first rows so many were named, each at a moment after the call's first step,
+-- of the first rows so many were those of named items, each at a moment after the call's first step,
 -- and no word names any of the others
 abbrev pub FindsNamed : Shape → ℕ → ℕ → ℕ → Pass → Pass → Type 0
 FindsNamed shape segment rows count p q =
-    Tallies (λ row. WasNamedIn shape segment row p q)
+    Tallies (λ row. WasTaken shape segment row p q)
     (λ row. RowGone shape segment row (trace q)) rows count
 
--- of the first rows so many were named, each at a moment after the call's first step,
+-- of the first rows so many were those of named items, each at a moment after the call's first step,
 -- and at its end no item names any of the others
 abbrev pub AreNamed : Shape → ℕ → ℕ → ℕ → Pass → Pass → Type 0
 AreNamed shape segment rows count p q =
-    Tallies (λ row. WasNamedIn shape segment row p q)
+    Tallies (λ row. WasTaken shape segment row p q)
     (λ row. ¬ (IsNamed shape segment row (marked q))) rows count
 
 -- ---- in all segments of the pass's own
@@ -85,7 +93,7 @@ own_at shape p at = number p * shape.segments_each + at
 abbrev pub used_at : Shape → Pass → ℕ → ℕ
 used_at shape p at = or_zero (used_of p (own_at shape p at))
 
--- so many rows of the pass's own segments are used, and so many of these were named
+-- so many rows of the pass's own segments are used, and so many of these were those of named items
 pub record CountsRows (shape : Shape) (used named : ℕ) (p q : Pass) : Type 0 where
   pub sum : used ≡ sum_below (used_at shape p) shape.segments_each
   pub sums : SumsUp (λ at count. AreNamed shape (own_at shape p at) (used_at shape p at) count p q)

@@ -5,23 +5,24 @@ use Rattle.segmodel.specs.declared.entry.Entry.TheVariants as entry
 use Rattle.segmodel.specs.Words.{Begins, bucket_of}
 use Rattle.segcore.specs.Mark.{at, enters}
 use Rattle.segcore.specs.Mark as mark
-use Rattle.segcore.specs.Words.{frequency_in, Mark}
+use Rattle.segcore.specs.Words.{frequency_in, Mark, span_in}
 use Rattle.segbase.specs.Words.{Board, HasStep, marked, mine, number, Pass, SinceFirst}
-use Rattle.segbase.specs.Words.{state_of, used_of}
-use Rattle.segstore.specs.Words.{ChangesNothing, DrawsNothing, GoesOn, has_room, IsBusy}
-use Rattle.segstore.specs.Words.{ReadsNothing, TakesAtMost, TakesNoBit, TakesOneBit}
+use Rattle.segbase.specs.Words.{state_of, trace, used_of}
+use Rattle.segstore.specs.Words.{AreRows, ChangesNothing, DrawsNothing, GoesOn, has_room_for}
+use Rattle.segstore.specs.Words.{IsBusy, ReadsNothing, TakesAtMost, TakesNoBit, TakesOneBit}
 use Rattle.segevict.specs.declared.retention.KeepRowAnswer.{KeepRowAnswer}
 use Rattle.segevict.specs.declared.retention.KeepRowAnswer.TheVariants as kept
 use Rattle.segevict.specs.Frequencies.{HadFrequency, HadThen}
 use Rattle.segevict.specs.Naming.{IsNamed}
 use Rattle.segevict.specs.Rows.{HasRow}
 use Rattle.segevict.specs.Steps.{most_steps_of_keep_row}
-use Rattle.segevict.specs.Target.{has_room_in, IsKeepTarget, IsMoveTarget, UsesRows}
+use Rattle.segevict.specs.Target.{has_rows_in, IsKeepTarget, IsMoveTarget, UsesRows}
 use Rattle.segevict.specs.Tries.{IsInTheWay}
 
 -- At a moment after the call's first step the key's item named the row,
 -- and its frequency was the cutoff or over it.
 -- Later it came to name the next row of the other segment, by one entry.
+-- As many rows as the item takes are left there from that one on.
 -- It has the frequency that it had just before. No item names the row any more.
 pub record CarriesItem (shape : Shape) (segment row cutoff into : ℕ) (p q : Pass) (key : List ℕ)
     : Type 0 where
@@ -31,7 +32,7 @@ pub record CarriesItem (shape : Shape) (segment row cutoff into : ℕ) (p q : Pa
       key)
   pub to : ℕ
   pub next : used_of p into ≡ Some to
-  pub fits : to < shape.rows
+  pub fits : AreRows shape to (span_in (trace p) segment row)
   pub position : ℕ
   pub comes : Begins (enters (entry.Moved (number p) key segment into)
       ∷ at key into to position (frequency_in before segment row) ∷ before) (marked q)
@@ -39,16 +40,16 @@ pub record CarriesItem (shape : Shape) (segment row cutoff into : ℕ) (p q : Pa
   pub left : ¬ (IsNamed shape segment row (marked q))
 
 -- What a keep of one row comes to that can move items into segments of which this is so.
--- There the pass has a row left or not.
+-- There the pass has rows left for the row's item or not.
 -- Moved: the row named an item of the cutoff's frequency or a higher one,
 -- and by one entry the item came to name a new row of the other segment.
 -- Left: no item names the row, or its item was below the cutoff at a moment of the call.
 -- NoRoom: there is no segment to move into;
--- or by a look of the call the item is still there, and no row is left for it.
--- Busy: there is a row, but the item's bucket was in the way.
+-- or by a look of the call the item is still there, and too few rows are left for it.
+-- Busy: there are rows, but the item's bucket was in the way.
 abbrev pub KeepsTo : Shape → ℕ → ℕ → ℕ → (ℕ → Type 0) → Bool → KeepRowAnswer → Pass → Pass → Type 0
 KeepsTo shape segment row cutoff IsTarget room kept.Moved p q =
-    (into : ℕ) × IsTarget into × UsesRows into 1 p q
+    (into : ℕ) × IsTarget into × UsesRows into (span_in (trace p) segment row) p q
     × ((key : List ℕ) × CarriesItem shape segment row cutoff into p q key)
 KeepsTo shape segment row cutoff IsTarget room kept.Left p q =
     (into : ℕ) × IsTarget into × ChangesNothing p q
@@ -71,14 +72,14 @@ KeepsTo shape segment row cutoff IsTarget room kept.NotUsed p q = q ≡ p
 -- it moves items into the current segment
 abbrev pub IsKeepRowAnswer : Shape → ℕ → ℕ → ℕ → KeepRowAnswer → Pass → Pass → Type 0
 IsKeepRowAnswer shape segment row cutoff told p q =
-    KeepsTo shape segment row cutoff (λ into. IsKeepTarget segment into p) (has_room shape q)
-    told p q
+    KeepsTo shape segment row cutoff (λ into. IsKeepTarget segment into p)
+    (has_room_for shape (span_in (trace q) segment row) q) told p q
 
 -- it moves items into this segment alone
 abbrev pub IsKeepRowIntoAnswer : Shape → ℕ → ℕ → ℕ → ℕ → KeepRowAnswer → Pass → Pass → Type 0
 IsKeepRowIntoAnswer shape segment row cutoff into told p q =
     KeepsTo shape segment row cutoff (λ other. (other ≡ into) × IsMoveTarget segment into p)
-    (has_room_in shape into q) told p q
+    (has_rows_in shape into (span_in (trace q) segment row) q) told p q
 
 -- ---- what it costs
 
@@ -93,7 +94,7 @@ AfterLooks b segment row cutoff Does p q =
     × GoesOn b seen q
     × Does (bucket_of b.shape key) seen q
 
--- The pass tries for a bit only after such looks, and only if there is a row to move into.
+-- The pass tries for a bit only after such looks, and only if there are rows to move into.
 -- If it took the bit and left the row, no item names the row any more.
 abbrev pub TriesForRow : Board → ℕ → ℕ → ℕ → Bool → KeepRowAnswer → Pass → Pass → Type 0
 TriesForRow b segment row cutoff room kept.Moved p q =
@@ -123,7 +124,8 @@ pub record KeepsItem (b : Board) (segment row cutoff : ℕ) (told : KeepRowAnswe
   pub not_yours : (told ≡ kept.NotYours) ↔ (state_of p segment ≡ None)
   pub not_used : (told ≡ kept.NotUsed)
       ↔ (IsSome (state_of p segment) × ¬ (HasRow segment row p))
-  pub costs : CostsOfKeepRow b segment row cutoff (has_room b.shape p) told p q
+  pub costs : CostsOfKeepRow b segment row cutoff
+      (has_room_for b.shape (span_in (trace p) segment row) p) told p q
 
 -- A keep of one row into this segment has this answer.
 -- It is NotYours and NotUsed exactly where a keep of one row is.
@@ -134,4 +136,5 @@ pub record KeepsItemInto (b : Board) (segment row cutoff into : ℕ) (told : Kee
   pub not_yours : (told ≡ kept.NotYours) ↔ (state_of p segment ≡ None)
   pub not_used : (told ≡ kept.NotUsed)
       ↔ (IsSome (state_of p segment) × ¬ (HasRow segment row p))
-  pub costs : CostsOfKeepRow b segment row cutoff (has_room_in b.shape into p) told p q
+  pub costs : CostsOfKeepRow b segment row cutoff
+      (has_rows_in b.shape into (span_in (trace p) segment row) p) told p q

@@ -1,10 +1,10 @@
 -- Where a keep moves items to, and what the pass keeps of the rows that it uses there.
-use Rattle.std.specs.Prelude.{◌≡◌, ◌≢◌, ℕ, ◌+◌, ◌<◌, Bool, Some}
+use Rattle.std.specs.Prelude.{◌≡◌, ◌≢◌, ℕ, ◌+◌, ◌<◌, ◌==◌, Bool, Some, if◌then◌else◌}
 use Rattle.segword.specs.Words.{Shape}
 use Rattle.segmodel.specs.declared.answer.SegState.TheVariants.{InUse}
 use Rattle.segbase.specs.Words.{Board, current_of, deadline_of, is_holding_of, locked_of, Pass}
 use Rattle.segbase.specs.Words.{state_of, used_of}
-use Rattle.segstore.specs.Words.{is_below, memo}
+use Rattle.segstore.specs.Words.{are_left, is_below, memo}
 
 -- Items of the segment can be moved into this one, of the pass's own: it is in use,
 -- it is not the same, and it has the same deadline.
@@ -16,6 +16,13 @@ pub record IsMoveTarget (segment into : ℕ) (p : Pass) : Type 0 where
 -- whether not all rows of the segment are used
 abbrev pub has_room_in : Shape → ℕ → Pass → Bool
 has_room_in shape segment p = is_below shape.rows (used_of p segment)
+
+-- whether so many rows of the segment are left
+abbrev pub has_rows_in : Shape → ℕ → ℕ → Pass → Bool
+has_rows_in shape segment rows p =
+    if rows == 1
+    then has_room_in shape segment p
+    else are_left rows shape.rows (used_of p segment)
 
 -- the row is the first one of the segment that isn't used
 pub record IsNextIn (b : Board) (segment row : ℕ) (p : Pass) : Type 0 where

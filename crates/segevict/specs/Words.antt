@@ -11,5 +11,7 @@ pub use Rattle.segevict.specs.Naming.{sum_below, SumsUp, Tallies, used_at, WasNa
 pub use Rattle.segevict.specs.OneRow.{CarriesItem, IsKeepRowAnswer, IsKeepRowIntoAnswer}
 pub use Rattle.segevict.specs.OneRow.{KeepsItem, KeepsItemInto, KeepsTo}
 pub use Rattle.segevict.specs.Rows.{HasRow}
-pub use Rattle.segevict.specs.Target.{has_room_in, IsKeepTarget, IsMoveTarget, UsesRows}
+pub use Rattle.segevict.specs.Spans.{TellsSpan}
+pub use Rattle.segevict.specs.Target.{has_room_in, has_rows_in, IsKeepTarget, IsMoveTarget}
+pub use Rattle.segevict.specs.Target.{UsesRows}
 pub use Rattle.segevict.specs.Tries.{IsInTheWay, StoodIn}

@@ -14,6 +14,7 @@ ghost use Rattle.segevict.specs.Steps.{most_steps_of_evict_row, most_steps_to_cl
 ghost use Rattle.segevict.specs.Unlinking.{TakesRow, EvictsRow};
 
 use crate::row::{find_row, has_row, item_of_row};
+use crate::spans::{evict_rows, evict_used_row};
 use segbase::{Board, Pass};
 use segmodel::{EvictAnswer, SegState};
 use segstore::take_to_write;
@@ -71,9 +72,9 @@ pub fn evict_rest(board: &Board, pass: &mut Pass, segment: u32, from: u32) -> Ev
     evict_rows(board, pass, segment, from)
 }
 
-// Takes out the keys of the rows from this one on.
+// Takes out the keys of the rows from this one on, each of which has an item of its own.
 // Nothing is stored in the segment any more.
-fn evict_rows(board: &Board, pass: &mut Pass, segment: u32, from: u32) -> EvictAnswer
+pub(crate) fn evict_each_row(board: &Board, pass: &mut Pass, segment: u32, from: u32) -> EvictAnswer
     requires quiet { IsQuiet board.now pass.old }
     requires in_use { state_of pass.old segment ≡ Some InUse }
     requires ended { current_of pass.old ≢ Some segment }
@@ -112,9 +113,14 @@ pub fn evict_row(board: &Board, pass: &mut Pass, segment: u32, row: u32) -> Evic
     evict_used_row(board, pass, segment, row)
 }
 
-// Takes out the key of a used row, if it stands there.
+// Takes out the key of a used row that has an item of its own, if it stands there.
 // The bit of the key's bucket is taken only then.
-fn evict_used_row(board: &Board, pass: &mut Pass, segment: u32, row: u32) -> EvictRowAnswer
+pub(crate) fn evict_first_row(
+    board: &Board,
+    pass: &mut Pass,
+    segment: u32,
+    row: u32,
+) -> EvictRowAnswer
     requires quiet { IsQuiet board.now pass.old }
     requires used { IsUsedRow segment row pass.old }
     ensures evicts { EvictsRow board.now segment row result pass.old pass.new }
@@ -138,7 +144,7 @@ fn evict_used_row(board: &Board, pass: &mut Pass, segment: u32, row: u32) -> Evi
 
 // Clears the word that names the row of an item, under the bit of its bucket.
 // Returns false if no word names the row.
-fn clear_row(board: &Board, pass: &mut Pass, bucket: u32, item: Item) -> bool
+pub(crate) fn clear_row(board: &Board, pass: &mut Pass, bucket: u32, item: Item) -> bool
     requires pass { IsPassOf board.now pass.old }
     requires stored { IsStoredIn board.now bucket item pass.old }
     requires bit { HasCleanBit board.now pass.old bucket }

@@ -7,7 +7,9 @@ mod eviction;
 mod named;
 mod retention;
 mod row;
+mod spans;
 
 pub use eviction::{EvictRowAnswer, evict, evict_rest, evict_row};
 pub use named::{RowCounts, count_rows};
 pub use retention::{KeepRowAnswer, keep, keep_row, keep_row_into};
+pub use spans::span_of;

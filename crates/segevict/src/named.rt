@@ -6,6 +6,7 @@ ghost use Rattle.segevict.specs.Rows.{IsUsedRow};
 ghost use Rattle.segevict.specs.Naming.{ReturnsNamed, FindsNamed, CountsRows};
 
 use crate::row::{find_row, item_of_row};
+use crate::spans::named_rows;
 use segbase::{Board, Pass};
 
 /// Rows of the segments of a pass's own.
@@ -18,7 +19,7 @@ pub struct RowCounts {
 }
 
 // Whether an item names a used row of a segment of the pass's own.
-fn is_named(board: &Board, pass: &mut Pass, segment: u32, row: u32) -> bool
+pub(crate) fn is_named(board: &Board, pass: &mut Pass, segment: u32, row: u32) -> bool
     requires quiet { IsQuiet board.now pass.old }
     requires used { IsUsedRow segment row pass.old }
     ensures idles { Idles board.now pass.old pass.new }
@@ -29,8 +30,9 @@ fn is_named(board: &Board, pass: &mut Pass, segment: u32, row: u32) -> bool
     find_row(board, pass, bucket, item).is_some()
 }
 
-// How many of the used rows of a segment of the pass's own items named.
-fn named_rows(board: &Board, pass: &mut Pass, segment: u32, used: u32) -> u32
+// How many of the used rows of a segment of the pass's own items named,
+// each of which has an item of its own.
+pub(crate) fn named_each_row(board: &Board, pass: &mut Pass, segment: u32, used: u32) -> u32
     requires quiet { IsQuiet board.now pass.old }
     requires used { used_of pass.old segment ≡ Some used }
     ensures idles { Idles board.now pass.old pass.new }

@@ -15,6 +15,7 @@ ghost use Rattle.segevict.specs.Steps.{most_steps_of_keep_row, most_steps_to_mov
 ghost use Rattle.segevict.specs.Target.{has_room_in, IsKeepTarget, IsMoveTarget, IsNextIn};
 
 use crate::row::{find_row, has_row, item_of_row};
+use crate::spans::{keep_rows, keep_used_row};
 use segbase::{Board, Pass};
 use segmodel::{KeepAnswer, SegState};
 use segstore::{RowRef, copy_row, take_to_write};
@@ -128,8 +129,14 @@ fn keep_target(pass: &Pass, segment: u32) -> Option<u32>
     is_alike(pass, segment, into).then_some(into)
 }
 
-// Moves the items of the rows of a segment, row after row.
-fn keep_rows(board: &Board, pass: &mut Pass, segment: u32, into: u32, cutoff: u8) -> KeepAnswer
+// Moves the items of the rows of a segment, row after row. Each has an item of its own.
+pub(crate) fn keep_each_row(
+    board: &Board,
+    pass: &mut Pass,
+    segment: u32,
+    into: u32,
+    cutoff: u8,
+) -> KeepAnswer
     requires quiet { IsQuiet board.now pass.old }
     requires in_use { state_of pass.old segment ≡ Some InUse }
     requires target { IsKeepTarget segment into pass.old }
@@ -149,9 +156,10 @@ fn keep_rows(board: &Board, pass: &mut Pass, segment: u32, into: u32, cutoff: u8
     KeepAnswer::Kept(kept)
 }
 
-// Moves the item of a used row into this segment, if it was read often enough.
+// Moves the item of a used row that has an item of its own into this segment,
+// if it was read often enough.
 // The bit of the item's bucket is taken only then.
-fn keep_used_row(
+pub(crate) fn keep_first_row(
     board: &Board,
     pass: &mut Pass,
     row: RowRef,
@@ -201,7 +209,7 @@ fn next_row_in(board: &Board, pass: &Pass, segment: u32) -> Option<u32>
 
 // Moves the item of a row into this row of another segment, under the bit of its bucket.
 // Returns false if no word names the row any more.
-fn move_row(board: &Board, pass: &mut Pass, bucket: u32, item: Item, to: RowRef) -> bool
+pub(crate) fn move_row(board: &Board, pass: &mut Pass, bucket: u32, item: Item, to: RowRef) -> bool
     requires pass { IsPassOf board.now pass.old }
     requires segments { KeepsSegments board.now pass.old }
     requires stored { IsStoredIn board.now bucket item pass.old }
@@ -226,7 +234,7 @@ fn move_row(board: &Board, pass: &mut Pass, bucket: u32, item: Item, to: RowRef)
 
 // Lets the item of a word name another row, under the bit of its bucket.
 // If a hit raises the item's frequency meanwhile, the exchange is tried again with the higher one.
-fn relink(board: &Board, pass: &mut Pass, target: Target, to: RowRef)
+pub(crate) fn relink(board: &Board, pass: &mut Pass, target: Target, to: RowRef)
     ghost named: { Slot }
     requires pass { IsPassOf board.now pass.old }
     requires relinks { Relinks board.now named to.segment to.row target.place target.word

@@ -4,7 +4,7 @@ use Rattle.segstore.proofs.Looks.{one_step}
 use Rattle.segwrite.proofs.Places.{idles_then}
 use Rattle.segevict.proofs.Seeking.{stored_over}
 use Rattle.segevict.proofs.RowsOut.{quiet_looking, stored_taken, row_is_gone, row_is_barred, row_is_evicted, row_went, found_none, found_some, of_place}
-use Rattle.segevict.proofs.eviction.evict_used_row.Goals as goal
+use Rattle.segevict.proofs.eviction.evict_first_row.Goals as goal
 
 pub returns-then-is_none : goal.returns-then-is_none
 returns-then-is_none c = let b = c.args.board.now in let r = c.item_of_row-bucket in let f = c.find_row in

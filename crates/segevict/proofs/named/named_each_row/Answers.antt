@@ -2,8 +2,8 @@ use Rattle.std.proofs.Common.{◌+◌, sym, subst, ◌∙◌}
 use Rattle.segstore.proofs.Keeping.{owns_used}
 use Rattle.segevict.specs.Naming.{ReturnsNamed}
 use Rattle.segevict.proofs.Naming.{Counting, counting_first, counting_none, counting_one, quiet_still, used_still}
-use Rattle.segevict.proofs.named.named_rows.Goals as goal
-use Rattle.segevict.proofs.named.named_rows.Goals.{then-is_named, else-is_named}
+use Rattle.segevict.proofs.named.named_each_row.Goals as goal
+use Rattle.segevict.proofs.named.named_each_row.Goals.{then-is_named, else-is_named}
 
 pub loop-row-init : goal.loop-row-init
 loop-row-init c = counting_first c.args.board.now c.args.segment c.args.pass.now c.requires.quiet.pass

@@ -6,7 +6,7 @@ use Rattle.segwrite.proofs.Places.{idles_then}
 use Rattle.segevict.proofs.RowsOut.{quiet_looking}
 use Rattle.segevict.proofs.Seeking.{stored_over}
 use Rattle.segevict.proofs.KeptRows.{kept_place, may_release, next_q, room_there, row_busy, row_gone, row_moved, row_no_room, row_seldom, row_went, segments_q, stored_q, target_place, target_q}
-use Rattle.segevict.proofs.retention.keep_used_row.Goals as goal
+use Rattle.segevict.proofs.retention.keep_first_row.Goals as goal
 
 pub returns-in_default : goal.returns-in_default
 returns-in_default c = let b = c.args.board.now in let r = c.item_of_row-bucket in let f = c.find_row in

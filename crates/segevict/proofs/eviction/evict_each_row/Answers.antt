@@ -4,8 +4,8 @@ use Rattle.segbase.specs.Words.{used_of}
 use Rattle.segstore.specs.Words.{GoesOn}
 use Rattle.segevict.specs.Evicting.{CostsOfEvict, IsEvictAnswer}
 use Rattle.segevict.proofs.Evictions.{Evicting, evicting_first, evicting_one, evicting_none, barred_on, barred_answer, barred_costs, row_there, unnamed_few, emptied_on, emptied_answer, emptied_costs}
-use Rattle.segevict.proofs.eviction.evict_rows.Goals as goal
-use Rattle.segevict.proofs.eviction.evict_rows.Goals.{in-Evicted, in-Left}
+use Rattle.segevict.proofs.eviction.evict_each_row.Goals as goal
+use Rattle.segevict.proofs.eviction.evict_each_row.Goals.{in-Evicted, in-Left}
 
 pub loop-row-init : goal.loop-row-init
 loop-row-init c = evicting_first c.args.board.now c.args.segment c.args.from c.args.pass.now c.requires.quiet c.requires.unnamed

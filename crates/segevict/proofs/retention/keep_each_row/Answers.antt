@@ -3,8 +3,8 @@ use Rattle.segbase.specs.Words.{used_of}
 use Rattle.segstore.proofs.Keeping.{owns_used}
 use Rattle.segevict.proofs.Keeping.{item_of, Keeping, keep_barred, keep_done, keep_stopped, keeping_first, keeping_left, keeping_moved}
 use Rattle.segevict.specs.declared.retention.KeepRowAnswer.TheVariants as kept
-use Rattle.segevict.proofs.retention.keep_rows.Goals as goal
-use Rattle.segevict.proofs.retention.keep_rows.Goals.{in-Moved, in-Left}
+use Rattle.segevict.proofs.retention.keep_each_row.Goals as goal
+use Rattle.segevict.proofs.retention.keep_each_row.Goals.{in-Moved, in-Left}
 
 pub loop-row-init : goal.loop-row-init
 loop-row-init c = keeping_first c.args.board.now c.args.segment c.args.into c.args.cutoff c.args.pass.now c.requires.quiet

@@ -1,0 +1,5 @@
+use Rattle.std.specs.Prelude.{◌-◌}
+use Rattle.segevict.proofs.spans.first_from.Given as goal
+
+abbrev pub decreases-loop-row : goal.decreases-loop-row
+decreases-loop-row l = l.board.shape.rows - l.row
