@@ -1,5 +1,6 @@
 pub mod Made
 pub mod Refills
+pub mod Currents
 pub mod Meeting
 pub mod Noting
 pub mod Since

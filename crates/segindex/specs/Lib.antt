@@ -1,5 +1,6 @@
 pub mod Closing
 pub mod Commands
+pub mod Currents
 pub mod Index
 pub mod LaterReads
 pub mod Laws

@@ -1,6 +1,7 @@
 -- The words of this crate that others use, from one place.
 pub use Rattle.segindex.specs.Closing.{AreAllQuiet, IsContentOfAll, IsEnd, IsEndOfAll, pairs_of}
 pub use Rattle.segindex.specs.Commands.{AnswersCommand}
+pub use Rattle.segindex.specs.Currents.{MakesCurrent, storing_into}
 pub use Rattle.segindex.specs.Index.{board_of, IsNew, shape_of}
 pub use Rattle.segindex.specs.LaterReads.{NotedIsRead, StoodIsRead, StoredStands, Stood, StoresBetween}
 pub use Rattle.segindex.specs.Meeting.{Meets, MeetsPass}

@@ -6,6 +6,7 @@
 
 mod ahead;
 mod close;
+mod current;
 mod index;
 mod laws;
 mod lock;
@@ -22,6 +23,7 @@ mod tests;
 mod write;
 
 pub use close::OutOfMemory;
+pub use current::CurrentAnswer;
 pub use index::Index;
 pub use laws::{
     calls_are_in_order, calls_are_linearizable, calls_have_an_effect, cas_fails_where_written,

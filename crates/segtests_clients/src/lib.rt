@@ -5,6 +5,8 @@
 #[cfg(test)]
 mod bounded_puts;
 #[cfg(test)]
+mod by_turns;
+#[cfg(test)]
 mod cache_server;
 #[cfg(test)]
 mod callers;
