@@ -26,7 +26,7 @@ use Rattle.segclient.specs.declared.put.PutAnswer.TheVariants as put
 use Rattle.segclient.specs.Clearing.{IsCleared}
 use Rattle.segclient.specs.Member.{IsMember}
 use Rattle.segclient.specs.PutCalls.{PutCall, sets, evicts, keeps, refills, Plan, Makes}
-use Rattle.segclient.specs.PutParts.{AreSets, busy_sets, Sets, SetsIfFresh}
+use Rattle.segclient.specs.PutParts.{AreSets, busy_sets, Sets, SetsIfTimely}
 use Rattle.segclient.specs.Rings.{IsOwnRing}
 use Rattle.segclient.proofs.Calls.{makes_on}
 
@@ -130,9 +130,9 @@ module _ (b : Board) (plan : Plan) where
   pub sets_stay : (told : PutAnswer) (p q : Pass) → IsQuiet b p → Sets b plan told p q → StaysCleared b.shape p q
   sets_stay told p q quiet made = only_stay made.calls p q quiet (are_only told made.calls made.are) made.makes
 
-  pub fresh_stays : (moment : ℕ) (told : PutAnswer) (p q : Pass) → IsQuiet b p → SetsIfFresh b plan moment told p q → StaysCleared b.shape p q
-  fresh_stays moment told p q quiet (inl stale) = stays_same b.shape p q stale.2
-  fresh_stays moment told p q quiet (inr made) = sets_stay told p q quiet made
+  pub timely_stays : (told : PutAnswer) (p q : Pass) → IsQuiet b p → SetsIfTimely b plan told p q → StaysCleared b.shape p q
+  timely_stays told p q quiet (inl late) = stays_same b.shape p q late.2
+  timely_stays told p q quiet (inr made) = sets_stay told p q quiet made
 
 -- ---- a member
 

@@ -3,6 +3,7 @@ pub mod Calls
 pub mod Cleared
 pub mod Few
 pub mod InTurn
+pub mod Lasting
 pub mod OneTurn
 pub mod Order
 pub mod Places

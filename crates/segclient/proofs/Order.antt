@@ -14,8 +14,8 @@ use Rattle.segstore.specs.Words.{has_room}
 use Rattle.segclient.specs.declared.put.PutAnswer.{PutAnswer}
 use Rattle.segclient.specs.declared.put.PutAnswer.TheVariants as put
 use Rattle.segclient.specs.declared.effort.Effort.{Effort}
-use Rattle.segclient.specs.PutCalls.{PutCall, sets, evicts, keeps, refills, Plan, Makes}
-use Rattle.segclient.specs.PutParts.{AreOpen, AreSets, busy_sets, effort_from, Empties, EndsSo, IsEffort, is_stale, MakesPut, MakesRoom, room_plan, Sets, SetsIfFresh, WasEmptied}
+use Rattle.segclient.specs.PutCalls.{PutCall, sets, evicts, keeps, refills, Plan, Makes, room_plan}
+use Rattle.segclient.specs.PutParts.{AreOpen, AreSets, busy_sets, effort_from, Empties, EndsSo, IsEffort, is_outside, MakesPut, MakesRoom, Sets, SetsIfTimely, WasEmptied}
 use Rattle.segclient.specs.Putting.{last_sets, SetsAtMost16, SetsUntilFull}
 use Rattle.segclient.proofs.Calls.{both, effort_more, effort_one, effort_then, no_effort, made_same, makes_same, makes_then, makes_within, one_more, refused_then, room_within, last_of, evicted_came}
 use Rattle.segclient.proofs.Runs.{apart_then, evict_then, few_sets, no_last, room_then, sets_then}
@@ -139,8 +139,8 @@ until_then (refills segment told ∷ later) earlier full are = (Contains-append_
 -- ---- efforts
 
 -- the same with other numbers
-pub as_many : (b : Board) (plan : Plan) (moment most total : ℕ) (told : PutAnswer) (first effort : Effort) (p q : Pass) → most ≤ total → first ≡ effort → MakesPut b plan moment most told first p q → MakesPut b plan moment total told effort p q
-as_many b plan moment most total told first effort p q enough same puts = record {
+pub as_many : (b : Board) (plan : Plan) (most total : ℕ) (told : PutAnswer) (first effort : Effort) (p q : Pass) → most ≤ total → first ≡ effort → MakesPut b plan most told first p q → MakesPut b plan total told effort p q
+as_many b plan most total told first effort p q enough same puts = record {
   calls = puts.calls;
   makes = puts.makes;
   few = let few = puts.few in omega (arith, few, enough);
@@ -168,7 +168,7 @@ no_sets_last : last_sets [] ≡ 0
 unfolding last_sets
 no_sets_last = refl
 
-module _ (b : Board) (plan : Plan) (moment : ℕ) where
+module _ (b : Board) (plan : Plan) where
   -- it made calls after which room may be made, since there is none for it
   pub record GoesOnSo (most : ℕ) (effort : Effort) (p q : Pass) : Type 0 where
     pub calls : List PutCall
@@ -176,12 +176,12 @@ module _ (b : Board) (plan : Plan) (moment : ℕ) where
     pub few : length calls ≤ most
     pub all_open : AreOpen calls
     pub comes : IsEffort calls effort
-    pub lacks : is_stale moment p ≡ false → has_room b.shape p ≡ true → ⊥
+    pub lacks : is_outside plan.span p ≡ false → has_room b.shape p ≡ true → ⊥
     pub tries : SetsAtMost16 calls
     pub apart : (last_sets calls ≡ 0) ⊎ (has_room b.shape q ≡ false)
 
   -- a set that lacked room
-  pub lacked : (p q : Pass) → SetsIfFresh b plan moment put.NoRoom p q → GoesOnSo 16 (effort_from 0 0 0) p q
+  pub lacked : (p q : Pass) → SetsIfTimely b plan put.NoRoom p q → GoesOnSo 16 (effort_from 0 0 0) p q
   lacked p q (inl (late, is, same)) = record {
     calls = [];
     makes = made_same b plan p q same;
@@ -204,7 +204,7 @@ module _ (b : Board) (plan : Plan) (moment : ℕ) where
   }
 
   -- an answer that ends a put
-  pub sets_end : (most : ℕ) (told : PutAnswer) (p q : Pass) → 16 ≤ most → told ≢ put.NoRoom → SetsIfFresh b plan moment told p q → MakesPut b plan moment most told (effort_from 0 0 0) p q
+  pub sets_end : (most : ℕ) (told : PutAnswer) (p q : Pass) → 16 ≤ most → told ≢ put.NoRoom → SetsIfTimely b plan told p q → MakesPut b plan most told (effort_from 0 0 0) p q
   sets_end most told p q enough other (inl (late, is, same)) = absurd (other is)
   sets_end most told p q enough other (inr one) = record {
     calls = one.calls;
@@ -238,7 +238,7 @@ module _ (b : Board) (plan : Plan) (moment : ℕ) where
         apart = apart_by (has_room b.shape r) refl;
       }
 
-      pub no_room_end : made ≡ false → MakesPut b plan moment (most + more) put.NoRoom (both first effort) p r
+      pub no_room_end : made ≡ false → MakesPut b plan (most + more) put.NoRoom (both first effort) p r
       no_room_end none = record {
         calls = room_on.calls;
         makes = room_on.makes;
@@ -257,7 +257,7 @@ module _ (b : Board) (plan : Plan) (moment : ℕ) where
     apart_of (inr full) left = absurd (false≢true (sym full ∙ left))
 
     -- a set, for which room was made
-    pub sets_on : (told : PutAnswer) → told ≢ put.NoRoom → has_room b.shape q ≡ true → Sets b plan told q r → MakesPut b plan moment (most + 16) told first p r
+    pub sets_on : (told : PutAnswer) → told ≢ put.NoRoom → has_room b.shape q ≡ true → Sets b plan told q r → MakesPut b plan (most + 16) told first p r
     sets_on told other left last = record {
       calls = last.calls ++ one.calls;
       makes = makes_then b plan last.calls one.calls p q r one.makes last.makes;
@@ -270,8 +270,8 @@ module _ (b : Board) (plan : Plan) (moment : ℕ) where
 
   -- a put whose bucket was full, and that went on once a segment was evicted
   pub whole : (most total : ℕ) (told : PutAnswer) (first out last effort : Effort) (p q r t : Pass) → most + 1 + most ≤ total → both (both first out) last ≡ effort
-      → MakesPut b plan moment most put.BucketFull first p q → Empties b out q r → MakesPut b plan moment most told last r t
-      → (puts : MakesPut b plan moment total told effort p t) × (told ≡ put.BucketFull → WasEmptied puts.calls)
+      → MakesPut b plan most put.BucketFull first p q → Empties b out q r → MakesPut b plan most told last r t
+      → (puts : MakesPut b plan total told effort p t) × (told ≡ put.BucketFull → WasEmptied puts.calls)
   whole most total told first out last effort p q r t enough sum full empties then =
       let segment = empties.segment in
       let answer = empties.told in

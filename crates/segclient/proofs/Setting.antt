@@ -1,7 +1,6 @@
 -- Sets in a row, each made again after one that was Busy.
-use Rattle.std.proofs.Common.{◌≡◌, ℕ, zero, suc, ◌+◌, ◌<◌, ◌≤◌, true, false, ◌∷◌, length, Some, nat_le, inl, inr, refl, sym, ap, ◌∙◌, subst, add-one, le-leb, arith}
-use Rattle.std.proofs.lemmas.Bool.Decides.{leb_tells}
-use Rattle.std.proofs.lemmas.Option.{same_Some}
+use Rattle.std.proofs.Common.{◌≡◌, ℕ, zero, suc, ◌+◌, false, ◌∷◌, length, Some, nat_lt, refl, sym, ap, ◌∙◌, subst, add-one, arith}
+use Rattle.std.proofs.lemmas.Bool.{le-ltb, ltb-false, or_from, or_parts}
 use Rattle.segmodel.specs.declared.answer.WriteAnswer.TheVariants as write
 use Rattle.segmodel.specs.declared.request.Request.TheVariants.{Set}
 use Rattle.segmodel.specs.Words.{WriteAnswer}
@@ -10,8 +9,9 @@ use Rattle.segbase.specs.Words.{Board, Pass}
 use Rattle.segstore.specs.Words.{has_room}
 use Rattle.segwrite.specs.Words.{IsSetAnswer, Writes}
 use Rattle.segclient.specs.declared.put.Order.{Order}
-use Rattle.segclient.specs.PutCalls.{sets, Makes, StoresUntil}
-use Rattle.segclient.specs.PutParts.{busy_sets, current_deadline, deadline_at, is_over, is_stale, plan_of}
+use Rattle.segclient.specs.declared.segments.Span.{Span}
+use Rattle.segclient.specs.PutCalls.{sets, IsInSpan, Makes, StoresUntil}
+use Rattle.segclient.specs.PutParts.{busy_sets, current_deadline, deadline_at, is_outside, misses, plan_of}
 use Rattle.segclient.proofs.Calls.{none_made, one_more}
 
 pub busy_long : (busy : ℕ) → length (busy_sets busy) ≡ busy
@@ -29,36 +29,38 @@ same_room b p q same = ap (λ (x : PlainPart). has_room b.shape (record p { plai
 pub until_is : (until : ℕ) (p : Pass) → StoresUntil until p → current_deadline p ≡ Some until
 until_is until p stores = ap (deadline_at p) stores.1 ∙ stores.2
 
-pub stale_until : (until now : ℕ) (p : Pass) → StoresUntil until p → is_stale now p ≡ nat_le until now
-stale_until until now p stores = ap (is_over now) (until_is until p stores)
+-- a deadline that isn't missed is one of these
+in_span : (span : Span) (until : ℕ) → misses span (Some until) ≡ false → IsInSpan span until
+in_span span until none =
+    let parts = or_parts (nat_lt until span.earliest) (nat_lt span.latest until) none in
+    (ltb-false until span.earliest parts.0, ltb-false span.latest until parts.1)
 
-pub not_stale : (until now : ℕ) (p : Pass) → StoresUntil until p → now < until → is_stale now p ≡ false
-not_stale until now p stores late = elim (leb_tells until now) [
-  | inl (t, le) ↦ absurd (omega (arith, le, late))
-  | inr (f, lt) ↦ stale_until until now p stores ∙ f
-]
+-- and one of these isn't missed
+pub not_outside : (span : Span) (until : ℕ) (p : Pass) → StoresUntil until p → IsInSpan span until → is_outside span p ≡ false
+not_outside span until p stores within = ap (misses span) (until_is until p stores)
+    ∙ or_from (nat_lt until span.earliest) (nat_lt span.latest until) (le-ltb until span.earliest within.0) (le-ltb span.latest until within.1)
 
 module _ (b : Board) (order : Order) where
-  abbrev IsFresh : Pass → Type 0
-  IsFresh p = is_stale order.policy.moment p ≡ true → current_deadline p ≡ Some order.policy.deadline
+  abbrev IsTimely : Pass → Type 0
+  IsTimely p = is_outside order.policy.span p ≡ false
 
-  fresh_until : (p : Pass) → IsFresh p → (until : ℕ) → StoresUntil until p → until ≤ order.policy.moment → until ≡ order.policy.deadline
-  fresh_until p fresh until stores late = same_Some until order.policy.deadline (sym (until_is until p stores) ∙ fresh (stale_until until order.policy.moment p stores ∙ le-leb until order.policy.moment late))
+  timely_until : (p : Pass) → IsTimely p → (until : ℕ) → StoresUntil until p → IsInSpan order.policy.span until
+  timely_until p timely until stores = in_span order.policy.span until (ap (misses order.policy.span) (sym (until_is until p stores)) ∙ timely)
 
   pub no_sets : (p : Pass) → Makes b (plan_of order) (busy_sets 0) p p
   unfolding busy_sets
   no_sets p = none_made b (plan_of order) p
 
   -- one more
-  pub set_more : (told : WriteAnswer) (busy : ℕ) (p q r : Pass) → IsFresh p → Makes b (plan_of order) (busy_sets busy) p q → q.plain ≡ p.plain → IsSetAnswer told → Writes b (Set order.key.now order.value.now order.policy.moment) told q r
+  pub set_more : (told : WriteAnswer) (busy : ℕ) (p q r : Pass) → IsTimely p → Makes b (plan_of order) (busy_sets busy) p q → q.plain ≡ p.plain → IsSetAnswer told → Writes b (Set order.key.now order.value.now order.policy.moment) told q r
       → Makes b (plan_of order) (sets told ∷ busy_sets busy) p r
-  set_more told busy p q r fresh were same set writes =
+  set_more told busy p q r timely were same set writes =
       let until = same_until p q same in
       one_more b (plan_of order) (sets told) (busy_sets busy) p q r were
-      (order.key.now, order.value.now, order.policy.moment, refl, fresh_until q (λ stale. until ∙ fresh (ap (is_over order.policy.moment) (sym until) ∙ stale)), set, writes)
+      (order.key.now, order.value.now, order.policy.moment, refl, timely_until q (ap (misses order.policy.span) until ∙ timely), set, writes)
 
-  pub busy_more : (busy : ℕ) (p q r : Pass) → IsFresh p → Makes b (plan_of order) (busy_sets busy) p q → q.plain ≡ p.plain → Writes b (Set order.key.now order.value.now order.policy.moment) write.Busy q r
+  pub busy_more : (busy : ℕ) (p q r : Pass) → IsTimely p → Makes b (plan_of order) (busy_sets busy) p q → q.plain ≡ p.plain → Writes b (Set order.key.now order.value.now order.policy.moment) write.Busy q r
       → Makes b (plan_of order) (busy_sets (busy + 1)) p r
   unfolding busy_sets
-  busy_more busy p q r fresh were same writes =
-      subst (λ n. Makes b (plan_of order) (busy_sets n) p r) (sym (add-one busy)) (set_more write.Busy busy p q r fresh were same tt writes)
+  busy_more busy p q r timely were same writes =
+      subst (λ n. Makes b (plan_of order) (busy_sets n) p r) (sym (add-one busy)) (set_more write.Busy busy p q r timely were same tt writes)

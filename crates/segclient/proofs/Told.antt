@@ -21,8 +21,8 @@ use Rattle.segclient.specs.Clearing.{effort_of_steps}
 use Rattle.segclient.specs.Entries.{AddsForPut}
 use Rattle.segclient.specs.Member.{IsMember}
 use Rattle.segclient.specs.PutParts.{effort_of}
-use Rattle.segclient.specs.Puts.{deadline_of, Puts}
-use Rattle.segclient.proofs.Added.{put_adds}
+use Rattle.segclient.specs.Puts.{PutsFor}
+use Rattle.segclient.proofs.Added.{chosen_on, put_adds}
 use Rattle.segclient.proofs.Calls.{makes_on}
 use Rattle.segclient.proofs.Steps.{clears_on}
 
@@ -69,17 +69,20 @@ came_in pass entry (next ∷ later) others (e ∷ more) old all = ⊎_elim
     (inner.0, inner.1, (e ∷ inner.2.0, ap (λ l. e ∷ l) inner.2.1)))
     (cases_Bool (pass_of e == pass))
 
-pub put_stands : (i : Index) (key value : List ℕ) (old new : Member) → IsMember i old → Puts key value put.Stored (board_of i) old new
+pub put_stands : (i : Index) (time : ℕ) (key value : List ℕ) (old new : Member) → IsMember i old → PutsFor time key value put.Stored (board_of i) old new
     → SinceFirst old.pass new.pass (λ start. StoresBetween (shape_of i) (number old.pass) (Set key value old.clock) (event.seen start) (seen new.pass))
-put_stands i key value old new member puts = by on.steps
+put_stands i time key value old new member puts = by on.steps
   where
     on : GoesOn (board_of i) old.pass new.pass
     on =
-        let first = makes_on (board_of i) (record { request = Some (Set key value old.clock); cutoff = old.cutoff; deadline = deadline_of old }) puts.calls old.pass puts.between member.0 puts.makes in
-        goes_then (board_of i) old.pass puts.between new.pass first (clears_on (board_of i) old.cutoff (deadline_of old) puts.steps puts.between new.pass first.quiet puts.clears)
+        let b = board_of i in
+        let from = chosen_on b old.pass puts.chosen member.0 puts.chooses in
+        let made = makes_on b (record { request = Some (Set key value old.clock); cutoff = old.cutoff; deadline = puts.until; span = puts.span }) puts.calls puts.chosen puts.between from.on.quiet puts.makes in
+        goes_then b old.pass puts.between new.pass (goes_then b old.pass puts.chosen puts.between from.on made)
+        (clears_on b old.cutoff puts.until puts.steps puts.between new.pass made.quiet puts.clears)
 
-    adds : AddsForPut (shape_of i) (number old.pass) old.cutoff (Set key value old.clock) (deadline_of old) put.Stored (effort_of puts.calls) (effort_of_steps puts.steps) (mine_of old.pass) (mine_of new.pass)
-    adds = put_adds i key value old new member put.Stored puts
+    adds : AddsForPut (shape_of i) (number old.pass) old.cutoff (Set key value old.clock) puts.until put.Stored (effort_of puts.calls) (effort_of_steps puts.steps) (mine_of old.pass) (mine_of new.pass)
+    adds = put_adds i time key value old new member put.Stored puts
 
     n : ℕ
     n = number old.pass

@@ -26,22 +26,22 @@ use Rattle.segevict.proofs.RowsOut.{goes_then}
 use Rattle.segindex.specs.Refilling.{RefillsSegmentWith}
 use Rattle.segindex.proofs.QuietPass.{owned}
 use Rattle.segclient.specs.Clearing.{came_to_step, evicts_row, keeps_into}
-use Rattle.segclient.specs.Entries.{IsOfRoom, is_eviction, is_move, is_refilling, AddsRoom}
+use Rattle.segclient.specs.Entries.{IsOfRoom, IsOnly, is_eviction, is_move, is_refilling, AddsRoom}
 use Rattle.segclient.specs.PutCalls.{PutCall, sets, evicts, keeps, refills, Plan, came_to, refilled_segments, kept_items, evicted_keys, IsCall, Makes}
 use Rattle.segclient.specs.PutParts.{AreOpen}
 
 -- ---- entries
 
 -- none
-nothing_added : (shape : Shape) (pass : ℕ) (cutoff : Option ℕ) (deadline : ℕ) (old : List Entry) → AddsRoom shape pass cutoff deadline 0 0 0 old old
-nothing_added shape pass cutoff deadline old = record { more = []; of_room = All-nil (IsOfRoom shape pass cutoff deadline); refillings = refl; moves = refl; evictions = refl; entries = refl }
+nothing_added : (shape : Shape) (pass : ℕ) (cutoff : Option ℕ) (Due : ℕ → Type 0) (old : List Entry) → AddsRoom shape pass cutoff Due 0 0 0 old old
+nothing_added shape pass cutoff Due old = record { more = []; of_room = All-nil (IsOfRoom shape pass cutoff Due); refillings = refl; moves = refl; evictions = refl; entries = refl }
 
 -- some, and then more
-added_then : (shape : Shape) (pass : ℕ) (cutoff : Option ℕ) (deadline r m k s n l : ℕ) (old between new : List Entry)
-    → AddsRoom shape pass cutoff deadline r m k old between → AddsRoom shape pass cutoff deadline s n l between new → AddsRoom shape pass cutoff deadline (r + s) (m + n) (k + l) old new
-added_then shape pass cutoff deadline r m k s n l old between new first then = record {
+added_then : (shape : Shape) (pass : ℕ) (cutoff : Option ℕ) (Due : ℕ → Type 0) (r m k s n l : ℕ) (old between new : List Entry)
+    → AddsRoom shape pass cutoff Due r m k old between → AddsRoom shape pass cutoff Due s n l between new → AddsRoom shape pass cutoff Due (r + s) (m + n) (k + l) old new
+added_then shape pass cutoff Due r m k s n l old between new first then = record {
   more = then.more ++ first.more;
-  of_room = All-append (IsOfRoom shape pass cutoff deadline) then.more first.more then.of_room first.of_room;
+  of_room = All-append (IsOfRoom shape pass cutoff Due) then.more first.more then.of_room first.of_room;
   refillings = let both = count_by-append is_refilling then.more first.more in let one = first.refillings in let two = then.refillings in omega (arith, both, one, two);
   moves = let both = count_by-append is_move then.more first.more in let one = first.moves in let two = then.moves in omega (arith, both, one, two);
   evictions = let both = count_by-append is_eviction then.more first.more in let one = first.evictions in let two = then.evictions in omega (arith, both, one, two);
@@ -49,21 +49,21 @@ added_then shape pass cutoff deadline r m k s n l old between new first then = r
 }
 
 -- one refilling
-refilling_added : (shape : Shape) (pass : ℕ) (cutoff : Option ℕ) (deadline segment : ℕ) (old : List Entry) → owner shape segment ≡ pass → AddsRoom shape pass cutoff deadline 1 0 0 old (Refilled pass segment deadline ∷ old)
-refilling_added shape pass cutoff deadline segment old own = record {
-  more = Refilled pass segment deadline ∷ [];
-  of_room = All-cons (IsOfRoom shape pass cutoff deadline) (Refilled pass segment deadline) [] (inr (inl (segment, own, refl))) (All-nil (IsOfRoom shape pass cutoff deadline));
-  refillings = count_by-cons is_refilling (Refilled pass segment deadline) [];
-  moves = count_by-cons is_move (Refilled pass segment deadline) [];
-  evictions = count_by-cons is_eviction (Refilled pass segment deadline) [];
+refilling_added : (shape : Shape) (pass : ℕ) (cutoff : Option ℕ) (Due : ℕ → Type 0) (until segment : ℕ) (old : List Entry) → owner shape segment ≡ pass → Due until → AddsRoom shape pass cutoff Due 1 0 0 old (Refilled pass segment until ∷ old)
+refilling_added shape pass cutoff Due until segment old own due = record {
+  more = Refilled pass segment until ∷ [];
+  of_room = All-cons (IsOfRoom shape pass cutoff Due) (Refilled pass segment until) [] (inr (inl (segment, until, own, due, refl))) (All-nil (IsOfRoom shape pass cutoff Due));
+  refillings = count_by-cons is_refilling (Refilled pass segment until) [];
+  moves = count_by-cons is_move (Refilled pass segment until) [];
+  evictions = count_by-cons is_eviction (Refilled pass segment until) [];
   entries = refl;
 }
 
 -- evictions alone
-are_of_room : (shape : Shape) (pass : ℕ) (cutoff : Option ℕ) (deadline segment : ℕ) (more : List Entry) → owner shape segment ≡ pass → AreEvictions pass segment more → All (IsOfRoom shape pass cutoff deadline) more
-are_of_room shape pass cutoff deadline segment [] own are = All-nil (IsOfRoom shape pass cutoff deadline)
-are_of_room shape pass cutoff deadline segment (entry ∷ more) own are =
-    All-cons (IsOfRoom shape pass cutoff deadline) entry more (inl (are.0.0, segment, own, are.0.1)) (are_of_room shape pass cutoff deadline segment more own are.1)
+are_of_room : (shape : Shape) (pass : ℕ) (cutoff : Option ℕ) (Due : ℕ → Type 0) (segment : ℕ) (more : List Entry) → owner shape segment ≡ pass → AreEvictions pass segment more → All (IsOfRoom shape pass cutoff Due) more
+are_of_room shape pass cutoff Due segment [] own are = All-nil (IsOfRoom shape pass cutoff Due)
+are_of_room shape pass cutoff Due segment (entry ∷ more) own are =
+    All-cons (IsOfRoom shape pass cutoff Due) entry more (inl (are.0.0, segment, own, are.0.1)) (are_of_room shape pass cutoff Due segment more own are.1)
 
 none_evicted : (is : Entry → Bool) (pass segment : ℕ) (more : List Entry) → ((key : List ℕ) → is (Evicted pass key segment) ≡ false) → AreEvictions pass segment more → count_by is more ≡ 0
 none_evicted is pass segment [] other are = refl
@@ -75,11 +75,11 @@ all_evictions : (pass segment : ℕ) (more : List Entry) → AreEvictions pass s
 all_evictions pass segment [] are = refl
 all_evictions pass segment (entry ∷ more) are = count_by-cons is_eviction entry more ∙ ap (λ e. cond (is_eviction e) 1 0 + count_by is_eviction more) are.0.1 ∙ (let rest = all_evictions pass segment more are.1 in omega (arith, rest))
 
-evictions_added : (shape : Shape) (pass : ℕ) (cutoff : Option ℕ) (deadline segment keys : ℕ) (more old new : List Entry) → owner shape segment ≡ pass → AreEvictions pass segment more → length more ≡ keys → new ≡ more ++ old
-    → AddsRoom shape pass cutoff deadline 0 0 keys old new
-evictions_added shape pass cutoff deadline segment keys more old new own are long is = record {
+evictions_added : (shape : Shape) (pass : ℕ) (cutoff : Option ℕ) (Due : ℕ → Type 0) (segment keys : ℕ) (more old new : List Entry) → owner shape segment ≡ pass → AreEvictions pass segment more → length more ≡ keys → new ≡ more ++ old
+    → AddsRoom shape pass cutoff Due 0 0 keys old new
+evictions_added shape pass cutoff Due segment keys more old new own are long is = record {
   more = more;
-  of_room = are_of_room shape pass cutoff deadline segment more own are;
+  of_room = are_of_room shape pass cutoff Due segment more own are;
   refillings = none_evicted is_refilling pass segment more (λ key. refl) are;
   moves = none_evicted is_move pass segment more (λ key. refl) are;
   evictions = all_evictions pass segment more are ∙ long;
@@ -87,10 +87,10 @@ evictions_added shape pass cutoff deadline segment keys more old new own are lon
 }
 
 -- one move
-move_added : (shape : Shape) (pass : ℕ) (cutoff : Option ℕ) (deadline : ℕ) (key : List ℕ) (segment into : ℕ) (old new : List Entry) → IsSome cutoff → owner shape segment ≡ pass → owner shape into ≡ pass → new ≡ Moved pass key segment into ∷ old → AddsRoom shape pass cutoff deadline 0 1 0 old new
-move_added shape pass cutoff deadline key segment into old new asked from to is = record {
+move_added : (shape : Shape) (pass : ℕ) (cutoff : Option ℕ) (Due : ℕ → Type 0) (key : List ℕ) (segment into : ℕ) (old new : List Entry) → IsSome cutoff → owner shape segment ≡ pass → owner shape into ≡ pass → new ≡ Moved pass key segment into ∷ old → AddsRoom shape pass cutoff Due 0 1 0 old new
+move_added shape pass cutoff Due key segment into old new asked from to is = record {
   more = Moved pass key segment into ∷ [];
-  of_room = All-cons (IsOfRoom shape pass cutoff deadline) (Moved pass key segment into) [] (inr (inr (asked, (key, segment, into, from, to, refl)))) (All-nil (IsOfRoom shape pass cutoff deadline));
+  of_room = All-cons (IsOfRoom shape pass cutoff Due) (Moved pass key segment into) [] (inr (inr (asked, (key, segment, into, from, to, refl)))) (All-nil (IsOfRoom shape pass cutoff Due));
   refillings = count_by-cons is_refilling (Moved pass key segment into) [];
   moves = count_by-cons is_move (Moved pass key segment into) [];
   evictions = count_by-cons is_eviction (Moved pass key segment into) [];
@@ -99,15 +99,15 @@ move_added shape pass cutoff deadline key segment into old new asked from to is 
 
 -- ---- calls
 
-module _ (b : Board) (cutoff : Option ℕ) (deadline : ℕ) where
+module _ (b : Board) (cutoff : Option ℕ) (Due : ℕ → Type 0) where
   -- calls: so many segments were refilled, so many items kept, and so many keys evicted
   pub record Comes (refilled kept keys : ℕ) (p q : Pass) : Type 0 where
     pub on : GoesOn b p q
     pub memo : memo q ≡ memo p
-    pub adds : AddsRoom b.shape (number p) cutoff deadline refilled kept keys (mine p) (mine q)
+    pub adds : AddsRoom b.shape (number p) cutoff Due refilled kept keys (mine p) (mine q)
 
   pub comes_none : (p : Pass) → IsQuiet b p → Comes 0 0 0 p p
-  comes_none p quiet = record { on = goes_same b p quiet; memo = refl; adds = nothing_added b.shape (number p) cutoff deadline (mine p) }
+  comes_none p quiet = record { on = goes_same b p quiet; memo = refl; adds = nothing_added b.shape (number p) cutoff Due (mine p) }
 
   pub same_none : (p q : Pass) → IsQuiet b p → q ≡ p → Comes 0 0 0 p q
   same_none p q quiet same = subst (Comes 0 0 0 p) (sym same) (comes_none p quiet)
@@ -116,14 +116,14 @@ module _ (b : Board) (cutoff : Option ℕ) (deadline : ℕ) where
   unchanged_none p q on nothing = record {
     on = on;
     memo = nothing.memo;
-    adds = subst (AddsRoom b.shape (number p) cutoff deadline 0 0 0 (mine p)) (sym nothing.entries) (nothing_added b.shape (number p) cutoff deadline (mine p));
+    adds = subst (AddsRoom b.shape (number p) cutoff Due 0 0 0 (mine p)) (sym nothing.entries) (nothing_added b.shape (number p) cutoff Due (mine p));
   }
 
   pub comes_then : (r m k s n l : ℕ) (p q t : Pass) → Comes r m k p q → Comes s n l q t → Comes (r + s) (m + n) (k + l) p t
   comes_then r m k s n l p q t first then = record {
     on = goes_then b p q t first.on then.on;
     memo = then.memo ∙ first.memo;
-    adds = added_then b.shape (number p) cutoff deadline r m k s n l (mine p) (mine q) (mine t) first.adds (subst (λ i. AddsRoom b.shape i cutoff deadline s n l (mine q) (mine t)) first.on.same then.adds);
+    adds = added_then b.shape (number p) cutoff Due r m k s n l (mine p) (mine q) (mine t) first.adds (subst (λ i. AddsRoom b.shape i cutoff Due s n l (mine q) (mine t)) first.on.same then.adds);
   }
 
   -- the same with other names for the numbers
@@ -145,7 +145,7 @@ module _ (b : Board) (cutoff : Option ℕ) (deadline : ℕ) where
       by (inl out) = record {
         on = went.on;
         memo = out.1.memo;
-        adds = evictions_added b.shape (number p) cutoff deadline segment keys out.1.evictions (mine p) (mine q) (in_use_own p segment quiet out.0) out.1.all out.1.counted out.1.entries;
+        adds = evictions_added b.shape (number p) cutoff Due segment keys out.1.evictions (mine p) (mine q) (in_use_own p segment quiet out.0) out.1.all out.1.counted out.1.entries;
       }
       by (inr none) = subst (λ k. Comes 0 0 k p q) (sym none.1) (same_none p q quiet none.2)
 
@@ -155,7 +155,7 @@ module _ (b : Board) (cutoff : Option ℕ) (deadline : ℕ) where
       record {
         on = went.on;
         memo = out.1.memo;
-        adds = evictions_added b.shape (number p) cutoff deadline segment keys out.1.evictions (mine p) (mine q) (in_use_own p segment quiet out.0) out.1.all out.1.counted out.1.entries;
+        adds = evictions_added b.shape (number p) cutoff Due segment keys out.1.evictions (mine p) (mine q) (in_use_own p segment quiet out.0) out.1.all out.1.counted out.1.entries;
       }
 
   -- from this row on
@@ -169,7 +169,7 @@ module _ (b : Board) (cutoff : Option ℕ) (deadline : ℕ) where
   row_evicted segment row evict_row.Evicted p q from quiet out = let went = out.answer.0 in record {
     on = out.on;
     memo = went.memo;
-    adds = evictions_added b.shape (number p) cutoff deadline segment 1 (Evicted (number p) went.key segment ∷ []) (mine p) (mine q) from ((went.key, refl), tt) refl went.entry;
+    adds = evictions_added b.shape (number p) cutoff Due segment 1 (Evicted (number p) went.key segment ∷ []) (mine p) (mine q) from ((went.key, refl), tt) refl went.entry;
   }
   row_evicted segment row evict_row.Left p q from quiet out = unchanged_none p q out.on out.answer.0
   row_evicted segment row evict_row.Busy p q from quiet out = unchanged_none p q out.on out.answer.0
@@ -180,7 +180,7 @@ module _ (b : Board) (cutoff : Option ℕ) (deadline : ℕ) where
   row_kept segment row least kept.Moved p q from asked quiet stayed = let out = stayed.answer in record {
     on = stayed.on;
     memo = out.2.memo;
-    adds = move_added b.shape (number p) cutoff deadline out.3.0 segment out.0 (mine p) (mine q) asked from (in_use_own p out.0 quiet (quiet.segments.in_use out.0 out.1.current)) out.3.1.entries;
+    adds = move_added b.shape (number p) cutoff Due out.3.0 segment out.0 (mine p) (mine q) asked from (in_use_own p out.0 quiet (quiet.segments.in_use out.0 out.1.current)) out.3.1.entries;
   }
   row_kept segment row least kept.Left p q from asked quiet stayed = unchanged_none p q stayed.on stayed.answer.2
   row_kept segment row least kept.NoRoom p q from asked quiet stayed = by stayed.answer
@@ -197,7 +197,7 @@ module _ (b : Board) (cutoff : Option ℕ) (deadline : ℕ) where
   row_kept_into segment row least into kept.Moved p q from asked quiet stayed = let out = stayed.answer in record {
     on = stayed.on;
     memo = out.2.memo;
-    adds = move_added b.shape (number p) cutoff deadline out.3.0 segment out.0 (mine p) (mine q) asked from (in_use_own p out.0 quiet (subst (λ s. state_of p s ≡ Some InUse) (sym out.1.0) (out.1.1.in_use))) out.3.1.entries;
+    adds = move_added b.shape (number p) cutoff Due out.3.0 segment out.0 (mine p) (mine q) asked from (in_use_own p out.0 quiet (subst (λ s. state_of p s ≡ Some InUse) (sym out.1.0) (out.1.1.in_use))) out.3.1.entries;
   }
   row_kept_into segment row least into kept.Left p q from asked quiet stayed = unchanged_none p q stayed.on stayed.answer.2
   row_kept_into segment row least into kept.NoRoom p q from asked quiet stayed = by stayed.answer
@@ -209,19 +209,19 @@ module _ (b : Board) (cutoff : Option ℕ) (deadline : ℕ) where
   row_kept_into segment row least into kept.NotYours p q from asked quiet stayed = same_none p q quiet stayed.answer
   row_kept_into segment row least into kept.NotUsed p q from asked quiet stayed = same_none p q quiet stayed.answer
 
-  refilled : (segment : ℕ) (current : Option ℕ) (p q : Pass) → IsQuiet b p → RefillsSegmentWith b segment deadline current refill.Refilled p q → Comes 1 0 0 p q
-  refilled segment current p q quiet filled = record {
+  refilled : (segment until : ℕ) (current : Option ℕ) (p q : Pass) → Due until → IsQuiet b p → RefillsSegmentWith b segment until current refill.Refilled p q → Comes 1 0 0 p q
+  refilled segment until current p q due quiet filled = record {
     on = filled.on;
     memo = filled.answer.memo;
-    adds = subst (AddsRoom b.shape (number p) cutoff deadline 1 0 0 (mine p)) (sym filled.answer.entry) (refilling_added b.shape (number p) cutoff deadline segment (mine p) (own p segment quiet filled.answer.own));
+    adds = subst (AddsRoom b.shape (number p) cutoff Due 1 0 0 (mine p)) (sym filled.answer.entry) (refilling_added b.shape (number p) cutoff Due until segment (mine p) (own p segment quiet filled.answer.own) due);
   }
 
   -- whichever segment is current then
-  pub some_refilled : (segment : ℕ) (current : Option ℕ) (told : RefillAnswer) (p q : Pass) → IsQuiet b p → RefillsSegmentWith b segment deadline current told p q → Comes (came_to refilled_segments (refills segment told)) 0 0 p q
-  some_refilled segment current refill.Refilled p q quiet out = refilled segment current p q quiet out
-  some_refilled segment current refill.NotYours p q quiet out = same_none p q quiet out.answer
-  some_refilled segment current refill.NotEvicted p q quiet out = same_none p q quiet out.answer
-  some_refilled segment current refill.Held p q quiet out = unchanged_none p q out.on out.answer.0
+  pub some_refilled : (segment until : ℕ) (current : Option ℕ) (told : RefillAnswer) (p q : Pass) → Due until → IsQuiet b p → RefillsSegmentWith b segment until current told p q → Comes (came_to refilled_segments (refills segment told)) 0 0 p q
+  some_refilled segment until current refill.Refilled p q due quiet out = refilled segment until current p q due quiet out
+  some_refilled segment until current refill.NotYours p q due quiet out = same_none p q quiet out.answer
+  some_refilled segment until current refill.NotEvicted p q due quiet out = same_none p q quiet out.answer
+  some_refilled segment until current refill.Held p q due quiet out = unchanged_none p q out.on out.answer.0
 
   -- ---- sets
 
@@ -238,23 +238,23 @@ module _ (b : Board) (cutoff : Option ℕ) (deadline : ℕ) where
 
 module _ (b : Board) (plan : Plan) where
   abbrev Came : ℕ → ℕ → ℕ → Pass → Pass → Type 0
-  Came = Comes b plan.cutoff plan.deadline
+  Came = Comes b plan.cutoff (IsOnly plan.deadline)
 
   call_comes : (call : PutCall) (p q : Pass) → IsQuiet b p → call ≢ sets write.Stored → IsCall b plan call p q → Came (came_to refilled_segments call) (came_to kept_items call) (came_to evicted_keys call) p q
-  call_comes (sets told) p q quiet other (key, value, now, is, fresh, set, writes) = set_lacks b plan.cutoff plan.deadline (Set key value now) told p q set other writes
-  call_comes (evicts segment told) p q quiet other is = evicted_some b plan.cutoff plan.deadline segment 0 told p q quiet is.1
-  call_comes (keeps segment row least told) p q quiet other is = row_kept b plan.cutoff plan.deadline segment row least told p q is.0 (ap is_some is.1.1) quiet is.2
-  call_comes (refills segment told) p q quiet other is = some_refilled b plan.cutoff plan.deadline segment (Some segment) told p q quiet is.1
+  call_comes (sets told) p q quiet other (key, value, now, is, fresh, set, writes) = set_lacks b plan.cutoff (IsOnly plan.deadline) (Set key value now) told p q set other writes
+  call_comes (evicts segment told) p q quiet other is = evicted_some b plan.cutoff (IsOnly plan.deadline) segment 0 told p q quiet is.1
+  call_comes (keeps segment row least told) p q quiet other is = row_kept b plan.cutoff (IsOnly plan.deadline) segment row least told p q is.0 (ap is_some is.1.1) quiet is.2
+  call_comes (refills segment told) p q quiet other is = some_refilled b plan.cutoff (IsOnly plan.deadline) segment plan.deadline (Some segment) told p q refl quiet is.1
 
   pub calls_come : (calls : List PutCall) (p q : Pass) → IsQuiet b p → AreOpen calls → Makes b plan calls p q → Came (sum_by (came_to refilled_segments) calls) (sum_by (came_to kept_items) calls) (sum_by (came_to evicted_keys) calls) p q
   unfolding Makes
-  calls_come [] p q quiet are same = same_none b plan.cutoff plan.deadline p q quiet same
+  calls_come [] p q quiet are same = same_none b plan.cutoff (IsOnly plan.deadline) p q quiet same
   calls_come (call ∷ earlier) p q quiet are (between, rest, last) =
       let first = calls_come earlier p between quiet (All-tail (λ c. c ≢ sets write.Stored) call earlier are) rest in
       let then = call_comes call between q first.on.quiet (All-head (λ c. c ≢ sets write.Stored) call earlier are) last in
       let one = sum_by-cons (came_to refilled_segments) call earlier in
       let two = sum_by-cons (came_to kept_items) call earlier in
       let three = sum_by-cons (came_to evicted_keys) call earlier in
-      so_many b plan.cutoff plan.deadline (sum_by (came_to refilled_segments) earlier + came_to refilled_segments call) (sum_by (came_to kept_items) earlier + came_to kept_items call) (sum_by (came_to evicted_keys) earlier + came_to evicted_keys call)
+      so_many b plan.cutoff (IsOnly plan.deadline) (sum_by (came_to refilled_segments) earlier + came_to refilled_segments call) (sum_by (came_to kept_items) earlier + came_to kept_items call) (sum_by (came_to evicted_keys) earlier + came_to evicted_keys call)
       (sum_by (came_to refilled_segments) (call ∷ earlier)) (sum_by (came_to kept_items) (call ∷ earlier)) (sum_by (came_to evicted_keys) (call ∷ earlier)) p q (omega (arith, one)) (omega (arith, two)) (omega (arith, three))
-      (comes_then b plan.cutoff plan.deadline (sum_by (came_to refilled_segments) earlier) (sum_by (came_to kept_items) earlier) (sum_by (came_to evicted_keys) earlier) (came_to refilled_segments call) (came_to kept_items call) (came_to evicted_keys call) p between q first then)
+      (comes_then b plan.cutoff (IsOnly plan.deadline) (sum_by (came_to refilled_segments) earlier) (sum_by (came_to kept_items) earlier) (sum_by (came_to evicted_keys) earlier) (came_to refilled_segments call) (came_to kept_items call) (came_to evicted_keys call) p between q first then)

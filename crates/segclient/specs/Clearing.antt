@@ -1,6 +1,6 @@
 -- The calls by which a put that was stored clears a segment of its pass, row by row,
 -- the newest first, and what is known of that segment between two puts.
-use Rattle.std.specs.Prelude.{◌≡◌, ◌≢◌, ℕ, ◌≤◌, List, [], ◌∷◌, length, sum_by, Option, Some, None}
+use Rattle.std.specs.Prelude.{◌≡◌, ◌≢◌, ◌⊎◌, ℕ, ◌≤◌, List, [], ◌∷◌, length, sum_by, Option, Some, None}
 use Rattle.std.specs.Coded.{×_prop, Unit-prop, Π_prop}
 use Rattle.std.proofs.Common.{sym, ◌∙◌}
 use Rattle.std.proofs.Props.{props}
@@ -9,7 +9,7 @@ use Rattle.segword.specs.Words.{Shape, triple-prop}
 use Rattle.segmodel.specs.declared.answer.EvictAnswer.TheVariants as evict
 use Rattle.segmodel.specs.declared.answer.RefillAnswer.TheVariants as refill
 use Rattle.segmodel.specs.Words.{EvictAnswer, owner, RefillAnswer}
-use Rattle.segbase.specs.Words.{Board, current_of, number, Pass}
+use Rattle.segbase.specs.Words.{Board, current_of, deadline_of, number, Pass}
 use Rattle.segevict.specs.declared.eviction.EvictRowAnswer.{EvictRowAnswer}
 use Rattle.segevict.specs.declared.eviction.EvictRowAnswer.TheVariants as evict_row
 use Rattle.segevict.specs.declared.retention.KeepRowAnswer.{KeepRowAnswer}
@@ -56,8 +56,13 @@ pub data Step : Type 0 where
 abbrev pub IsAside : Board → ℕ → Pass → Type 0
 IsAside b segment p = (owner b.shape segment ≡ number p) × (current_of p ≢ Some segment)
 
+-- the deadline is this one, or that of a segment of the pass's own
+abbrev pub IsAsked : ℕ → ℕ → Pass → Type 0
+IsAsked deadline until p =
+    (until ≡ deadline) ⊎ ((segment : ℕ) × (deadline_of p segment ≡ Some until))
+
 -- A step had its answer. What is kept has at least the cutoff of the client,
--- and what is refilled has this deadline.
+-- and what is refilled has this deadline, or that of what is cleared into it.
 abbrev pub IsStep : Board → Option ℕ → ℕ → Step → Pass → Pass → Type 0
 IsStep b cutoff deadline (keeps_into segment row by into told) p q =
     IsAside b segment p
@@ -68,7 +73,8 @@ IsStep b cutoff deadline (evicts_row segment row told) p q =
 IsStep b cutoff deadline (evicts_rest segment from told) p q =
     IsAside b segment p × EvictsRest b segment from told p q
 IsStep b cutoff deadline (refills_aside segment told) p q =
-    (owner b.shape segment ≡ number p) × RefillsAside b segment deadline told p q
+    (owner b.shape segment ≡ number p)
+    × ((until : ℕ) × IsAsked deadline until p × RefillsAside b segment until told p q)
 
 -- the steps were made, one after another
 unfoldable pub Clears : Board → Option ℕ → ℕ → List Step → Pass → Pass → Type 0

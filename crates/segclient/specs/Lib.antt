@@ -3,6 +3,7 @@ pub mod Client
 pub mod Clients
 pub mod Counting
 pub mod Entries
+pub mod Lives
 pub mod Made
 pub mod Many
 pub mod Member

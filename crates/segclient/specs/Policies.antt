@@ -1,11 +1,23 @@
 -- How a client makes room now.
+use Rattle.std.specs.Prelude.{◌≡◌, ℕ}
 use Rattle.segclient.specs.declared.member.Member.{Member}
 use Rattle.segclient.specs.declared.segments.Policy.{Policy}
+use Rattle.segclient.specs.Lives.{earliest_of, IsLife, latest_of}
 use Rattle.segclient.specs.Puts.{deadline_of}
 
 abbrev pub policy_of : Member → Policy
 policy_of member = record {
   cutoff = member.cutoff;
   deadline = deadline_of member;
+  span = record {
+    earliest = earliest_of member.clock member.time_to_live;
+    latest = latest_of member.clock member.time_to_live;
+  };
   moment = member.clock;
 }
+
+-- how room is made for what is put now for this time
+pub record IsPolicyFor (time : ℕ) (member : Member) (policy : Policy) : Type 0 where
+  pub cutoff : policy.cutoff ≡ member.cutoff
+  pub moment : policy.moment ≡ member.clock
+  pub life : IsLife member.clock time policy.span policy.deadline

@@ -1,7 +1,7 @@
 -- The calls of the index that a put makes, the newest first.
 -- Which they are, for which segments and by which cutoffs, is left open:
 -- no caller can observe it but by what is evicted.
-use Rattle.std.specs.Prelude.{◌≡◌, ◌⊎◌, ℕ, ◌≤◌, List, [], ◌∷◌, Option, Some}
+use Rattle.std.specs.Prelude.{◌≡◌, ◌⊎◌, ℕ, ◌≤◌, List, [], ◌∷◌, Option, Some, None}
 use Rattle.segmodel.specs.declared.answer.EvictAnswer.TheVariants as evict
 use Rattle.segmodel.specs.declared.answer.RefillAnswer.TheVariants as refill
 use Rattle.segmodel.specs.declared.request.Request.TheVariants.{Set}
@@ -12,6 +12,7 @@ use Rattle.segevict.specs.declared.retention.KeepRowAnswer.{KeepRowAnswer}
 use Rattle.segevict.specs.declared.retention.KeepRowAnswer.TheVariants as kept
 use Rattle.segevict.specs.Words.{EvictsSegment, KeepsItem}
 use Rattle.segindex.specs.Refilling.{RefillsSegment}
+use Rattle.segclient.specs.declared.segments.Span.{Span}
 
 -- A call with its answer: a set of the put's own key, an evict of a segment,
 -- a keep of a segment's row by a cutoff, or a refill of a segment.
@@ -22,11 +23,26 @@ pub data PutCall : Type 0 where
   refills : ℕ → RefillAnswer → PutCall
 
 -- what the calls are made for: the request of a put, which is a set, or none if room is made alone;
--- the least cutoff of what is kept, if anything is; and the deadline of what is refilled
+-- the least cutoff of what is kept, if anything is; the deadline of what is refilled;
+-- and the deadlines of what is stored into
 pub record Plan : Type 0 where
   pub request : Option Request
   pub cutoff : Option ℕ
   pub deadline : ℕ
+  pub span : Span
+
+-- the deadline is one of these
+abbrev pub IsInSpan : Span → ℕ → Type 0
+IsInSpan span until = (span.earliest ≤ until) × (until ≤ span.latest)
+
+-- calls for room alone: no set is among them
+abbrev pub room_plan : Option ℕ → ℕ → Plan
+room_plan cutoff deadline = record {
+  request = None;
+  cutoff = cutoff;
+  deadline = deadline;
+  span = record { earliest = deadline; latest = deadline };
+}
 
 -- what the pass stores now expires at this moment
 abbrev pub StoresUntil : ℕ → Pass → Type 0
@@ -34,11 +50,11 @@ StoresUntil deadline p =
     (segment : ℕ) × (current_of p ≡ Some segment) × (deadline_of p segment ≡ Some deadline)
 
 -- A call had its answer. Segments are the pass's own.
--- A set isn't made in a segment whose deadline has come, unless that deadline is asked.
+-- A set is made only in a segment with a deadline that is asked.
 abbrev pub IsCall : Board → Plan → PutCall → Pass → Pass → Type 0
 IsCall b plan (sets told) p q =
     (key : List ℕ) × (value : List ℕ) × (now : ℕ) × (plan.request ≡ Some (Set key value now))
-    × ((until : ℕ) → StoresUntil until p → until ≤ now → until ≡ plan.deadline)
+    × ((until : ℕ) → StoresUntil until p → IsInSpan plan.span until)
     × IsSetAnswer told × Writes b (Set key value now) told p q
 IsCall b plan (evicts segment told) p q =
     (owner b.shape segment ≡ number p) × EvictsSegment b segment told p q

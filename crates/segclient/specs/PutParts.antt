@@ -1,5 +1,5 @@
 -- What the parts of a put come to, for the functions that make them.
-use Rattle.std.specs.Prelude.{◌≡◌, ◌≢◌, ◌⊎◌, ℕ, zero, suc, ◌+◌, ◌*◌, ◌≤◌, nat_le, Bool, true, false, List, [], ◌∷◌, ◌++◌, length, All, sum_by, Option, Some, None}
+use Rattle.std.specs.Prelude.{◌≡◌, ◌≢◌, ◌⊎◌, ℕ, zero, suc, ◌+◌, ◌*◌, ◌≤◌, nat_lt, ◌||◌, Bool, true, false, List, [], ◌∷◌, ◌++◌, length, All, sum_by, Option, Some, None}
 use Rattle.segword.specs.Words.{Shape}
 use Rattle.segmodel.specs.declared.answer.EvictAnswer.TheVariants as evict
 use Rattle.segmodel.specs.declared.answer.RefillAnswer.TheVariants as refill
@@ -15,10 +15,11 @@ use Rattle.segclient.specs.declared.put.PutAnswer.{PutAnswer}
 use Rattle.segclient.specs.declared.put.PutAnswer.TheVariants as put
 use Rattle.segclient.specs.declared.effort.Effort.{Effort}
 use Rattle.segclient.specs.declared.segments.Policy.{Policy}
+use Rattle.segclient.specs.declared.segments.Span.{Span}
 use Rattle.segclient.specs.declared.stats.Stats.{Stats}
 use Rattle.segclient.specs.Clearing.{ClearsSome}
 use Rattle.segclient.specs.Counting.{with_more}
-use Rattle.segclient.specs.PutCalls.{PutCall, sets, evicts, Plan, came_to, refilled_segments, kept_items, evicted_keys, IsRefused, Makes, StoresUntil}
+use Rattle.segclient.specs.PutCalls.{PutCall, sets, evicts, Plan, came_to, refilled_segments, kept_items, evicted_keys, IsRefused, Makes, room_plan, StoresUntil}
 use Rattle.segclient.specs.Putting.{IsPutAnswer, SetsAtMost16, SetsUntilFull}
 use Rattle.segclient.specs.Tallies.{evicted_by}
 
@@ -49,10 +50,6 @@ with_effort effort stats = record stats {
 }
 
 -- ---- room
-
--- calls for room alone: no set is among them
-abbrev pub room_plan : Option ℕ → ℕ → Plan
-room_plan cutoff deadline = record { request = None; cutoff = cutoff; deadline = deadline }
 
 -- calls for room, at most so many, came to these numbers
 pub record Arranges (b : Board) (cutoff : Option ℕ) (deadline most : ℕ) (effort : Effort)
@@ -113,13 +110,13 @@ deadline_at p (Some segment) = deadline_of p segment
 abbrev pub current_deadline : Pass → Option ℕ
 current_deadline p = deadline_at p (current_of p)
 
--- whether it has come at a moment, so that what is stored there can't be read
-abbrev pub is_over : ℕ → Option ℕ → Bool
-is_over now None = false
-is_over now (Some deadline) = nat_le deadline now
+-- whether it isn't one of these
+abbrev pub misses : Span → Option ℕ → Bool
+misses span None = false
+misses span (Some deadline) = nat_lt deadline span.earliest || nat_lt span.latest deadline
 
-abbrev pub is_stale : ℕ → Pass → Bool
-is_stale now p = is_over now (current_deadline p)
+abbrev pub is_outside : Span → Pass → Bool
+is_outside span p = misses span (current_deadline p)
 
 -- ---- sets
 
@@ -131,6 +128,7 @@ plan_of order = record {
   request = Some (request_of order);
   cutoff = order.policy.cutoff;
   deadline = order.policy.deadline;
+  span = order.policy.span;
 }
 
 -- so many sets in a row that were Busy
@@ -153,10 +151,10 @@ pub record Sets (b : Board) (plan : Plan) (told : PutAnswer) (p q : Pass) : Type
   pub no_room : told ≡ put.NoRoom
       → (has_room b.shape p ≡ false) × (has_room b.shape q ≡ false)
 
--- sets at a moment, unless what the pass stores into has expired
-abbrev pub SetsIfFresh : Board → Plan → ℕ → PutAnswer → Pass → Pass → Type 0
-SetsIfFresh b plan moment told p q =
-    ((is_stale moment p ≡ true) × (told ≡ put.NoRoom) × (q ≡ p))
+-- sets, unless what the pass stores into has another deadline than those that are asked
+abbrev pub SetsIfTimely : Board → Plan → PutAnswer → Pass → Pass → Type 0
+SetsIfTimely b plan told p q =
+    ((is_outside plan.span p ≡ true) × (told ≡ put.NoRoom) × (q ≡ p))
     ⊎ Sets b plan told p q
 
 -- ---- a put
@@ -176,14 +174,14 @@ EndsSo shape pass put.BucketFull calls =
 EndsSo shape pass put.Busy calls =
     ((earlier : List PutCall) × (calls ≡ busy_sets 16 ++ earlier)) × AreOpen calls
 
--- A put with a row left that can be read at its moment gives up nothing for it,
+-- A put with a row left in a segment with a deadline that is asked gives up nothing for it,
 -- unless its bucket is full.
-abbrev pub Spares : Shape → ℕ → List PutCall → Pass → Type 0
-Spares shape moment calls p =
-    is_stale moment p ≡ false → has_room shape p ≡ true → SetsUntilFull calls
+abbrev pub Spares : Shape → Span → List PutCall → Pass → Type 0
+Spares shape span calls p =
+    is_outside span p ≡ false → has_room shape p ≡ true → SetsUntilFull calls
 
 -- a put made these calls, at most so many
-pub record MakesPut (b : Board) (plan : Plan) (moment most : ℕ) (told : PutAnswer)
+pub record MakesPut (b : Board) (plan : Plan) (most : ℕ) (told : PutAnswer)
     (effort : Effort) (p q : Pass) : Type 0 where
   pub calls : List PutCall
   pub makes : Makes b plan calls p q
@@ -191,7 +189,7 @@ pub record MakesPut (b : Board) (plan : Plan) (moment most : ℕ) (told : PutAns
   pub comes : IsEffort calls effort
   pub ends : EndsSo b.shape (number p) told calls
   pub tries : SetsAtMost16 calls
-  pub spares : Spares b.shape moment calls p
+  pub spares : Spares b.shape plan.span calls p
 
 -- after a set that found its bucket full a segment was evicted, before the last set
 abbrev pub WasEmptied : List PutCall → Type 0
@@ -200,13 +198,13 @@ WasEmptied calls = (later : List PutCall) × (segment : ℕ) × (answer : EvictA
     × (calls ≡ later ++ evicts segment answer ∷ sets write.BucketFull ∷ earlier)
 
 -- the whole of a put by its parts
-abbrev pub PutsAtLast : Board → Plan → ℕ → ℕ → PutAnswer → Effort → Pass → Pass → Type 0
-PutsAtLast b plan moment most told effort p q =
-    (puts : MakesPut b plan moment most told effort p q)
+abbrev pub PutsAtLast : Board → Plan → ℕ → PutAnswer → Effort → Pass → Pass → Type 0
+PutsAtLast b plan most told effort p q =
+    (puts : MakesPut b plan most told effort p q)
     × (told ≡ put.BucketFull → WasEmptied puts.calls)
 
 -- A put as a whole, as its callers see it.
-pub record PutsWhole (b : Board) (plan : Plan) (moment most : ℕ) (told : PutAnswer)
+pub record PutsWhole (b : Board) (plan : Plan) (most : ℕ) (told : PutAnswer)
     (effort : Effort) (p q : Pass) : Type 0 where
   pub calls : List PutCall
   pub makes : Makes b plan calls p q
@@ -215,7 +213,7 @@ pub record PutsWhole (b : Board) (plan : Plan) (moment most : ℕ) (told : PutAn
   pub answer : IsPutAnswer b.shape (number p) told calls
   pub not_stored : told ≢ put.Stored → AreOpen calls
   pub tries : SetsAtMost16 calls
-  pub spares : Spares b.shape moment calls p
+  pub spares : Spares b.shape plan.span calls p
 
 -- ---- after a put
 

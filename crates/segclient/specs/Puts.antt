@@ -1,52 +1,73 @@
 -- What a put of a client came to.
-use Rattle.std.specs.Prelude.{◌≡◌, ◌≢◌, ℕ, ◌+◌, ◌-◌, ◌/◌, ◌%◌, ◌^◌, ◌<◌, ◌≤◌, max, Bool, true, false, cond, nat_lt, is_some, List, [], length, All, Some, None}
+use Rattle.std.specs.Prelude.{◌≡◌, ◌≢◌, ◌⊎◌, ℕ, ◌/◌, ◌≤◌, Bool, true, false, is_some, List, [], length, All, Some}
 use Rattle.segmodel.specs.declared.answer.WriteAnswer.TheVariants as write
 use Rattle.segmodel.specs.declared.request.Request.TheVariants.{Set}
 use Rattle.segmodel.specs.Words.{owner}
 use Rattle.segbase.specs.Words.{Board, number, Pass}
 use Rattle.segstore.specs.Words.{has_room, memo}
+use Rattle.segindex.specs.declared.current.CurrentAnswer.TheVariants as current_answer
+use Rattle.segindex.specs.Words.{MakesCurrent}
 use Rattle.segclient.specs.declared.member.Member.{Member}
 use Rattle.segclient.specs.declared.put.PutAnswer.{PutAnswer}
 use Rattle.segclient.specs.declared.put.PutAnswer.TheVariants as put
+use Rattle.segclient.specs.declared.segments.Span.{Span}
 use Rattle.segclient.specs.Clearing.{Clears, Step}
 use Rattle.segclient.specs.Counting.{cleared_too, counted, given_up_too}
+use Rattle.segclient.specs.Lives.{deadline_by, IsLife}
 use Rattle.segclient.specs.Member.{KeepsSettings}
-use Rattle.segclient.specs.PutCalls.{IsRefused, Makes, PutCall, sets}
+use Rattle.segclient.specs.PutCalls.{IsInSpan, IsRefused, Makes, PutCall, room_plan, sets}
 use Rattle.segclient.specs.PutCalls.{StoresUntil}
 use Rattle.segclient.specs.Putting.{IsPutAnswer, most_calls, SetsAtMost16, SetsUntilFull}
 use Rattle.segclient.specs.Tallies.{put_tally}
 
--- The deadline of what a client refills now: the last multiple of half its time to live
--- that comes in this time. What is of one half then has one deadline.
+-- The deadline of what a client refills now for its own time to live: the last multiple
+-- of an eighth of this time that comes in it. What is of one eighth then has one deadline.
 abbrev pub deadline_of : Member → ℕ
-deadline_of member =
-    let until = member.clock + member.time_to_live in
-    cond (nat_lt until (2 ^ 32 - 1)) (until - until % max 1 (member.time_to_live / 2)) (2 ^ 32 - 1)
+deadline_of member = deadline_by member.clock member.time_to_live (member.time_to_live / 8)
 
--- A put made these calls, for its request and by the client's settings.
+-- the pass stores into another segment of its own in use, or into the same one as before
+abbrev pub Chooses : Board → Pass → Pass → Type 0
+Chooses b p q =
+    (q ≡ p) ⊎ ((segment : ℕ) × MakesCurrent b segment current_answer.Current p q)
+
+-- what the pass stored has one of these deadlines: that of its current segment
+abbrev pub StoredFor : Span → Pass → Type 0
+StoredFor span p = (until : ℕ) × StoresUntil until p × IsInSpan span until
+
+-- A put for this time chose a segment, without a step, and made these calls, for its request
+-- and by the client's settings. What it refills for it has the deadline `until`.
+-- Where it is Stored, the deadline of the segment it is stored into comes in the put's time,
+-- and not before seven eighths of it: it can be read so long, unless it goes before.
 -- It makes at most 16 sets in a row.
--- With a row left that can be read then, it makes room only once its bucket was full.
+-- With a row left in a segment with such a deadline, it makes room only once its bucket was full.
 -- Once it is Stored, a client with queues clears rows of another segment, by at most 16 steps.
 -- Hold and lock are as they were, and the client counted the put, and what calls and steps came to.
-pub record Puts (key value : List ℕ) (told : PutAnswer) (b : Board) (old new : Member)
-    : Type 0 where
+pub record PutsFor (time : ℕ) (key value : List ℕ) (told : PutAnswer) (b : Board)
+    (old new : Member) : Type 0 where
+  pub until : ℕ
+  pub span : Span
+  pub life : IsLife old.clock time span until
   pub calls : List PutCall
+  pub chosen : Pass
   pub between : Pass
+  pub chooses : Chooses b old.pass chosen
   pub makes : Makes b (record {
     request = Some (Set key value old.clock);
     cutoff = old.cutoff;
-    deadline = deadline_of old;
-  }) calls old.pass between
+    deadline = until;
+    span = span;
+  }) calls chosen between
   pub answer : IsPutAnswer b.shape (number old.pass) told calls
+  pub stored : told ≡ put.Stored → StoredFor span between
   pub not_stored : told ≢ put.Stored → All (λ call. call ≢ sets write.Stored) calls
   pub tries : SetsAtMost16 calls
-  pub spares : (until : ℕ)
-      → StoresUntil until old.pass
-      → old.clock < until
+  pub spares : (deadline : ℕ)
+      → StoresUntil deadline old.pass
+      → IsInSpan span deadline
       → has_room b.shape old.pass ≡ true
       → SetsUntilFull calls
   pub steps : List Step
-  pub clears : Clears b old.cutoff (deadline_of old) steps between new.pass
+  pub clears : Clears b old.cutoff until steps between new.pass
   pub few_steps : length steps ≤ 16
   pub unasked : told ≢ put.Stored → steps ≡ []
   pub unqueued : is_some old.segments.queues ≡ false → steps ≡ []
@@ -57,12 +78,15 @@ pub record Puts (key value : List ℕ) (told : PutAnswer) (b : Board) (old new :
   pub settings : KeepsSettings old new
   pub costs : length calls ≤ most_calls b.shape
 
+-- a put for the client's own time to live
+abbrev pub Puts : List ℕ → List ℕ → PutAnswer → Board → Member → Member → Type 0
+Puts key value told b old new = PutsFor old.time_to_live key value told b old new
+
 -- Room was made by these calls, and then a row is left in a segment with the deadline
 -- that is asked. Or it wasn't, and each segment of the pass was refused.
 pub record MakesRoomFor (made : Bool) (b : Board) (old new : Member) : Type 0 where
   pub calls : List PutCall
-  pub makes : Makes b (record { request = None; cutoff = old.cutoff; deadline = deadline_of old })
-      calls old.pass new.pass
+  pub makes : Makes b (room_plan old.cutoff (deadline_of old)) calls old.pass new.pass
   pub room : has_room b.shape new.pass ≡ made
   pub deadline : made ≡ true → StoresUntil (deadline_of old) new.pass
   pub refused : made ≡ false

@@ -8,17 +8,17 @@ use Rattle.segclient.specs.declared.member.Member.{Member}
 use Rattle.segclient.specs.declared.put.PutAnswer.{PutAnswer}
 use Rattle.segclient.specs.declared.put.PutAnswer.TheVariants as put
 use Rattle.segclient.specs.Clearing.{effort_of_steps}
-use Rattle.segclient.specs.Entries.{AddsForPut, AddsRoom}
+use Rattle.segclient.specs.Entries.{AddsForPut, AddsRoom, IsOnly}
 use Rattle.segclient.specs.Member.{IsMember}
 use Rattle.segclient.specs.PutCalls.{came_to, evicted_keys, kept_items, refilled_segments}
 use Rattle.segclient.specs.PutParts.{effort_of}
-use Rattle.segclient.specs.Puts.{deadline_of, MakesRoomFor, Puts}
+use Rattle.segclient.specs.Puts.{deadline_of, MakesRoomFor, PutsFor}
 
 -- A put that is Stored came in after the first step of its call, and its value stood right after.
 abbrev pub PutStands : Type 0
-PutStands = (i : Index) (key value : List ℕ) (old new : Member)
+PutStands = (i : Index) (time : ℕ) (key value : List ℕ) (old new : Member)
     → IsMember i old
-    → Puts key value put.Stored (board_of i) old new
+    → PutsFor time key value put.Stored (board_of i) old new
     → SinceFirst old.pass new.pass (λ start.
     StoresBetween (shape_of i) (number old.pass) (Set key value old.clock)
     (event.seen start) (seen new.pass))
@@ -27,11 +27,11 @@ PutStands = (i : Index) (key value : List ℕ) (old new : Member)
 -- the entry of its request, and then those by which it clears a segment, as many as its steps
 -- came to. Else there is no entry of its request.
 abbrev pub PutAdds : Type 0
-PutAdds = (i : Index) (key value : List ℕ) (told : PutAnswer) (old new : Member)
+PutAdds = (i : Index) (time : ℕ) (key value : List ℕ) (told : PutAnswer) (old new : Member)
     → IsMember i old
-    → (puts : Puts key value told (board_of i) old new)
+    → (puts : PutsFor time key value told (board_of i) old new)
     → AddsForPut (shape_of i) (number old.pass) old.cutoff (Set key value old.clock)
-    (deadline_of old) told (effort_of puts.calls) (effort_of_steps puts.steps)
+    puts.until told (effort_of puts.calls) (effort_of_steps puts.steps)
     (mine old.pass) (mine new.pass)
 
 -- So it is of room that is made alone.
@@ -39,6 +39,6 @@ abbrev pub RoomAdds : Type 0
 RoomAdds = (i : Index) (made : Bool) (old new : Member)
     → IsMember i old
     → (room : MakesRoomFor made (board_of i) old new)
-    → AddsRoom (shape_of i) (number old.pass) old.cutoff (deadline_of old)
+    → AddsRoom (shape_of i) (number old.pass) old.cutoff (IsOnly (deadline_of old))
     (sum_by (came_to refilled_segments) room.calls) (sum_by (came_to kept_items) room.calls)
     (sum_by (came_to evicted_keys) room.calls) (mine old.pass) (mine new.pass)

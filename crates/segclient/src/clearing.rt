@@ -1,6 +1,6 @@
 //! How a put that was stored clears a segment of its pass: some rows at each put.
 ghost use Rattle.std.specs.Prelude.{◌≡◌, ◌+◌, ◌<◌, ◌≤◌, ◌^◌, ℕ, true, false, is_some, Option, IfSome, Some, None};
-ghost use Rattle.segbase.specs.Words.{number};
+ghost use Rattle.segbase.specs.Words.{deadline_of, number};
 ghost use Rattle.segindex.specs.Words.{board_of, shape_of};
 ghost use Rattle.segstore.specs.Words.{GoesOn, IsQuiet};
 ghost use Rattle.segclient.specs.Clearing.{ClearsAtMost, ClearsRow, ClearsSome, IsCleared};
@@ -10,18 +10,18 @@ ghost use Rattle.segclient.specs.Rings.{IsOwnRing};
 
 use crate::effort::{Effort, evicted_by, refilled_by};
 use crate::queues::{
-    current_for, next_source, note_moved, oldest, place_of, target_of, was_given_up, was_refilled,
+    current_for, next_expired, next_source, note_moved, oldest, place_of, target_of, was_given_up,
+    was_refilled,
 };
 use crate::segments::{Policy, Segments, Source};
 use segindex::{EvictRowAnswer, Index, KeepRowAnswer, Pass, RowRef};
 use segqueues::{Queue, Queues};
 
-// How a segment is cleared: the least frequency of what is kept, the deadline of what is
-// refilled, the moment, and how many turns are left.
+// How a segment is cleared: the least frequency of what is kept, the moment,
+// and how many turns are left.
 #[derive(Clone, Copy)]
 struct Terms {
     least: u8,
-    deadline: u32,
     moment: u32,
     turns: u32,
 }
@@ -200,22 +200,24 @@ fn move_one(index: &Index, pass: &mut Pass, queues: &mut Queues, source: Source,
     }
 }
 
-// Opens a free segment for what moves. One that is held comes last, and the put has done its part.
+// Opens a free segment for what moves, up to the deadline of the source.
+// One that is held comes last, and the put has done its part.
 fn open_main(
     index: &Index,
     pass: &mut Pass,
     queues: &mut Queues,
     source: Source,
-    deadline: u32,
+    until: u32,
 ) -> Turn
     requires quiet { IsQuiet (board_of index.now) pass.old }
     requires clearing { IsClearing (shape_of index.now) source pass.old }
+    requires until { deadline_of pass.old source.segment ≡ Some until }
     ensures on { GoesOn (board_of index.now) pass.old pass.new }
     ensures cleared { IsCleared (shape_of index.now) result.source pass.new }
     ensures few { (result.effort.refilled ≤ 1) × (result.effort.kept ≤ 1)
         × (result.effort.keys < 2 ^ 32) }
-    ensures clears { (cutoff : Option ℕ) → ClearsAtMost (board_of index.now) cutoff deadline 1
-        result.effort pass.old pass.new }
+    ensures clears { (cutoff : Option ℕ) → (deadline : ℕ)
+        → ClearsAtMost (board_of index.now) cutoff deadline 1 result.effort pass.old pass.new }
 {
     let unopened = Turn {
         source: Some(source),
@@ -228,7 +230,7 @@ fn open_main(
     if segment == source.segment {
         return unopened;
     }
-    let refilled = refilled_by(index.refill_aside(pass, segment, deadline));
+    let refilled = refilled_by(index.refill_aside(pass, segment, until));
     if refilled > 0 {
         was_refilled(index, pass, queues, segment, true);
     } else {
@@ -285,7 +287,7 @@ fn clear_row(
     ensures cleared { IsCleared (shape_of index.now) result.source pass.new }
     ensures few { (result.effort.refilled ≤ 1) × (result.effort.kept ≤ 1)
         × (result.effort.keys < 2 ^ 32) }
-    ensures clears { ClearsRow (board_of index.now) terms.least terms.deadline
+    ensures clears { (deadline : ℕ) → ClearsRow (board_of index.now) terms.least deadline
         result.effort pass.old pass.new }
 {
     if pass.used(source.segment).unwrap_or(0) <= source.row {
@@ -301,11 +303,11 @@ fn clear_row(
         };
         return move_one(index, pass, queues, source, to);
     }
-    if pass.deadline(source.segment) != Some(terms.deadline) {
+    let Some(until) = pass.deadline(source.segment) else {
         return evict_one(index, pass, queues, source);
-    }
+    };
     if can_open(index, pass, queues, source, terms.turns) {
-        return open_main(index, pass, queues, source, terms.deadline);
+        return open_main(index, pass, queues, source, until);
     }
     if let Some(into) = current_for(index, pass, queues, source.segment) {
         let to = Move {
@@ -318,7 +320,8 @@ fn clear_row(
     evict_one(index, pass, queues, source)
 }
 
-// Where the clearing goes on, or where another begins if few segments are free.
+// Where the clearing goes on, or where another begins: if few segments are free, or one has
+// expired.
 fn source_of(
     index: &Index,
     pass: &Pass,
@@ -335,13 +338,12 @@ fn source_of(
             return Some(source);
         }
     }
-    if !queues.are_few_free() {
-        return None;
-    }
-    Some(Source {
-        segment: next_source(index, pass, queues, terms.moment, terms.deadline)?,
-        row: 0,
-    })
+    let segment = if queues.are_few_free() {
+        next_source(index, pass, queues, terms.moment)?
+    } else {
+        next_expired(index, pass, queues, terms.moment)?
+    };
+    Some(Source { segment, row: 0 })
 }
 
 // Clears some rows by the queues.
@@ -358,7 +360,7 @@ fn clear_rows(
     ensures cleared { IsCleared (shape_of index.now) result.source pass.new }
     ensures few { (result.effort.refilled ≤ 16) × (result.effort.kept ≤ 16)
         × (result.effort.keys < 2 ^ 36) }
-    ensures clears { ClearsSome (board_of index.now) (Some terms.least) terms.deadline
+    ensures clears { (deadline : ℕ) → ClearsSome (board_of index.now) (Some terms.least) deadline
         result.effort pass.old pass.new }
 {
     let mut source = was;
@@ -394,13 +396,16 @@ fn clear_rows(
     }
 }
 
-// Whether rows are to be cleared: a segment is being cleared, or too few are free.
+// Whether rows are to be cleared: a segment is being cleared, or too few are free,
+// or one may have expired at this moment.
 #[inline(always)]
-pub(crate) fn is_due(segments: &Segments) -> bool
+pub(crate) fn is_due(segments: &Segments, moment: u32) -> bool
     ensures unqueued { is_some segments.now.queues ≡ false → result ≡ false }
 {
     match &segments.queues {
-        Some(queues) => segments.source.is_some() || queues.are_few_free(),
+        Some(queues) => {
+            segments.source.is_some() || queues.are_few_free() || queues.may_expire(moment)
+        }
         None => false,
     }
 }
@@ -431,7 +436,6 @@ pub(crate) fn clear_some(
     };
     let terms = Terms {
         least,
-        deadline: policy.deadline,
         moment: policy.moment,
         turns: TURNS,
     };

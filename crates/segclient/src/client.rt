@@ -29,7 +29,7 @@ impl<'i> Client<'i> {
     ghost use Rattle.segclient.specs.Client.{MakesCall, Starts};
     ghost use Rattle.segclient.specs.Made.{DeletesKey, Gets, GetsVersion, MakesWrite, ReturnsTable};
     ghost use Rattle.segclient.specs.Member.{SetsCutoff, SetsNow, SetsTimeToLive};
-    ghost use Rattle.segclient.specs.Puts.{MakesRoomFor, Puts};
+    ghost use Rattle.segclient.specs.Puts.{MakesRoomFor, Puts, PutsFor};
 
     /// A client of this pass. Its clock shows 0, what it puts expires at the largest moment,
     /// and its puts keep nothing.
@@ -141,11 +141,9 @@ impl<'i> Client<'i> {
         self.member.delete(self.index, key)
     }
 
-    /// Sets how long the segments can be read that puts refill from now on.
-    /// What is put expires with its segment, and a segment that is refilled already
-    /// keeps its deadline.
-    /// Deadlines are multiples of half this time, so that items can move between segments:
-    /// a segment can be read for half the time at least.
+    /// Sets how long what `put` stores from now on can be read: for this time at most,
+    /// and for seven eighths of it at least, unless it is evicted or replaced before.
+    /// What is put expires with its segment, and a segment keeps its deadline.
     /// At the start it is the largest number, and then nothing expires
     /// before the largest moment.
     pub fn set_time_to_live(&mut self, time_to_live: u32)
@@ -185,9 +183,9 @@ impl<'i> Client<'i> {
 
     /// Stores the value under the key, and makes room for it if there is none.
     ///
-    /// If no row is left, or the segment that it stores into has expired,
-    /// it recycles segments of its own: it evicts them, and refills one to expire
-    /// a time to live from now, or up to half of that earlier.
+    /// It stores into a segment of its own that has a row left and expires a time to live from now,
+    /// or up to an eighth of that earlier. If it has none,
+    /// it recycles segments of its own: it evicts them, and refills one to expire then.
     /// By queues it goes over up to eight rows of another segment once it is stored, while few
     /// segments are free: it moves on what was read, and evicts the rest. An update moves on
     /// without being read, some times.
@@ -202,5 +200,20 @@ impl<'i> Client<'i> {
         ensures puts { MakesCall (Puts key.now value.now result) self.old self.new }
     {
         self.member.put(self.index, key, value)
+    }
+
+    /// Stores the value under the key as `put` does, but for this time to live in place
+    /// of the client's own: it can be read for this time at most, and for seven eighths of it
+    /// at least, unless it is evicted or replaced before. With the largest number
+    /// it doesn't expire before the largest moment.
+    ///
+    /// Items with different times stand in different segments, which the client fills by turns.
+    /// `set`, `add`, `replace` and `cas` store into the one that the last put stored into.
+    #[inline(always)]
+    pub fn put_for(&mut self, key: &Key, value: &Value, time_to_live: u32) -> PutAnswer
+        ensures puts { MakesCall (PutsFor time_to_live key.now value.now result)
+            self.old self.new }
+    {
+        self.member.put_for(self.index, key, value, time_to_live)
     }
 }

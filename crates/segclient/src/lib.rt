@@ -3,10 +3,12 @@
 #![tactic(auto)]
 
 mod all;
+mod choosing;
 mod clearing;
 mod client;
 mod effort;
 mod hold;
+mod lives;
 mod many;
 mod member;
 mod note;

@@ -4,13 +4,15 @@ ghost use Rattle.segindex.specs.Words.{board_of, shape_of};
 ghost use Rattle.segstore.specs.Words.{IsQuiet};
 ghost use Rattle.segclient.specs.Member.{next_draws};
 
+use crate::choosing::{choose, is_fine};
 use crate::clearing::{clear_some, is_due};
 use crate::effort::Effort;
+use crate::lives::{FINE_PARTS, PARTS, deadline_by, span_for};
 use crate::put::{Order, PutAnswer, clear_after, put_by};
 use crate::queues::{queues_of, tell_deleted, tell_stored};
 use crate::ring::own_ring;
 use crate::room::make_room_by;
-use crate::segments::{Policy, Segments};
+use crate::segments::{Policy, Segments, Span};
 use crate::stats::Stats;
 use crate::tally::Tally;
 use segindex::{Index, IndexStats, Pass, RowRef};
@@ -48,8 +50,8 @@ impl Member {
     ghost use Rattle.segclient.specs.Made.{ClearsThen, DeletesKey, EndsWrite, Gets};
     ghost use Rattle.segclient.specs.Made.{GetsVersion, MakesWrite, ReturnsTable};
     ghost use Rattle.segclient.specs.Member.{Begins, IsMember, SetsCutoff, SetsNow, SetsTimeToLive};
-    ghost use Rattle.segclient.specs.Policies.{policy_of};
-    ghost use Rattle.segclient.specs.Puts.{MakesRoomFor, Puts};
+    ghost use Rattle.segclient.specs.Policies.{IsPolicyFor, policy_of};
+    ghost use Rattle.segclient.specs.Puts.{MakesRoomFor, Puts, PutsFor};
 
     /// As `Client::new`.
     pub fn new(index: &Index, pass: Pass) -> Member
@@ -196,7 +198,7 @@ impl Member {
             return Effort::none();
         }
         tell_stored(index, &self.pass, &mut self.segments, key, replaced);
-        if !is_due(&self.segments) {
+        if !is_due(&self.segments, self.clock) {
             return Effort::none();
         }
         let policy = self.policy();
@@ -284,16 +286,43 @@ impl Member {
     fn policy(&self) -> Policy
         ensures { result ≡ policy_of self.now }
     {
-        let until = self.clock.saturating_add(self.time_to_live);
-        let deadline = if until < u32::MAX {
-            until - until % (self.time_to_live / 2).max(1)
-        } else {
-            until
-        };
+        let time = self.time_to_live;
         Policy {
             cutoff: self.cutoff,
-            deadline,
+            deadline: deadline_by(self.clock, time, time / PARTS),
+            span: span_for(self.clock, time),
             moment: self.clock,
+        }
+    }
+
+    // How room is made for what is put now for this time. While many segments are free,
+    // those are opened that have finer deadlines.
+    #[inline(always)]
+    fn policy_for(&self, index: &Index, time: u32) -> Policy
+        requires member { IsMember index.now self.now }
+        ensures { IsPolicyFor time self.now result }
+    {
+        let span = span_for(self.clock, time);
+        let cutoff = self.cutoff;
+        let moment = self.clock;
+        if is_fine(index, &self.pass, &self.segments, span) {
+            let deadline = deadline_by(moment, time, time / FINE_PARTS);
+            let span = Span {
+                earliest: deadline,
+                latest: span.latest,
+            };
+            return Policy {
+                cutoff,
+                deadline,
+                span,
+                moment,
+            };
+        }
+        Policy {
+            cutoff,
+            deadline: deadline_by(moment, time, time / PARTS),
+            span,
+            moment,
         }
     }
 
@@ -316,8 +345,26 @@ impl Member {
         ensures member { IsMember index.now self.new }
         ensures puts { Puts key.now value.now result (board_of index.now) self.old self.new }
     {
-        let policy = self.policy();
+        self.put_for(index, key, value, self.time_to_live)
+    }
+
+    /// As `Client::put_for`.
+    #[inline(always)]
+    pub fn put_for(
+        &mut self,
+        index: &Index,
+        key: &Key,
+        value: &Value,
+        time_to_live: u32,
+    ) -> PutAnswer
+        requires member { IsMember index.now self.old }
+        ensures member { IsMember index.now self.new }
+        ensures puts { PutsFor time_to_live key.now value.now result
+            (board_of index.now) self.old self.new }
+    {
+        let policy = self.policy_for(index, time_to_live);
         let order = Order { key, value, policy };
+        choose(index, &mut self.pass, &self.segments, policy.span);
         let (told, effort) = put_by(index, &mut self.pass, &mut self.segments, order);
         self.stats.count_effort(effort);
         let cleared = clear_after(index, &mut self.pass, &mut self.segments, policy, told);

@@ -1,16 +1,18 @@
 //! A set that makes room.
-ghost use Rattle.std.specs.Prelude.{◌≡◌, ◌<◌, ◌^◌, is_some, true};
+ghost use Rattle.std.specs.Prelude.{◌≡◌, ◌<◌, ◌^◌, is_some, false};
 ghost use Rattle.segbase.specs.Words.{number, Pass as BasePass};
 ghost use Rattle.segindex.specs.Words.{board_of, shape_of};
 ghost use Rattle.segstore.specs.Words.{GoesOn, IsQuiet};
 ghost use Rattle.segwrite.specs.Words.{IsSetAnswer, Writes};
 ghost use Rattle.segclient.specs.Clearing.{IsCleared};
-ghost use Rattle.segclient.specs.PutParts.{ClearsAfter, current_deadline, is_stale, MakesPut, most_for_put};
+ghost use Rattle.segclient.specs.PutCalls.{IsInSpan};
+ghost use Rattle.segclient.specs.PutParts.{ClearsAfter, is_outside, MakesPut, most_for_put};
 ghost use Rattle.segclient.specs.PutParts.{most_for_set, plan_of, PutsAtLast, PutsWhole};
-ghost use Rattle.segclient.specs.PutParts.{request_of, Sets, SetsIfFresh};
+ghost use Rattle.segclient.specs.PutParts.{request_of, Sets, SetsIfTimely};
 ghost use Rattle.segclient.specs.Putting.{most_calls};
 ghost use Rattle.segclient.specs.Rings.{IsOwnRing};
 
+use crate::choosing::is_outside;
 use crate::clearing::{clear_some, is_due};
 use crate::effort::Effort;
 use crate::queues::note_stored;
@@ -72,8 +74,7 @@ fn set_while_busy(
     replaced: &mut Option<RowRef>,
 ) -> PutAnswer
     requires quiet { IsQuiet (board_of index.now) pass.old }
-    requires fresh { is_stale order.policy.moment pass.old ≡ true
-        → current_deadline pass.old ≡ Some order.policy.deadline }
+    requires timely { is_outside order.policy.span pass.old ≡ false }
     ensures on { GoesOn (board_of index.now) pass.old pass.new }
     ensures sets { Sets (board_of index.now) (plan_of order.entry) result pass.old pass.new }
 {
@@ -89,22 +90,10 @@ fn set_while_busy(
     PutAnswer::Busy
 }
 
-// Whether the segment that the pass stores into has expired.
-fn is_stale(pass: &Pass, now: u32) -> bool
-    ensures { result ≡ is_stale now pass.now }
-{
-    let Some(segment) = pass.current() else {
-        return false;
-    };
-    let Some(deadline) = pass.deadline(segment) else {
-        return false;
-    };
-    deadline <= now
-}
-
-// A set, unless the segment that the pass stores into has expired: then there is no room.
+// A set, unless the segment that the pass stores into has another deadline than those that are
+// asked: then there is no room.
 #[inline(always)]
-pub(crate) fn set_if_fresh(
+pub(crate) fn set_if_timely(
     index: &Index,
     pass: &mut Pass,
     order: Order<'_>,
@@ -112,10 +101,10 @@ pub(crate) fn set_if_fresh(
 ) -> PutAnswer
     requires quiet { IsQuiet (board_of index.now) pass.old }
     ensures on { GoesOn (board_of index.now) pass.old pass.new }
-    ensures sets { SetsIfFresh (board_of index.now) (plan_of order.entry)
-        order.entry.policy.moment result pass.old pass.new }
+    ensures sets { SetsIfTimely (board_of index.now) (plan_of order.entry) result
+        pass.old pass.new }
 {
-    if is_stale(pass, order.policy.moment) {
+    if is_outside(pass, order.policy.span) {
         return PutAnswer::NoRoom;
     }
     set_while_busy(index, pass, order, replaced)
@@ -133,6 +122,7 @@ fn set_in_room(
     requires quiet { IsQuiet (board_of index.now) pass.old }
     requires own { IsOwnRing (shape_of index.now) (number pass.old) segments.old.ring }
     requires cleared { IsCleared (shape_of index.now) segments.old.source pass.old }
+    requires timely { IsInSpan order.policy.span order.policy.deadline }
     ensures on { GoesOn (board_of index.now) pass.old pass.new }
     ensures own { IsOwnRing (shape_of index.now) (number pass.new) segments.new.ring }
     ensures queues { is_some segments.new.queues ≡ is_some segments.old.queues }
@@ -140,9 +130,8 @@ fn set_in_room(
     ensures few { (result.1.refilled < 2 ^ 30) × (result.1.kept < 2 ^ 60)
         × (result.1.keys < 2 ^ 59) }
     ensures sets { (start : BasePass)
-        → SetsIfFresh (board_of index.now) (plan_of order.entry) order.entry.policy.moment told
-        start pass.old
-        → MakesPut (board_of index.now) (plan_of order.entry) order.entry.policy.moment
+        → SetsIfTimely (board_of index.now) (plan_of order.entry) told start pass.old
+        → MakesPut (board_of index.now) (plan_of order.entry)
         (most_for_set (shape_of index.now)) result.0 result.1 start pass.new }
 {
     let PutAnswer::NoRoom = told else {
@@ -172,14 +161,14 @@ fn put_at_last(
     requires quiet { IsQuiet (board_of index.now) pass.old }
     requires own { IsOwnRing (shape_of index.now) (number pass.old) segments.old.ring }
     requires cleared { IsCleared (shape_of index.now) segments.old.source pass.old }
+    requires timely { IsInSpan order.policy.span order.policy.deadline }
     ensures on { GoesOn (board_of index.now) pass.old pass.new }
     ensures own { IsOwnRing (shape_of index.now) (number pass.new) segments.new.ring }
     ensures queues { is_some segments.new.queues ≡ is_some segments.old.queues }
     ensures cleared { IsCleared (shape_of index.now) segments.new.source pass.new }
     ensures puts { (start : BasePass)
-        → SetsIfFresh (board_of index.now) (plan_of order.entry) order.entry.policy.moment told
-        start pass.old
-        → PutsAtLast (board_of index.now) (plan_of order.entry) order.entry.policy.moment
+        → SetsIfTimely (board_of index.now) (plan_of order.entry) told start pass.old
+        → PutsAtLast (board_of index.now) (plan_of order.entry)
         (most_for_put (shape_of index.now)) result.0 result.1 start pass.new }
 {
     let (told, first) = set_in_room(index, pass, segments, order, told);
@@ -187,7 +176,7 @@ fn put_at_last(
         return (told, first);
     };
     let emptied = first.plus(evict_oldest(index, pass, segments));
-    let told = set_if_fresh(index, pass, order, &mut segments.replaced);
+    let told = set_if_timely(index, pass, order, &mut segments.replaced);
     let (told, last) = set_in_room(index, pass, segments, order, told);
     (told, emptied.plus(last))
 }
@@ -203,14 +192,15 @@ fn put_once(
     requires quiet { IsQuiet (board_of index.now) pass.old }
     requires own { IsOwnRing (shape_of index.now) (number pass.old) segments.old.ring }
     requires cleared { IsCleared (shape_of index.now) segments.old.source pass.old }
+    requires timely { IsInSpan order.policy.span order.policy.deadline }
     ensures on { GoesOn (board_of index.now) pass.old pass.new }
     ensures own { IsOwnRing (shape_of index.now) (number pass.new) segments.new.ring }
     ensures queues { is_some segments.new.queues ≡ is_some segments.old.queues }
     ensures cleared { IsCleared (shape_of index.now) segments.new.source pass.new }
-    ensures puts { PutsWhole (board_of index.now) (plan_of order.entry) order.entry.policy.moment
+    ensures puts { PutsWhole (board_of index.now) (plan_of order.entry)
         (most_calls (shape_of index.now)) result.0 result.1 pass.old pass.new }
 {
-    let first = set_if_fresh(index, pass, order, &mut segments.replaced);
+    let first = set_if_timely(index, pass, order, &mut segments.replaced);
     if let PutAnswer::Stored = first {
         return (first, Effort::none());
     }
@@ -228,11 +218,12 @@ fn put_in_queues(
     requires quiet { IsQuiet (board_of index.now) pass.old }
     requires own { IsOwnRing (shape_of index.now) (number pass.old) segments.old.ring }
     requires cleared { IsCleared (shape_of index.now) segments.old.source pass.old }
+    requires timely { IsInSpan order.policy.span order.policy.deadline }
     ensures on { GoesOn (board_of index.now) pass.old pass.new }
     ensures own { IsOwnRing (shape_of index.now) (number pass.new) segments.new.ring }
     ensures queues { is_some segments.new.queues ≡ is_some segments.old.queues }
     ensures cleared { IsCleared (shape_of index.now) segments.new.source pass.new }
-    ensures puts { PutsWhole (board_of index.now) (plan_of order.entry) order.entry.policy.moment
+    ensures puts { PutsWhole (board_of index.now) (plan_of order.entry)
         (most_calls (shape_of index.now)) result.0 result.1 pass.old pass.new }
 {
     let (told, effort) = put_once(index, pass, segments, order);
@@ -257,11 +248,12 @@ pub(crate) fn put_by(
     requires quiet { IsQuiet (board_of index.now) pass.old }
     requires own { IsOwnRing (shape_of index.now) (number pass.old) segments.old.ring }
     requires cleared { IsCleared (shape_of index.now) segments.old.source pass.old }
+    requires timely { IsInSpan order.policy.span order.policy.deadline }
     ensures on { GoesOn (board_of index.now) pass.old pass.new }
     ensures own { IsOwnRing (shape_of index.now) (number pass.new) segments.new.ring }
     ensures queues { is_some segments.new.queues ≡ is_some segments.old.queues }
     ensures cleared { IsCleared (shape_of index.now) segments.new.source pass.new }
-    ensures puts { PutsWhole (board_of index.now) (plan_of order.entry) order.entry.policy.moment
+    ensures puts { PutsWhole (board_of index.now) (plan_of order.entry)
         (most_calls (shape_of index.now)) result.0 result.1 pass.old pass.new }
 {
     if segments.queues.is_some() {
@@ -292,7 +284,7 @@ pub(crate) fn clear_after(
     let PutAnswer::Stored = told else {
         return Effort::none();
     };
-    if !is_due(segments) {
+    if !is_due(segments, policy.moment) {
         return Effort::none();
     }
     clear_some(index, pass, segments, policy)

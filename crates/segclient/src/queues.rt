@@ -46,7 +46,7 @@ fn own_place(index: &Index, pass: &Pass, segment: u32) -> u32 {
 }
 
 // The segment of this number among the pass's own.
-fn segment_at(index: &Index, pass: &Pass, at: u32) -> Option<u32>
+pub(crate) fn segment_at(index: &Index, pass: &Pass, at: u32) -> Option<u32>
     requires quiet { IsQuiet (board_of index.now) pass.now }
     ensures own { IfSome result (λ segment.
         owner (shape_of index.now) segment ≡ number pass.now) }
@@ -88,6 +88,27 @@ pub(crate) fn oldest(index: &Index, pass: &Pass, queues: &Queues, queue: Queue) 
     other_at(index, pass, at)
 }
 
+// The segment that is given up for puts, the current one left out: one that has expired,
+// or else the one that came into the queue before the others.
+pub(crate) fn first_to_go(
+    index: &Index,
+    pass: &Pass,
+    queues: &mut Queues,
+    queue: Queue,
+    moment: u32,
+) -> Option<u32>
+    requires quiet { IsQuiet (board_of index.now) pass.now }
+    ensures own { IfSome result (λ segment.
+        (owner (shape_of index.now) segment ≡ number pass.now)
+        × (current_of pass.now ≢ Some segment)) }
+{
+    let expired = next_expired(index, pass, queues, moment);
+    if expired.is_some() {
+        return expired;
+    }
+    oldest(index, pass, queues, queue)
+}
+
 // The segment in use that is given up before the others, the current one left out.
 pub(crate) fn oldest_in_use(index: &Index, pass: &Pass, queues: &Queues) -> Option<u32>
     requires quiet { IsQuiet (board_of index.now) pass.now }
@@ -99,21 +120,35 @@ pub(crate) fn oldest_in_use(index: &Index, pass: &Pass, queues: &Queues) -> Opti
     other_at(index, pass, at)
 }
 
-// The segment that is cleared next, the current one left out. What moves from it is moved
-// into one that is refilled up to this deadline.
+// The segment that is cleared next, the current one left out.
 pub(crate) fn next_source(
     index: &Index,
     pass: &Pass,
     queues: &mut Queues,
     moment: u32,
-    deadline: u32,
 ) -> Option<u32>
     requires quiet { IsQuiet (board_of index.now) pass.now }
     ensures own { IfSome result (λ segment.
         (owner (shape_of index.now) segment ≡ number pass.now)
         × (current_of pass.now ≢ Some segment)) }
 {
-    let at = queues.next_source(current_place(index, pass), moment, deadline)?;
+    let at = queues.next_source(current_place(index, pass), moment)?;
+    other_at(index, pass, at)
+}
+
+// A segment that has expired, the current one left out. It is cleared next.
+pub(crate) fn next_expired(
+    index: &Index,
+    pass: &Pass,
+    queues: &mut Queues,
+    moment: u32,
+) -> Option<u32>
+    requires quiet { IsQuiet (board_of index.now) pass.now }
+    ensures own { IfSome result (λ segment.
+        (owner (shape_of index.now) segment ≡ number pass.now)
+        × (current_of pass.now ≢ Some segment)) }
+{
+    let at = queues.next_expired(current_place(index, pass), moment)?;
     other_at(index, pass, at)
 }
 
@@ -129,16 +164,13 @@ fn if_open(index: &Index, pass: &Pass, into: u32, source: u32) -> Option<u32> {
     }
 }
 
-// The main segment that takes what moves from this one.
+// The segment that takes what moves from this one: the main one with its deadline, or else
+// another one with it, unless puts go there now.
 pub(crate) fn target_of(index: &Index, pass: &Pass, queues: &Queues, source: u32) -> Option<u32>
     requires quiet { IsQuiet (board_of index.now) pass.now }
 {
-    if_open(
-        index,
-        pass,
-        segment_at(index, pass, queues.target()?)?,
-        source,
-    )
+    let at = queues.target(pass.deadline(source)?)?;
+    if_open(index, pass, other_at(index, pass, at)?, source)
 }
 
 // The current segment, if it takes what moves from this one. It does where all moves on.

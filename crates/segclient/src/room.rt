@@ -13,7 +13,9 @@ ghost use Rattle.segclient.specs.PutParts.{StoresAsBefore, TakesFree};
 ghost use Rattle.segclient.specs.Rings.{IsOwnRing};
 
 use crate::effort::{Effort, evicted_by};
-use crate::queues::{oldest as oldest_in, oldest_in_use, round, was_given_up, was_refilled};
+use crate::queues::{
+    first_to_go, oldest as oldest_in, oldest_in_use, round, was_given_up, was_refilled,
+};
 use crate::segments::{Policy, Segments, Source};
 use segindex::{Index, KeepRowAnswer, Pass};
 use segmodel::{EvictAnswer, RefillAnswer, SegState};
@@ -215,29 +217,31 @@ fn has_room_until(index: &Index, pass: &Pass, deadline: u32) -> bool
     has_room(index, pass)
 }
 
-// Gives up the first segment in the queues' order for which that comes about, for puts.
+// Gives up the first segment in the queues' order for which that comes about, for puts:
+// one that has expired comes before all others.
 // One that is refused comes last. The current one isn't given up.
 fn make_room_in_order(
     index: &Index,
     pass: &mut Pass,
     queues: &mut Queues,
-    deadline: u32,
+    policy: Policy,
 ) -> (bool, Effort)
     requires quiet { IsQuiet (board_of index.now) pass.old }
     ensures on { GoesOn (board_of index.now) pass.old pass.new }
     ensures few { (result.1.refilled ≤ 1) × (result.1.kept ≡ 0) × (result.1.keys < 2 ^ 57) }
-    ensures arranges { Arranges (board_of index.now) None deadline
+    ensures arranges { Arranges (board_of index.now) None policy.deadline
         (most_in_turn (shape_of index.now)) result.1 pass.old pass.new }
-    ensures room { result.0 ≡ true → MakesRoom (board_of index.now) None deadline
+    ensures room { result.0 ≡ true → MakesRoom (board_of index.now) None policy.deadline
         (most_in_turn (shape_of index.now)) true result.1 pass.old pass.new }
 {
     let round = round(index, pass, queues);
     let mut keys = 0;
     for tried in 0..index.shape().segments_each {
-        let Some(segment) = oldest_in(index, pass, queues, round.queue_at(tried)) else {
+        let queue = round.queue_at(tried);
+        let Some(segment) = first_to_go(index, pass, queues, queue, policy.moment) else {
             return (false, Effort::evicting(keys));
         };
-        let (is_refilled, more) = give_up(index, pass, segment, deadline);
+        let (is_refilled, more) = give_up(index, pass, segment, policy.deadline);
         keys += u64::from(more);
         if is_refilled {
             was_refilled(index, pass, queues, segment, false);
@@ -260,24 +264,24 @@ fn make_room_in_queues(
     pass: &mut Pass,
     ring: &mut Ring,
     queues: &mut Queues,
-    deadline: u32,
+    policy: Policy,
 ) -> (bool, Effort)
     requires quiet { IsQuiet (board_of index.now) pass.old }
     requires own { IsOwnRing (shape_of index.now) (number pass.old) ring.old }
     ensures on { GoesOn (board_of index.now) pass.old pass.new }
     ensures own { IsOwnRing (shape_of index.now) (number pass.new) ring.new }
     ensures few { (result.1.refilled ≤ 2) × (result.1.kept ≡ 0) × (result.1.keys < 2 ^ 58) }
-    ensures room { MakesRoom (board_of index.now) None deadline
+    ensures room { MakesRoom (board_of index.now) None policy.deadline
         (2 * most_in_turn (shape_of index.now)) result.0 result.1 pass.old pass.new }
 {
-    if has_room_until(index, pass, deadline) {
+    if has_room_until(index, pass, policy.deadline) {
         return (true, Effort::none());
     }
-    let (is_made, first) = make_room_in_order(index, pass, queues, deadline);
+    let (is_made, first) = make_room_in_order(index, pass, queues, policy);
     if is_made {
         return (true, first);
     }
-    let (is_made, last) = make_room(index, pass, ring, deadline);
+    let (is_made, last) = make_room(index, pass, ring, policy.deadline);
     if let Some(segment) = pass.current() {
         was_refilled(index, pass, queues, segment, false);
     }
@@ -306,9 +310,7 @@ fn make_room_at_last(
         return make_room(index, pass, &mut segments.ring, policy.deadline);
     };
     match segments.queues.as_mut() {
-        Some(queues) => {
-            make_room_in_queues(index, pass, &mut segments.ring, queues, policy.deadline)
-        }
+        Some(queues) => { make_room_in_queues(index, pass, &mut segments.ring, queues, policy) }
         None => make_room_keeping(index, pass, &mut segments.ring, least, policy.deadline),
     }
 }

@@ -22,11 +22,19 @@ pub(crate) struct Segments {
     pub(crate) replaced: Option<RowRef>,
 }
 
+// The deadlines that a segment can have into which a put stores: the earliest and the latest one.
+#[derive(Clone, Copy)]
+pub(crate) struct Span {
+    pub(crate) earliest: u32,
+    pub(crate) latest: u32,
+}
+
 // How room is made: the least frequency of what is kept, if anything is, the deadline of what is
-// refilled, and the moment.
+// refilled, the deadlines that do for a put, and the moment.
 #[derive(Clone, Copy)]
 pub(crate) struct Policy {
     pub(crate) cutoff: Option<u8>,
     pub(crate) deadline: u32,
+    pub(crate) span: Span,
     pub(crate) moment: u32,
 }

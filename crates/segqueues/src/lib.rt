@@ -5,6 +5,7 @@
 mod lists;
 mod live;
 mod needs;
+mod open;
 mod queues;
 mod source;
 

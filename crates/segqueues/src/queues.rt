@@ -7,6 +7,7 @@ ghost use Rattle.std.specs.Prelude.{◌≤◌};
 use crate::lists::{Lists, Queue};
 use crate::live::Live;
 use crate::needs::Needs;
+use crate::open::Open;
 use crate::source::Clearing;
 use std::alloc::{AllocError, Global};
 
@@ -50,6 +51,11 @@ pub struct Queues {
     lists: Lists,
     needs: Needs,
     pub(crate) live: Live,
+    // Those that have a row left: for puts, and for what moves.
+    pub(crate) open: Open,
+    pub(crate) open_main: Open,
+    // No segment in use expires earlier, as far as is known.
+    pub(crate) next_expiry: u32,
     // The source, while one is being cleared.
     pub(crate) clearing: Clearing,
     // Whether a segment may be tried of which nothing is known.
@@ -72,6 +78,9 @@ impl Queues {
             lists: Lists::new(alloc, segments)?,
             needs: Needs::new(alloc, segments, rows)?,
             live: Live::new(alloc, segments)?,
+            open: Open::new(alloc, segments)?,
+            open_main: Open::new(alloc, segments)?,
+            next_expiry: u32::MAX,
             clearing: Clearing::none(),
             may_try: true,
             first_look: 0,
@@ -124,6 +133,7 @@ impl Queues {
     /// The segment was refilled up to a deadline, for puts or as a main one.
     /// So many rows of it were used since.
     pub fn was_refilled(&mut self, segment: u32, is_main: bool, deadline: u32, used: u32) {
+        self.was_closed(segment);
         let queue = if is_main {
             Queue::Main
         } else {
@@ -131,16 +141,46 @@ impl Queues {
         };
         self.lists.move_to(segment, queue);
         self.live.was_refilled(segment, deadline, used);
+        self.next_expiry = self.next_expiry.min(deadline);
+        if used < self.rows {
+            self.open_of(is_main).add(deadline, segment);
+        }
     }
 
     /// The segment is free, and comes last among those that are.
     pub fn was_evicted(&mut self, segment: u32) {
+        self.was_closed(segment);
         self.lists.move_to(segment, Queue::Free);
     }
 
     /// The segment was refused, and comes last in its queue.
     pub fn was_refused(&mut self, segment: u32) {
+        self.was_closed(segment);
         self.lists.move_to(segment, self.lists.queue_of(segment));
+    }
+
+    // The open segments for puts, or the main ones.
+    fn open_of(&mut self, is_main: bool) -> &mut Open {
+        if is_main {
+            &mut self.open_main
+        } else {
+            &mut self.open
+        }
+    }
+
+    /// Nothing is stored into the segment or moved there any more, until it is refilled.
+    pub fn was_closed(&mut self, segment: u32) {
+        let deadline = self.live.deadline(segment);
+        self.open.remove(deadline, segment);
+        self.open_main.remove(deadline, segment);
+    }
+
+    // A row more of the segment was used. If it was the last one, the segment is open no more.
+    fn was_used(&mut self, segment: u32, is_stored: bool) {
+        self.live.was_used(segment, is_stored);
+        if self.live.used(segment) >= self.rows {
+            self.was_closed(segment);
+        }
     }
 
     /// The item of a row of the source moved into a row of another segment. It needs more
@@ -150,7 +190,7 @@ impl Queues {
         let more = u8::from(!self.clearing.moves_all);
         self.needs
             .set(into.segment, into.row, need.saturating_add(more));
-        self.live.was_used(into.segment, false);
+        self.was_used(into.segment, false);
         self.was_done(true);
     }
 
@@ -158,7 +198,7 @@ impl Queues {
     pub fn was_stored(&mut self, at: Place, hash: u64, is_update: bool) {
         let need = self.needs.of_put(hash, is_update);
         self.needs.set(at.segment, at.row, need);
-        self.live.was_used(at.segment, true);
+        self.was_used(at.segment, true);
     }
 
     /// The item of a row of the segment was replaced or deleted by the pass.
@@ -193,15 +233,38 @@ impl Queues {
         }
     }
 
-    /// The main segment that was opened last, which takes what moves.
-    pub fn target(&self) -> Option<u32> {
-        self.lists.newest(Queue::Main)
+    /// The open segment for puts with the latest deadline from the earliest one up to the latest.
+    pub fn open_within(&self, earliest: u32, latest: u32) -> Option<u32> {
+        self.open.within(earliest, latest)
+    }
+
+    /// The open segment that takes what moves from those with this deadline: the main one.
+    /// If there is none and they expire, it is the one that puts with this deadline went to.
+    pub fn target(&self, deadline: u32) -> Option<u32> {
+        let main = self.open_main.at(deadline);
+        if main.is_some() || deadline == u32::MAX {
+            return main;
+        }
+        self.open.at(deadline)
+    }
+
+    /// Whether more than one segment of eight is free.
+    pub fn are_many_free(&self) -> bool {
+        self.lists.ready() > self.segments / 8
+    }
+
+    /// Whether a segment in use may have expired at this moment.
+    pub fn may_expire(&self, moment: u32) -> bool {
+        self.next_expiry <= moment
     }
 
     /// Whether a free segment can become a main one: another is left for puts then,
     /// or will be before they need it. That is so if half of the rows of theirs are left;
     /// or where all moves on, if so many turns do that are left until then.
     pub fn can_open(&self, rows_left: u32, turns_left: u32, rows_to_go: u32) -> bool {
+        if self.clearing.is_alone {
+            return false;
+        }
         let free = self.lists.ready();
         let is_in_time = if self.moves_all() {
             turns_left > rows_to_go

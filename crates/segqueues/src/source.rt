@@ -31,6 +31,8 @@ const LOOKS: u32 = 128;
 pub(crate) struct Clearing {
     // Whether all moves on that can be read, however seldom it was.
     pub(crate) moves_all: bool,
+    // Whether it expires and no other segment has its deadline. Then none is opened for it.
+    pub(crate) is_alone: bool,
     // What was known of it at first, and found so far in how many rows.
     known: Found,
     looked: u32,
@@ -47,6 +49,7 @@ impl Clearing {
         };
         Clearing {
             moves_all: false,
+            is_alone: false,
             known: none,
             looked: 0,
             alive: 0,
@@ -105,39 +108,59 @@ impl Queues {
         PARTS.saturating_mul(u64::from(rows))
     }
 
-    // The main segment that has a row left for what moves.
-    fn open_target(&self) -> Option<u32> {
-        let target = self.target()?;
-        if self.live.used(target) < self.rows {
-            Some(target)
-        } else {
-            None
+    // Whether the segment takes what moves from others with its deadline.
+    fn is_open_main(&self, at: u32) -> bool {
+        self.open_main.at(self.live.deadline(at)) == Some(at)
+    }
+
+    // Whether the segment takes what moves, or what is put.
+    fn is_open(&self, at: u32) -> bool {
+        self.is_open_main(at) || self.open.at(self.live.deadline(at)) == Some(at)
+    }
+
+    // Whether the segment is in use, and isn't the current one.
+    fn is_other(&self, at: u32, current: Option<u32>) -> bool {
+        self.queue_of(at) != Queue::Free && current != Some(at)
+    }
+
+    // How many rows are left in the segment, in parts.
+    fn room_in(&self, at: u32) -> u64 {
+        Self::parts_of(self.rows.saturating_sub(self.live.used(at)))
+    }
+
+    // How many rows are left for what moves from the segment, in parts.
+    fn room_for(&self, segment: u32, current: Option<u32>) -> u64 {
+        match self.target(self.live.deadline(segment)) {
+            Some(at) if at != segment && current != Some(at) => self.room_in(at),
+            _ => 0,
         }
     }
 
-    // How many rows are left for what moves, in parts.
-    fn room_in(&self, target: Option<u32>) -> u64 {
-        match target {
-            Some(at) => Self::parts_of(self.rows.saturating_sub(self.live.used(at))),
-            None => 0,
+    // How many rows of the segments with this deadline aren't alive, in parts. Of the main one
+    // that is open only those count that are left.
+    fn dead_in(&self, deadline: u32, current: Option<u32>, first: u32) -> u64 {
+        let mut dead = 0u64;
+        for look in 0..self.segments.min(LOOKS) {
+            let at = first.saturating_add(look);
+            if self.is_other(at, current) && self.live.deadline(at) == deadline {
+                dead = dead.saturating_add(if self.is_open_main(at) {
+                    self.room_in(at)
+                } else {
+                    Self::parts_of(self.rows).saturating_sub(self.live.estimate(at))
+                });
+            }
         }
+        dead
     }
 
-    // Whether what is in the segment can move on: into the target, or into one that is
-    // opened up to this deadline.
-    fn can_move(&self, segment: u32, target: Option<u32>, deadline: u32) -> bool {
-        let own = self.live.deadline(segment);
-        own == deadline || matches!(target, Some(at) if self.live.deadline(at) == own)
-    }
-
-    // What is seen with one segment more.
-    fn seen_with(&self, seen: Seen, segment: u32, target: Option<u32>) -> Seen {
+    // What is seen with one segment more. The open main ones aren't chosen.
+    fn seen_with(&self, seen: Seen, segment: u32) -> Seen {
         let all = Self::parts_of(self.rows);
         let rows = seen.rows.saturating_add(all);
-        if target == Some(segment) {
+        if self.is_open_main(segment) {
             return Seen {
                 rows,
-                dead: seen.dead.saturating_add(self.room_in(target)),
+                dead: seen.dead.saturating_add(self.room_in(segment)),
                 ..seen
             };
         }
@@ -176,9 +199,19 @@ impl Queues {
         first
     }
 
-    // Whether what moves from the segment has room.
-    fn has_room_for(&self, choice: Choice, target: Option<u32>) -> bool {
-        self.is_one_ready() || self.room_in(target) >= choice.live
+    // Whether a segment is gained if what lives of this one moves: none does, or it has room in
+    // an open one, or else the dead rows of the segments with its deadline make up a whole one.
+    fn gains(&self, choice: Choice, current: Option<u32>, first: u32) -> bool {
+        let deadline = self.live.deadline(choice.segment);
+        choice.live < PARTS / 2
+            || self.room_for(choice.segment, current) >= choice.live
+            || !self.is_open(choice.segment)
+                && self.dead_in(deadline, current, first) >= Self::parts_of(self.rows)
+    }
+
+    // Whether what lives of the segment has room, in an open one or a free one.
+    fn has_room(&self, choice: Choice, current: Option<u32>) -> bool {
+        self.is_one_ready() || self.room_for(choice.segment, current) >= choice.live
     }
 
     // Whether so many dead rows were found lately that it is worth looking for more.
@@ -187,9 +220,9 @@ impl Queues {
     }
 
     // A segment of which little is known, to be cleared if that was worth it lately.
-    fn to_try(&mut self, seen: Seen, target: Option<u32>) -> Option<u32> {
+    fn to_try(&mut self, seen: Seen, current: Option<u32>) -> Option<u32> {
         let tried = seen.unknown?;
-        if self.may_try && self.finds_dead_rows() && self.has_room_for(tried, target) {
+        if self.may_try && self.finds_dead_rows() && self.has_room(tried, current) {
             self.may_try = false;
             return Some(tried.segment);
         }
@@ -230,8 +263,8 @@ impl Queues {
 
     // A segment that is cleared for its dead rows, if that gains a segment,
     // and what moves has room.
-    fn with_dead_rows(&mut self, seen: Seen, target: Option<u32>) -> Option<u32> {
-        let tried = self.to_try(seen, target);
+    fn with_dead_rows(&mut self, seen: Seen, current: Option<u32>, first: u32) -> Option<u32> {
+        let tried = self.to_try(seen, current);
         if tried.is_some() {
             return tried;
         }
@@ -240,11 +273,7 @@ impl Queues {
         } else {
             self.any_with_dead_rows(seen)?
         };
-        let live = choice.live;
-        let gains = live < PARTS / 2
-            || self.room_in(target) >= live
-            || seen.dead >= Self::parts_of(self.rows);
-        if gains && self.has_room_for(choice, target) {
+        if self.gains(choice, current, first) && self.has_room(choice, current) {
             return Some(choice.segment);
         }
         None
@@ -269,10 +298,26 @@ impl Queues {
         main
     }
 
+    // Whether the segment expires, and no other in use has its deadline.
+    fn is_alone(&self, segment: u32) -> bool {
+        let deadline = self.live.deadline(segment);
+        if deadline == u32::MAX {
+            return false;
+        }
+        for at in 0..self.segments {
+            if self.is_other(at, Some(segment)) && self.live.deadline(at) == deadline {
+                return false;
+            }
+        }
+        true
+    }
+
     // From now on the segment is the source.
     fn begin(&mut self, segment: u32, moves_all: bool) -> Option<u32> {
+        self.was_closed(segment);
         self.clearing = Clearing {
             moves_all,
+            is_alone: self.is_alone(segment),
             known: self.live.known_of(segment),
             looked: 0,
             alive: 0,
@@ -280,25 +325,48 @@ impl Queues {
         Some(segment)
     }
 
+    // A segment that has expired at this moment, the current one left out.
+    fn first_expired(&mut self, current: Option<u32>, moment: u32) -> Option<u32> {
+        if !self.may_expire(moment) {
+            return None;
+        }
+        let mut found = None;
+        let mut next = u32::MAX;
+        for at in 0..self.segments {
+            if self.queue_of(at) != Queue::Free {
+                let deadline = self.live.deadline(at);
+                next = next.min(deadline);
+                if deadline <= moment && current != Some(at) {
+                    found = Some(at);
+                }
+            }
+        }
+        self.next_expiry = next;
+        found
+    }
+
+    /// A segment that has expired at this moment, the current one left out. It is cleared next.
+    pub fn next_expired(&mut self, current: Option<u32>, moment: u32) -> Option<u32> {
+        let segment = self.first_expired(current, moment)?;
+        self.begin(segment, false)
+    }
+
     /// The segment that is cleared next, the current one left out: one that has expired at this
     /// moment, or else one with many dead rows, or else the next by frequencies.
-    /// What moves from it is moved into a segment that is refilled up to this deadline.
-    pub fn next_source(&mut self, current: Option<u32>, moment: u32, deadline: u32) -> Option<u32> {
-        let target = self.open_target();
+    pub fn next_source(&mut self, current: Option<u32>, moment: u32) -> Option<u32> {
+        let expired = self.next_expired(current, moment);
+        if expired.is_some() {
+            return expired;
+        }
         let first = self.next_look();
         let mut seen = Seen::none();
         for look in 0..self.segments.min(LOOKS) {
             let at = first.saturating_add(look);
-            if self.queue_of(at) != Queue::Free && current != Some(at) {
-                if self.live.deadline(at) <= moment {
-                    return self.begin(at, false);
-                }
-                if self.can_move(at, target, deadline) {
-                    seen = self.seen_with(seen, at, target);
-                }
+            if self.is_other(at, current) {
+                seen = self.seen_with(seen, at);
             }
         }
-        if let Some(segment) = self.with_dead_rows(seen, target) {
+        if let Some(segment) = self.with_dead_rows(seen, current, first) {
             return self.begin(segment, true);
         }
         self.may_try = true;

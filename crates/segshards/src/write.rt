@@ -6,7 +6,7 @@ impl<'c> Client<'c> {
     ghost use Rattle.segmodel.specs.declared.request.Request.TheVariants.{Set, Add, Replace, Cas};
     ghost use Rattle.segwrite.specs.Words.{IsSetAnswer};
     ghost use Rattle.segclient.specs.Made.{DeletesKey, MakesWrite};
-    ghost use Rattle.segclient.specs.Puts.{MakesRoomFor, Puts};
+    ghost use Rattle.segclient.specs.Puts.{MakesRoomFor, Puts, PutsFor};
     ghost use Rattle.segshards.specs.Client.{MakesCall};
     ghost use Rattle.segshards.specs.Clients.{IsSame};
 
@@ -20,6 +20,20 @@ impl<'c> Client<'c> {
         let shard = &mut self.shards[place];
         shard.set_now(self.clock);
         shard.put(key, value)
+    }
+
+    /// Stores the value under the key as `put` does, but for this time to live in place
+    /// of the client's own.
+    #[inline(always)]
+    pub fn put_for(&mut self, key: &Key, value: &Value, time_to_live: u32) -> PutAnswer
+        ensures puts { MakesCall key.now (PutsFor time_to_live key.now value.now result)
+            self.old self.new }
+        ensures same { IsSame self.old self.new }
+    {
+        let place = self.place_of(key);
+        let shard = &mut self.shards[place];
+        shard.set_now(self.clock);
+        shard.put_for(key, value, time_to_live)
     }
 
     /// Stores the value under the key. It makes no room, but `put` does.

@@ -45,4 +45,6 @@ mod session_store;
 #[cfg(test)]
 mod several_shards;
 #[cfg(test)]
+mod several_times;
+#[cfg(test)]
 mod updates;

@@ -85,26 +85,27 @@ fn a_session_ends_at_its_deadline(rt: HostRuntime) {
     let (index, passes) = Index::new(rt.alloc(), SHAPE).expect(&rt, "an index");
     let mut sessions = Sessions::new(only_client(&rt, &index, passes));
 
-    // The deadline is the last multiple of 900 seconds that comes in 1,800: 2,700.
+    // The deadline comes in 1,800 seconds, and not before 1,575, seven eighths of them.
+    // While many segments are free it is the last multiple of 28 seconds that comes in time: 2,800.
     // One second before it the session stands, and at the deadline it has ended.
     sessions.tick(1_000);
     check_that(&rt, sessions.sign_in("token-1", "alice"));
     let rows = [
         (1_000, "token-1", "alice"),
         (1_000, "token-2", ""),
-        (2_699, "token-1", "alice"),
-        (2_700, "token-1", ""),
+        (2_799, "token-1", "alice"),
+        (2_800, "token-1", ""),
     ];
     same(&rt, &first_wrong(&mut sessions, &rows), &None);
 
-    // Who signs in again has the whole time again: 2,700 is such a multiple, and so is 4,500.
+    // Who signs in again has the whole time again: up to 4,592, which is such a multiple too.
     let is_alice = sessions.sign_in("token-1", "alice");
     let is_bob = sessions.sign_in("token-2", "bob");
     same(&rt, &(is_alice, is_bob), &(true, true));
-    let rows = [(4_499, "token-1", "alice"), (4_499, "token-2", "bob")];
+    let rows = [(4_591, "token-1", "alice"), (4_591, "token-2", "bob")];
     same(&rt, &first_wrong(&mut sessions, &rows), &None);
     sessions.sign_out("token-2");
-    let rows = [(4_499, "token-2", ""), (4_500, "token-1", "")];
+    let rows = [(4_591, "token-2", ""), (4_592, "token-1", "")];
     same(&rt, &first_wrong(&mut sessions, &rows), &None);
 
     let stats = sessions.client.stats();

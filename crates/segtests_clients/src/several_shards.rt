@@ -98,6 +98,27 @@ fn each_key_is_found_in_its_shard(rt: HostRuntime) {
     same(&rt, &first.stats().stored, &100);
 }
 
+// Half of the keys live for 100, the others for good.
+#[test]
+fn each_shard_keeps_the_times_apart(rt: HostRuntime) {
+    let (cache, passes) = Cache::of_shards(rt.alloc(), SHAPE, SHARDS).expect(&rt, "a cache");
+    let (mut first, mut second) = two_clients(&rt, &cache, passes);
+    for number in 0..KEYS {
+        let key = key_of(&rt, number);
+        let time = if number % 2 == 0 { 100 } else { u32::MAX };
+        let told = first.put_for(&key, &value_of(&rt, number), time);
+        same(&rt, &told, &PutAnswer::Stored);
+    }
+    for number in 0..KEYS {
+        let key = key_of(&rt, number);
+        second.set_now(87);
+        same(&rt, &second.get(&key), &wanted(&rt, number, KEYS));
+        second.set_now(100);
+        let count = if number % 2 == 0 { 0 } else { KEYS };
+        same(&rt, &second.get(&key), &wanted(&rt, number, count));
+    }
+}
+
 // Writes and deletes of one client meet what the other wrote.
 #[test]
 fn writes_meet_in_the_shard_of_the_key(rt: HostRuntime) {

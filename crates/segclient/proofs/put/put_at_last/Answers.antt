@@ -10,7 +10,6 @@ pub returns-in_default : goal.returns-in_default
 returns-in_default c =
     let b = board_of c.args.index.now in
     let plan = plan_of c.args.order in
-    let moment = c.args.order.policy.moment in
     let one = c.set_in_room-told in
     record {
       on = one.ensures.on;
@@ -18,7 +17,7 @@ returns-in_default c =
       queues = one.ensures.queues;
       cleared = one.ensures.cleared;
       puts = λ start is. (
-        as_many b plan moment (most_for_set b.shape) (most_for_put b.shape) one.result.0 one.result.1 one.result.1 start one.new.pass (omega arith) refl (one.ensures.sets start is),
+        as_many b plan (most_for_set b.shape) (most_for_put b.shape) one.result.0 one.result.1 one.result.1 start one.new.pass (omega arith) refl (one.ensures.sets start is),
         λ full. absurd (c.in_default.not-BucketFull full),
       );
     }
@@ -29,7 +28,7 @@ returns-clause-on c =
     let p = c.args.pass.now in
     let full = c.set_in_room-told in
     let out = c.evict_oldest in
-    let fresh = c.set_if_fresh-told in
+    let fresh = c.set_if_timely-told in
     goes_then b p fresh.new.pass c.set_in_room-told-2.new.pass
     (goes_then b p out.new.pass fresh.new.pass (goes_then b p full.new.pass out.new.pass full.ensures.on out.ensures.on) fresh.ensures.on)
     c.set_in_room-told-2.ensures.on
@@ -38,12 +37,11 @@ pub returns-clause-puts : goal.returns-clause-puts
 returns-clause-puts c = λ start is.
     let b = board_of c.args.index.now in
     let plan = plan_of c.args.order in
-    let moment = c.args.order.policy.moment in
     let one = c.set_in_room-told in
     let out = c.evict_oldest in
     let last = c.set_in_room-told-2 in
     let most = most_for_set b.shape in
-    let full = subst (λ t. MakesPut b plan moment most t one.result.1 start one.new.pass) c.in-BucketFull.is (one.ensures.sets start is) in
-    whole b plan moment most (most_for_put b.shape) last.result.0 one.result.1 out.result last.result.1 c.plus.result start one.new.pass out.new.pass last.new.pass (omega arith)
+    let full = subst (λ t. MakesPut b plan most t one.result.1 start one.new.pass) c.in-BucketFull.is (one.ensures.sets start is) in
+    whole b plan most (most_for_put b.shape) last.result.0 one.result.1 out.result last.result.1 c.plus.result start one.new.pass out.new.pass last.new.pass (omega arith)
     (sym (c.plus.ensures ∙ ap (λ e. both e last.result.1) c.plus-emptied.ensures))
-    full out.ensures.empties (last.ensures.sets out.new.pass c.set_if_fresh-told.ensures.sets)
+    full out.ensures.empties (last.ensures.sets out.new.pass c.set_if_timely-told.ensures.sets)

@@ -5,10 +5,11 @@ use Rattle.segstore.proofs.Idling.{goes_same}
 use Rattle.segevict.proofs.RowsOut.{goes_then}
 use Rattle.segclient.specs.declared.put.PutAnswer.TheVariants as put
 use Rattle.segclient.specs.declared.effort.Effort.{Effort}
-use Rattle.segclient.specs.PutParts.{effort_from, MakesPut, most_for_room, most_for_set, plan_of, SetsIfFresh}
+use Rattle.segclient.specs.PutParts.{effort_from, MakesPut, most_for_room, most_for_set, plan_of, SetsIfTimely}
 use Rattle.segclient.proofs.Calls.{both}
 use Rattle.segclient.proofs.Cleared.{sets_stay}
 use Rattle.segclient.proofs.Order.{as_many, lacked, no_room_end, none_more, room_on, sets_end, sets_on}
+use Rattle.segclient.proofs.Setting.{not_outside}
 use Rattle.segclient.proofs.put.set_in_room.Goals as goal
 
 pub returns-in_default : goal.returns-in_default
@@ -16,7 +17,6 @@ returns-in_default c =
     let b = board_of c.args.index.now in
     let p = c.args.pass.now in
     let plan = plan_of c.args.order in
-    let moment = c.args.order.policy.moment in
     record {
       on = goes_same b p c.requires.quiet;
       own = c.requires.own;
@@ -27,7 +27,7 @@ returns-in_default c =
         let x = ap (λ (e : Effort). e.kept) c.none.ensures in omega (arith, x),
         let x = ap (λ (e : Effort). e.keys) c.none.ensures in omega (arith, x),
       );
-      sets = λ start is. subst (λ e. MakesPut b plan moment (most_for_set b.shape) c.args.told e start p) (sym c.none.ensures) (sets_end b plan moment (most_for_set b.shape) c.args.told start p (omega arith) c.in_default.not-NoRoom is);
+      sets = λ start is. subst (λ e. MakesPut b plan (most_for_set b.shape) c.args.told e start p) (sym c.none.ensures) (sets_end b plan (most_for_set b.shape) c.args.told start p (omega arith) c.in_default.not-NoRoom is);
     }
 
 pub returns-then-not-is_made-clause-sets : goal.returns-then-not-is_made-clause-sets
@@ -35,13 +35,22 @@ returns-then-not-is_made-clause-sets c = λ start is.
     let b = board_of c.args.index.now in
     let p = c.args.pass.now in
     let plan = plan_of c.args.order in
-    let moment = c.args.order.policy.moment in
     let room = c.make_room_by-is_made in
     let most = most_for_room b.shape in
     let none = effort_from 0 0 0 in
-    let first = lacked b plan moment start p (subst (λ t. SetsIfFresh b plan moment t start p) c.in-NoRoom.is is) in
-    as_many b plan moment (16 + most) (most_for_set b.shape) put.NoRoom (both none room.result.1) room.result.1 start room.new.pass (omega arith) (none_more room.result.1)
-    (no_room_end b plan moment 16 none start p room.new.pass first most room.result.0 room.result.1 room.ensures.room c.if-not-is_made.true)
+    let first = lacked b plan start p (subst (λ t. SetsIfTimely b plan t start p) c.in-NoRoom.is is) in
+    as_many b plan (16 + most) (most_for_set b.shape) put.NoRoom (both none room.result.1) room.result.1 start room.new.pass (omega arith) (none_more room.result.1)
+    (no_room_end b plan 16 none start p room.new.pass first most room.result.0 room.result.1 room.ensures.room c.if-not-is_made.true)
+
+-- what was refilled has a deadline that is asked
+pub set_while_busy-requires : goal.set_while_busy-requires
+set_while_busy-requires c =
+    let room = c.make_room_by-is_made in
+    let order = c.args.order in
+    record {
+      quiet = room.ensures.on.quiet;
+      timely = not_outside order.policy.span order.policy.deadline room.new.pass (room.ensures.room.until c.if-not-is_made.false) c.requires.timely;
+    }
 
 pub returns-clause-on : goal.returns-clause-on
 returns-clause-on c = goes_then (board_of c.args.index.now) c.args.pass.now c.make_room_by-is_made.new.pass c.set_while_busy.new.pass c.make_room_by-is_made.ensures.on c.set_while_busy.ensures.on
@@ -58,14 +67,13 @@ returns-clause-sets c = λ start is.
     let b = board_of c.args.index.now in
     let p = c.args.pass.now in
     let plan = plan_of c.args.order in
-    let moment = c.args.order.policy.moment in
     let room = c.make_room_by-is_made in
     let last = c.set_while_busy in
     let most = most_for_room b.shape in
     let none = effort_from 0 0 0 in
-    let first = lacked b plan moment start p (subst (λ t. SetsIfFresh b plan moment t start p) c.in-NoRoom.is is) in
-    let on = room_on b plan moment 16 none start p room.new.pass first most room.result.0 room.result.1 room.ensures.room in
+    let first = lacked b plan start p (subst (λ t. SetsIfTimely b plan t start p) c.in-NoRoom.is is) in
+    let on = room_on b plan 16 none start p room.new.pass first most room.result.0 room.result.1 room.ensures.room in
     let left = room.ensures.room.room ∙ c.if-not-is_made.false in
     let other : last.result ≢ put.NoRoom = λ lacks. false≢true (sym (last.ensures.sets.no_room lacks).0 ∙ left) in
-    as_many b plan moment (16 + most + 16) (most_for_set b.shape) last.result (both none room.result.1) room.result.1 start last.new.pass (omega arith) (none_more room.result.1)
-    (sets_on b plan moment (16 + most) (both none room.result.1) start room.new.pass last.new.pass on last.result other left last.ensures.sets)
+    as_many b plan (16 + most + 16) (most_for_set b.shape) last.result (both none room.result.1) room.result.1 start last.new.pass (omega arith) (none_more room.result.1)
+    (sets_on b plan (16 + most) (both none room.result.1) start room.new.pass last.new.pass on last.result other left last.ensures.sets)

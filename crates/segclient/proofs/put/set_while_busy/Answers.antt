@@ -32,7 +32,7 @@ loop-tries-preserved c =
     let writes = c.in-Busy.ensures.writes in
     record {
       on = goes_then b c.args.pass.now c.loop-tries.pass c.set_once.new.pass was.on writes.on;
-      busy = busy_more b c.args.order c.loop-tries.tries c.args.pass.now c.loop-tries.pass c.set_once.new.pass c.requires.fresh was.busy was.plain writes;
+      busy = busy_more b c.args.order c.loop-tries.tries c.args.pass.now c.loop-tries.pass c.set_once.new.pass c.requires.timely was.busy was.plain writes;
       plain = writes.answer.0.plain ∙ was.plain;
     }
 
@@ -44,7 +44,7 @@ returns-in-Stored-clause-sets c =
     let was = c.loop-tries.invariant in
     record {
       calls = sets write.Stored ∷ busy_sets c.loop-tries.tries;
-      makes = set_more (board_of c.args.index.now) c.args.order write.Stored c.loop-tries.tries c.args.pass.now c.loop-tries.pass c.set_once.new.pass c.requires.fresh was.busy was.plain tt c.in-Stored.ensures.writes;
+      makes = set_more (board_of c.args.index.now) c.args.order write.Stored c.loop-tries.tries c.args.pass.now c.loop-tries.pass c.set_once.new.pass c.requires.timely was.busy was.plain tt c.in-Stored.ensures.writes;
       few = let long = busy_long c.loop-tries.tries in omega (arith, long);
       are = (c.loop-tries.tries, refl);
       no_room = λ e. absurd (stored_is e);
@@ -57,7 +57,7 @@ returns-in-NoRoom-clause-sets c =
     let writes = c.in-NoRoom.ensures.writes in
     record {
       calls = sets write.NoRoom ∷ busy_sets c.loop-tries.tries;
-      makes = set_more b c.args.order write.NoRoom c.loop-tries.tries c.args.pass.now c.loop-tries.pass c.set_once.new.pass c.requires.fresh was.busy was.plain tt writes;
+      makes = set_more b c.args.order write.NoRoom c.loop-tries.tries c.args.pass.now c.loop-tries.pass c.set_once.new.pass c.requires.timely was.busy was.plain tt writes;
       few = let long = busy_long c.loop-tries.tries in omega (arith, long);
       are = (c.loop-tries.tries, refl);
       no_room = λ e. let full = writes.no_room.0 refl in (
@@ -74,7 +74,7 @@ returns-in-BucketFull-clause-sets c =
     let was = c.loop-tries.invariant in
     record {
       calls = sets write.BucketFull ∷ busy_sets c.loop-tries.tries;
-      makes = set_more (board_of c.args.index.now) c.args.order write.BucketFull c.loop-tries.tries c.args.pass.now c.loop-tries.pass c.set_once.new.pass c.requires.fresh was.busy was.plain tt c.in-BucketFull.ensures.writes;
+      makes = set_more (board_of c.args.index.now) c.args.order write.BucketFull c.loop-tries.tries c.args.pass.now c.loop-tries.pass c.set_once.new.pass c.requires.timely was.busy was.plain tt c.in-BucketFull.ensures.writes;
       few = let long = busy_long c.loop-tries.tries in omega (arith, long);
       are = (c.loop-tries.tries, refl);
       no_room = λ e. absurd (full_is e);

@@ -10,7 +10,7 @@ use Rattle.segclient.proofs.Rooms.{gives_up, PassesOver, passes_on}
 use Rattle.segclient.proofs.room.make_room_in_order.Goals as goal
 
 -- the segment was given up
-room_made : (c : goal.After-was_refilled) → MakesRoom (board_of c.args.index.now) None c.args.deadline (most_in_turn (board_of c.args.index.now).shape) true (effort_from 1 0 (c.loop-tried.keys + c.from-keys.result)) c.args.pass.now c.give_up-is_refilled.new.pass
+room_made : (c : goal.After-was_refilled) → MakesRoom (board_of c.args.index.now) None c.args.policy.deadline (most_in_turn (board_of c.args.index.now).shape) true (effort_from 1 0 (c.loop-tried.keys + c.from-keys.result)) c.args.pass.now c.give_up-is_refilled.new.pass
 room_made c =
     let b = board_of c.args.index.now in
     let was = c.loop-tried.invariant in
@@ -20,8 +20,8 @@ room_made c =
     let more = gives.result.1 in
     let keys = c.loop-tried.keys in
     let below : c.loop-tried.tried < b.shape.segments_each = subst (λ s. c.loop-tried.tried < s.segments_each) c.shape-tried-end.ensures c.loop-tried-test.true in
-    let given = subst (λ made. GivesUp b segment c.args.deadline made more q gives.new.pass) c.if-is_refilled.true gives.ensures.gives_up in
-    gives_up b c.args.deadline (2 * c.loop-tried.tried) keys c.args.pass.now q gives.new.pass was.over segment more c.in-Some.ensures.own.0
+    let given = subst (λ made. GivesUp b segment c.args.policy.deadline made more q gives.new.pass) c.if-is_refilled.true gives.ensures.gives_up in
+    gives_up b c.args.policy.deadline (2 * c.loop-tried.tried) keys c.args.pass.now q gives.new.pass was.over segment more c.in-Some.ensures.own.0
     (most_in_turn b.shape) (keys + c.from-keys.result) (omega arith) (ap (λ n. keys + n) c.from-keys.ensures) given
 
 -- none was given up so far
@@ -35,7 +35,7 @@ loop-tried-init c =
     let b = board_of c.args.index.now in
     record {
       on = goes_same b c.args.pass.now c.requires.quiet;
-      over = arranges_none b None c.args.deadline c.args.pass.now;
+      over = arranges_none b None c.args.policy.deadline c.args.pass.now;
       few = omega arith;
     }
 
@@ -52,10 +52,10 @@ loop-tried-preserved c =
     let segment = c.in-Some.segment in
     let more = gives.result.1 in
     let sum = keys + c.from-keys.result in
-    let refused = subst (λ made. GivesUp b segment c.args.deadline made more q r) c.if-is_refilled.false gives.ensures.gives_up in
+    let refused = subst (λ made. GivesUp b segment c.args.policy.deadline made more q r) c.if-is_refilled.false gives.ensures.gives_up in
     record {
       on = goes_then b p q r was.on gives.ensures.on;
-      over = (passes_on b c.args.deadline (2 * tried) keys p q r was.over segment more c.in-Some.ensures.own.0
+      over = (passes_on b c.args.policy.deadline (2 * tried) keys p q r was.over segment more c.in-Some.ensures.own.0
           (2 * (tried + 1)) sum (omega arith) (ap (λ n. keys + n) c.from-keys.ensures) refused).next;
       few = let few = was.few in let fits = gives.type_inv in let from = c.from-keys.ensures in omega (arith, few, fits, from);
     }
@@ -74,11 +74,11 @@ returns-in_default-clause-arranges c =
     let b = board_of c.args.index.now in
     let p = c.args.pass.now in
     let below : c.loop-tried.tried < b.shape.segments_each = subst (λ s. c.loop-tried.tried < s.segments_each) c.shape-tried-end.ensures c.loop-tried-test.true in
-    passed_over b c.args.deadline (2 * c.loop-tried.tried) (most_in_turn b.shape) c.loop-tried.keys c.evicting.result p c.loop-tried.pass (omega arith) c.evicting.ensures c.loop-tried.invariant.over
+    passed_over b c.args.policy.deadline (2 * c.loop-tried.tried) (most_in_turn b.shape) c.loop-tried.keys c.evicting.result p c.loop-tried.pass (omega arith) c.evicting.ensures c.loop-tried.invariant.over
 
 pub returns-clause-arranges : goal.returns-clause-arranges
 returns-clause-arranges c =
     let b = board_of c.args.index.now in
     let p = c.args.pass.now in
     let ends = ap (λ s. s.segments_each) c.shape-tried-end.ensures in
-    passed_over b c.args.deadline (2 * c.loop-tried.tried) (most_in_turn b.shape) c.loop-tried.keys c.evicting-2.result p c.loop-tried.pass (omega (arith, ends)) c.evicting-2.ensures c.loop-tried.invariant.over
+    passed_over b c.args.policy.deadline (2 * c.loop-tried.tried) (most_in_turn b.shape) c.loop-tried.keys c.evicting-2.result p c.loop-tried.pass (omega (arith, ends)) c.evicting-2.ensures c.loop-tried.invariant.over

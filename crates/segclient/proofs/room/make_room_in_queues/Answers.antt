@@ -10,14 +10,14 @@ pub returns-then-has_room_until-clause-room : goal.returns-then-has_room_until-c
 returns-then-has_room_until-clause-room c =
     let b = board_of c.args.index.now in
     let p = c.args.pass.now in
-    room_left b None c.args.deadline 0 (2 * most_in_turn b.shape) c.none.result p p (omega arith) (none_arranges b None c.args.deadline 0 c.none.result p c.none.ensures)
+    room_left b None c.args.policy.deadline 0 (2 * most_in_turn b.shape) c.none.result p p (omega arith) (none_arranges b None c.args.policy.deadline 0 c.none.result p c.none.ensures)
     (c.has_room_until.ensures.room c.if-has_room_until.true) (c.has_room_until.ensures.until c.if-has_room_until.true)
 
 pub returns-then-is_made-clause-room : goal.returns-then-is_made-clause-room
 returns-then-is_made-clause-room c =
     let b = board_of c.args.index.now in
     let first = c.make_room_in_order-is_made in
-    room_wider b None c.args.deadline (most_in_turn b.shape) (2 * most_in_turn b.shape) true first.result.1 c.args.pass.now first.new.pass (omega arith) (first.ensures.room c.if-is_made.true)
+    room_wider b None c.args.policy.deadline (most_in_turn b.shape) (2 * most_in_turn b.shape) true first.result.1 c.args.pass.now first.new.pass (omega arith) (first.ensures.room c.if-is_made.true)
 
 pub returns-clause-on : goal.returns-clause-on
 returns-clause-on c =
@@ -29,5 +29,5 @@ returns-clause-room c =
     let first = c.make_room_in_order-is_made in
     let last = c.make_room-is_made in
     let turn = most_in_turn b.shape in
-    room_again b None c.args.deadline turn turn (2 * turn) last.result.0 first.result.1 last.result.1 c.plus.result c.args.pass.now first.new.pass last.new.pass
+    room_again b None c.args.policy.deadline turn turn (2 * turn) last.result.0 first.result.1 last.result.1 c.plus.result c.args.pass.now first.new.pass last.new.pass
     (omega arith) c.plus.ensures first.ensures.on.same first.ensures.arranges last.ensures.room

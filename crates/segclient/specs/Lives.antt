@@ -1,0 +1,27 @@
+-- How long what is put can be read, and the deadlines of segments by which it is so.
+use Rattle.std.specs.Prelude.{ℕ, ◌+◌, ◌-◌, ◌/◌, ◌%◌, ◌^◌, ◌≤◌, max, cond, nat_lt}
+use Rattle.segclient.specs.declared.segments.Span.{Span}
+use Rattle.segclient.specs.PutCalls.{IsInSpan}
+
+-- the number, or the largest moment if that comes first
+abbrev pub until_last : ℕ → ℕ → ℕ
+until_last until number = cond (nat_lt until (2 ^ 32 - 1)) number (2 ^ 32 - 1)
+
+-- the last multiple of a step that comes in this time
+abbrev pub deadline_by : ℕ → ℕ → ℕ → ℕ
+deadline_by now time step = until_last (now + time) (now + time - (now + time) % max 1 step)
+
+-- the moment at which this time is over
+abbrev pub latest_of : ℕ → ℕ → ℕ
+latest_of now time = until_last (now + time) (now + time)
+
+-- the moment at which seven eighths of it are
+abbrev pub earliest_of : ℕ → ℕ → ℕ
+earliest_of now time = until_last (now + time) (now + time - time / 8)
+
+-- these deadlines let an item live for seven eighths of its time at least and for all of it
+-- at most, and this one is among them
+pub record IsLife (now time : ℕ) (span : Span) (until : ℕ) : Type 0 where
+  pub earliest : earliest_of now time ≤ span.earliest
+  pub latest : span.latest ≤ latest_of now time
+  pub within : IsInSpan span until

@@ -1,0 +1,113 @@
+//! Which of the open segments of a pass a put stores into: one with a deadline that is asked.
+ghost use Rattle.std.specs.Prelude.{◌≡◌, true, false};
+ghost use Rattle.segindex.specs.Words.{board_of, shape_of};
+ghost use Rattle.segstore.specs.Words.{has_room, IsQuiet};
+ghost use Rattle.segclient.specs.PutParts.{is_outside};
+ghost use Rattle.segclient.specs.Puts.{Chooses};
+
+use crate::queues::segment_at;
+use crate::room::has_room;
+use crate::segments::{Segments, Span};
+use segindex::{Index, Pass};
+use segmodel::SegState;
+
+// Whether the segment that the pass stores into has another deadline than those that are asked.
+#[inline(always)]
+pub(crate) fn is_outside(pass: &Pass, span: Span) -> bool
+    ensures { result ≡ is_outside span pass.now }
+{
+    let Some(segment) = pass.current() else {
+        return false;
+    };
+    let Some(deadline) = pass.deadline(segment) else {
+        return false;
+    };
+    deadline < span.earliest || span.latest < deadline
+}
+
+// Whether the segment is in use, with such a deadline and a row left.
+fn is_open(index: &Index, pass: &Pass, segment: u32, span: Span) -> bool {
+    let (Some(used), Some(deadline)) = (pass.used(segment), pass.deadline(segment)) else {
+        return false;
+    };
+    pass.state(segment) == Some(SegState::InUse)
+        && used < index.shape().rows
+        && span.earliest <= deadline
+        && deadline <= span.latest
+}
+
+// The first segment of the pass that is open so.
+fn first_open(index: &Index, pass: &Pass, span: Span) -> Option<u32> {
+    let segments = index.shape().segments_each;
+    let first = pass.number().saturating_mul(segments);
+    for at in 0..segments {
+        let segment = first.saturating_add(at);
+        if is_open(index, pass, segment, span) {
+            return Some(segment);
+        }
+    }
+    None
+}
+
+// A segment of the pass that is open so. The queues know one without a look at all.
+fn open_for(index: &Index, pass: &Pass, segments: &Segments, span: Span) -> Option<u32>
+    requires quiet { IsQuiet (board_of index.now) pass.now }
+{
+    let Some(queues) = segments.queues.as_ref() else {
+        return first_open(index, pass, span);
+    };
+    let at = queues.open_within(span.earliest, span.latest)?;
+    let segment = segment_at(index, pass, at)?;
+    if is_open(index, pass, segment, span) {
+        Some(segment)
+    } else {
+        None
+    }
+}
+
+// Whether a put stores only into a segment with a finer deadline, which it opens if there is none:
+// many are free, and at least half of the one that it would store into else is used.
+#[inline(always)]
+pub(crate) fn is_fine(index: &Index, pass: &Pass, segments: &Segments, span: Span) -> bool
+    requires quiet { IsQuiet (board_of index.now) pass.now }
+{
+    let has_many = matches!(&segments.queues, Some(queues) if queues.are_many_free());
+    if !has_many {
+        return false;
+    }
+    let found = if is_outside(pass, span) {
+        open_for(index, pass, segments, span)
+    } else {
+        pass.current()
+    };
+    let Some(segment) = found else {
+        return true;
+    };
+    pass.used(segment).unwrap_or(0) >= index.shape().rows.div_ceil(2)
+}
+
+// The pass stores into an open segment with such a deadline, if it has one.
+#[cold]
+#[inline(never)]
+fn switch(index: &Index, pass: &mut Pass, segments: &Segments, span: Span)
+    requires quiet { IsQuiet (board_of index.now) pass.old }
+    ensures chooses { Chooses (board_of index.now) pass.old pass.new }
+{
+    if let Some(segment) = open_for(index, pass, segments, span) {
+        index.make_current(pass, segment);
+    }
+}
+
+// Before a put: the pass stores into a segment with a row left and a deadline that is asked,
+// if it has one.
+#[inline(always)]
+pub(crate) fn choose(index: &Index, pass: &mut Pass, segments: &Segments, span: Span)
+    requires quiet { IsQuiet (board_of index.now) pass.old }
+    ensures chooses { Chooses (board_of index.now) pass.old pass.new }
+    ensures stays { is_outside span pass.old ≡ false → has_room (shape_of index.now) pass.old ≡ true
+        → pass.new ≡ pass.old }
+{
+    if is_outside(pass, span) || !has_room(index, pass) {
+        switch(index, pass, segments, span);
+    }
+}

@@ -1,0 +1,41 @@
+//! How long what is put can be read: which deadlines its segment can have.
+ghost use Rattle.std.specs.Prelude.{◌≡◌};
+ghost use Rattle.segclient.specs.Lives.{deadline_by, earliest_of, latest_of};
+
+use crate::segments::Span;
+
+// An item lives for all parts but one of its time to live, of so many, or longer.
+pub(crate) const PARTS: u32 = 8;
+
+// While many segments are free, deadlines are as fine as this.
+pub(crate) const FINE_PARTS: u32 = 64;
+
+// The last multiple of a step that comes in this time, or the largest moment if that comes first.
+#[inline(always)]
+pub(crate) fn deadline_by(moment: u32, time: u32, step: u32) -> u32
+    ensures { result ≡ deadline_by moment time step }
+{
+    let until = moment.saturating_add(time);
+    if until < u32::MAX {
+        until - until % step.max(1)
+    } else {
+        until
+    }
+}
+
+// The deadlines that do for what is put now for this time.
+#[inline(always)]
+pub(crate) fn span_for(moment: u32, time: u32) -> Span
+    ensures { result ≡ record {
+      earliest = earliest_of moment time;
+      latest = latest_of moment time;
+    } }
+{
+    let latest = moment.saturating_add(time);
+    let earliest = if latest < u32::MAX {
+        latest - time / PARTS
+    } else {
+        latest
+    };
+    Span { earliest, latest }
+}
