@@ -8,7 +8,7 @@ use segstore::RowRef;
 impl Index {
     ghost use Rattle.segstore.specs.Words.{IsQuiet};
     ghost use Rattle.segevict.specs.Words.{AreUnnamed, EvictsItem, EvictsRest, EvictsSegment};
-    ghost use Rattle.segevict.specs.Words.{KeepsItem, KeepsItemInto, KeepsItems};
+    ghost use Rattle.segevict.specs.Words.{KeepsItem, KeepsItemInto, KeepsItems, TellsSpan};
     ghost use Rattle.segindex.specs.Index.{board_of, shape_of};
     ghost use Rattle.segindex.specs.Refilling.{RefillsAside, RefillsSegment};
 
@@ -80,6 +80,16 @@ impl Index {
             pass.old pass.new }
     {
         segevict::keep_row_into(&self.board, pass, row, cutoff, into)
+    }
+
+    /// How many rows the item takes whose first row this is, a used row of a segment of the pass's
+    /// own. So a caller who goes over a segment's rows goes on behind the item. It is 1 at least,
+    /// also for any other row, and where each item takes one row it is always 1.
+    pub fn span_of(&self, pass: &mut Pass, segment: u32, row: u32) -> u32
+        requires quiet { IsQuiet (board_of self.now) pass.old }
+        ensures spans { TellsSpan (board_of self.now) segment row result pass.old pass.new }
+    {
+        segevict::span_of(&self.board, pass, segment, row)
     }
 
     /// Makes a segment of the pass's own the one that the pass stores into, up to a deadline.
