@@ -14,25 +14,27 @@ use crate::queues::{
     was_refilled,
 };
 use crate::segments::{Policy, Segments, Source};
+use crate::spans::{clear_row, last_of};
 use segindex::{EvictRowAnswer, Index, KeepRowAnswer, Pass, RowRef};
 use segqueues::{Queue, Queues};
 
-// How a segment is cleared: the least frequency of what is kept, the moment,
-// and how many turns are left.
+// How a segment is cleared: the least frequency of what is kept, the moment, how many turns are
+// left, and how many rows the item takes whose turn it is.
 #[derive(Clone, Copy)]
-struct Terms {
-    least: u8,
-    moment: u32,
-    turns: u32,
+pub(crate) struct Terms {
+    pub(crate) least: u8,
+    pub(crate) moment: u32,
+    pub(crate) turns: u32,
+    pub(crate) rows: u32,
 }
 
 // What a turn came to: where the clearing is then, whether the put has done its part,
 // and in numbers.
 #[derive(Clone, Copy)]
-struct Turn {
-    source: Option<Source>,
-    is_over: bool,
-    effort: Effort,
+pub(crate) struct Turn {
+    pub(crate) source: Option<Source>,
+    pub(crate) is_over: bool,
+    pub(crate) effort: Effort,
 }
 
 // How many turns a put has, each of which goes over one row at most.
@@ -140,11 +142,12 @@ fn evict_one(index: &Index, pass: &mut Pass, queues: &mut Queues, source: Source
     }
 }
 
-// Where the item of a row is moved, and the least frequency of what is.
+// Where the item of a row is moved, the least frequency of what is, and how many rows it takes.
 #[derive(Clone, Copy)]
 struct Move {
     into: u32,
     least: u8,
+    rows: u32,
 }
 
 // How many items a keep of one row into a segment moved that has this answer.
@@ -176,7 +179,8 @@ fn move_one(index: &Index, pass: &mut Pass, queues: &mut Queues, source: Source,
         result.effort pass.old pass.new }
 {
     let at = place_of(index, source.segment);
-    let cutoff = queues.cutoff_of(at, source.row, to.least);
+    let last = last_of(source.row, to.rows);
+    let cutoff = queues.cutoff_of(at, last, to.least);
     let row = RowRef {
         segment: source.segment,
         row: source.row,
@@ -189,7 +193,8 @@ fn move_one(index: &Index, pass: &mut Pass, queues: &mut Queues, source: Source,
     };
     match told {
         KeepRowAnswer::Moved => {
-            note_moved(index, pass, queues, row, to.into);
+            let last = RowRef { row: last, ..row };
+            note_moved(index, pass, queues, last, to.into);
             next_row(source, effort)
         }
         KeepRowAnswer::Left => evict_one(index, pass, queues, source),
@@ -273,8 +278,8 @@ fn can_open(index: &Index, pass: &Pass, queues: &Queues, source: Source, turns: 
 }
 
 // Goes over one row of the source, or opens a main segment for what moves from it.
-// Behind its last row it is free.
-fn clear_row(
+// Behind its last row it is free. The row has an item of its own.
+pub(crate) fn clear_one_row(
     index: &Index,
     pass: &mut Pass,
     queues: &mut Queues,
@@ -296,10 +301,11 @@ fn clear_row(
     if !is_fresh(pass, source, terms.moment) {
         return evict_one(index, pass, queues, source);
     }
-    if let Some(into) = target_of(index, pass, queues, source.segment) {
+    if let Some(into) = target_of(index, pass, queues, source.segment, terms.rows) {
         let to = Move {
             into,
             least: terms.least,
+            rows: terms.rows,
         };
         return move_one(index, pass, queues, source, to);
     }
@@ -309,10 +315,11 @@ fn clear_row(
     if can_open(index, pass, queues, source, terms.turns) {
         return open_main(index, pass, queues, source, until);
     }
-    if let Some(into) = current_for(index, pass, queues, source.segment) {
+    if let Some(into) = current_for(index, pass, queues, source.segment, terms.rows) {
         let to = Move {
             into,
             least: terms.least,
+            rows: terms.rows,
         };
         return move_one(index, pass, queues, source, to);
     }
@@ -438,6 +445,7 @@ pub(crate) fn clear_some(
         least,
         moment: policy.moment,
         turns: TURNS,
+        rows: 1,
     };
     let turn = clear_rows(index, pass, queues, segments.source, terms);
     segments.source = turn.source;

@@ -17,6 +17,7 @@ mod queues;
 mod ring;
 mod room;
 mod segments;
+mod spans;
 mod stats;
 mod tally;
 mod until;

@@ -16,8 +16,9 @@ use crate::choosing::is_outside;
 use crate::clearing::{clear_some, is_due};
 use crate::effort::Effort;
 use crate::queues::note_stored;
-use crate::room::{evict_oldest, make_room_by};
+use crate::room::evict_oldest;
 use crate::segments::{Policy, Segments};
+use crate::spans::make_room_for;
 use segindex::{Index, Pass, RowRef};
 use segmodel::WriteAnswer;
 use segword::{Key, Value, hash};
@@ -137,7 +138,7 @@ fn set_in_room(
     let PutAnswer::NoRoom = told else {
         return (told, Effort::none());
     };
-    let (is_made, effort) = make_room_by(index, pass, segments, order.policy);
+    let (is_made, effort) = make_room_for(index, pass, segments, order);
     if !is_made {
         return (PutAnswer::NoRoom, effort);
     }

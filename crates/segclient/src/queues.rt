@@ -6,6 +6,7 @@ ghost use Rattle.segindex.specs.Words.{board_of, shape_of};
 ghost use Rattle.segstore.specs.Words.{IsQuiet};
 
 use crate::segments::Segments;
+use crate::spans::are_left;
 use segindex::{Index, Pass, RowRef};
 use segmodel::{DeleteAnswer, SegState};
 use segqueues::{Place, Queue, Queues, Round};
@@ -152,10 +153,11 @@ pub(crate) fn next_expired(
     other_at(index, pass, at)
 }
 
-// The segment, if items of this one can move there: it has a row left and the same deadline.
-fn if_open(index: &Index, pass: &Pass, into: u32, source: u32) -> Option<u32> {
+// The segment, if an item of this one that takes so many rows can move there:
+// it has these rows left and the same deadline.
+fn if_open(index: &Index, pass: &Pass, into: u32, source: u32, rows: u32) -> Option<u32> {
     let is_open = pass.state(into) == Some(SegState::InUse)
-        && pass.used(into)? < index.shape().rows
+        && are_left(index, pass.used(into)?, rows)
         && pass.deadline(into) == pass.deadline(source);
     if is_open && into != source {
         Some(into)
@@ -164,21 +166,34 @@ fn if_open(index: &Index, pass: &Pass, into: u32, source: u32) -> Option<u32> {
     }
 }
 
-// The segment that takes what moves from this one: the main one with its deadline, or else
-// another one with it, unless puts go there now.
-pub(crate) fn target_of(index: &Index, pass: &Pass, queues: &Queues, source: u32) -> Option<u32>
+// The segment that takes an item of so many rows that moves from this one: the main one with its
+// deadline, or else another one with it, unless puts go there now.
+pub(crate) fn target_of(
+    index: &Index,
+    pass: &Pass,
+    queues: &Queues,
+    source: u32,
+    rows: u32,
+) -> Option<u32>
     requires quiet { IsQuiet (board_of index.now) pass.now }
 {
     let at = queues.target(pass.deadline(source)?)?;
-    if_open(index, pass, other_at(index, pass, at)?, source)
+    if_open(index, pass, other_at(index, pass, at)?, source, rows)
 }
 
-// The current segment, if it takes what moves from this one. It does where all moves on.
-pub(crate) fn current_for(index: &Index, pass: &Pass, queues: &Queues, source: u32) -> Option<u32> {
+// The current segment, if it takes an item of so many rows that moves from this one.
+// It does where all moves on.
+pub(crate) fn current_for(
+    index: &Index,
+    pass: &Pass,
+    queues: &Queues,
+    source: u32,
+    rows: u32,
+) -> Option<u32> {
     if !queues.moves_all() {
         return None;
     }
-    if_open(index, pass, pass.current()?, source)
+    if_open(index, pass, pass.current()?, source, rows)
 }
 
 // A round over the segments, the current one left out.

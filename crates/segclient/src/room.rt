@@ -44,7 +44,12 @@ fn give_up(index: &Index, pass: &mut Pass, segment: u32, deadline: u32) -> (bool
 
 // Gives up the first segment in turn for which that comes about.
 // The one that the pass stores into was filled last, so it comes last.
-fn make_room(index: &Index, pass: &mut Pass, ring: &mut Ring, deadline: u32) -> (bool, Effort)
+pub(crate) fn make_room(
+    index: &Index,
+    pass: &mut Pass,
+    ring: &mut Ring,
+    deadline: u32,
+) -> (bool, Effort)
     requires quiet { IsQuiet (board_of index.now) pass.old }
     requires own { IsOwnRing (shape_of index.now) (number pass.old) ring.old }
     ensures on { GoesOn (board_of index.now) pass.old pass.new }
@@ -139,7 +144,7 @@ fn keep_rows(index: &Index, pass: &mut Pass, segment: u32, cutoff: u8) -> u32
 // Clears the segment that is next in turn, so that the next time it can be refilled at once:
 // what was read often is moved into the one that the pass stores into, and the rest evicted,
 // as far as each comes about. It stays next. One that the pass stores into is left.
-fn clear_next(index: &Index, pass: &mut Pass, ring: &Ring, cutoff: u8) -> Effort
+pub(crate) fn clear_next(index: &Index, pass: &mut Pass, ring: &Ring, cutoff: u8) -> Effort
     requires quiet { IsQuiet (board_of index.now) pass.old }
     requires own { IsOwnRing (shape_of index.now) (number pass.old) ring.now }
     ensures on { GoesOn (board_of index.now) pass.old pass.new }
@@ -220,7 +225,7 @@ fn has_room_until(index: &Index, pass: &Pass, deadline: u32) -> bool
 // Gives up the first segment in the queues' order for which that comes about, for puts:
 // one that has expired comes before all others.
 // One that is refused comes last. The current one isn't given up.
-fn make_room_in_order(
+pub(crate) fn make_room_in_order(
     index: &Index,
     pass: &mut Pass,
     queues: &mut Queues,
@@ -327,7 +332,12 @@ fn is_source(source: Option<Source>, segment: u32) -> bool
 
 // Refills the free segment that was evicted before the others, for puts, and says whether that
 // came about. One that is held comes last. The one that is being cleared is left.
-fn take_free(index: &Index, pass: &mut Pass, segments: &mut Segments, deadline: u32) -> bool
+pub(crate) fn take_free(
+    index: &Index,
+    pass: &mut Pass,
+    segments: &mut Segments,
+    deadline: u32,
+) -> bool
     requires quiet { IsQuiet (board_of index.now) pass.old }
     requires cleared { IsCleared (shape_of index.now) segments.old.source pass.old }
     ensures on { GoesOn (board_of index.now) pass.old pass.new }
@@ -357,7 +367,7 @@ fn take_free(index: &Index, pass: &mut Pass, segments: &mut Segments, deadline: 
 // the clearing of another goes on, and else it ends.
 #[cold]
 #[inline(never)]
-pub(crate) fn make_room_by(
+pub(crate) fn make_row_by(
     index: &Index,
     pass: &mut Pass,
     segments: &mut Segments,

@@ -35,7 +35,7 @@ returns-then-not-is_made-clause-sets c = λ start is.
     let b = board_of c.args.index.now in
     let p = c.args.pass.now in
     let plan = plan_of c.args.order in
-    let room = c.make_room_by-is_made in
+    let room = c.make_room_for-is_made in
     let most = most_for_room b.shape in
     let none = effort_from 0 0 0 in
     let first = lacked b plan start p (subst (λ t. SetsIfTimely b plan t start p) c.in-NoRoom.is is) in
@@ -45,7 +45,7 @@ returns-then-not-is_made-clause-sets c = λ start is.
 -- what was refilled has a deadline that is asked
 pub set_while_busy-requires : goal.set_while_busy-requires
 set_while_busy-requires c =
-    let room = c.make_room_by-is_made in
+    let room = c.make_room_for-is_made in
     let order = c.args.order in
     record {
       quiet = room.ensures.on.quiet;
@@ -53,12 +53,12 @@ set_while_busy-requires c =
     }
 
 pub returns-clause-on : goal.returns-clause-on
-returns-clause-on c = goes_then (board_of c.args.index.now) c.args.pass.now c.make_room_by-is_made.new.pass c.set_while_busy.new.pass c.make_room_by-is_made.ensures.on c.set_while_busy.ensures.on
+returns-clause-on c = goes_then (board_of c.args.index.now) c.args.pass.now c.make_room_for-is_made.new.pass c.set_while_busy.new.pass c.make_room_for-is_made.ensures.on c.set_while_busy.ensures.on
 
 pub returns-clause-cleared : goal.returns-clause-cleared
 returns-clause-cleared c =
     let b = board_of c.args.index.now in
-    let room = c.make_room_by-is_made in
+    let room = c.make_room_for-is_made in
     let last = c.set_while_busy in
     sets_stay b (plan_of c.args.order) last.result room.new.pass last.new.pass room.ensures.on.quiet last.ensures.sets room.new.segments.source room.ensures.cleared
 
@@ -67,7 +67,7 @@ returns-clause-sets c = λ start is.
     let b = board_of c.args.index.now in
     let p = c.args.pass.now in
     let plan = plan_of c.args.order in
-    let room = c.make_room_by-is_made in
+    let room = c.make_room_for-is_made in
     let last = c.set_while_busy in
     let most = most_for_room b.shape in
     let none = effort_from 0 0 0 in

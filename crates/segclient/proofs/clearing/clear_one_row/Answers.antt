@@ -1,7 +1,7 @@
 use Rattle.std.proofs.Common.{Some, refl, arith}
 use Rattle.segindex.specs.Words.{board_of}
 use Rattle.segclient.proofs.OneTurn.{clears_as}
-use Rattle.segclient.proofs.clearing.clear_row.Goals as goal
+use Rattle.segclient.proofs.clearing.clear_one_row.Goals as goal
 
 pub returns-then-unwrap_or-source-clause-clears : goal.returns-then-unwrap_or-source-clause-clears
 returns-then-unwrap_or-source-clause-clears c = λ deadline. let b = board_of c.args.index.now in let terms = c.args.terms in let turn = c.end_source in

@@ -5,7 +5,7 @@ use Rattle.segclient.specs.PutParts.{effort_from, most_at_last, most_for_room}
 use Rattle.segclient.proofs.Calls.{arranges_wider}
 use Rattle.segclient.proofs.Order.{none_more}
 use Rattle.segclient.proofs.Rooms.{room_later, room_wider}
-use Rattle.segclient.proofs.room.make_room_by.Goals as goal
+use Rattle.segclient.proofs.room.make_row_by.Goals as goal
 
 pub returns-then-take_free-clause-room : goal.returns-then-take_free-clause-room
 returns-then-take_free-clause-room c =

@@ -1,0 +1,275 @@
+//! Items of several rows: how room is made for one, and how a clearing goes from the first row of an
+//! item to that of the next. Where each item has one row, all of it is done row by row.
+ghost use Rattle.std.specs.Prelude.{◌≡◌, ◌<◌, ◌≤◌, ◌^◌, ℕ, is_some};
+ghost use Rattle.segbase.specs.Words.{number};
+ghost use Rattle.segindex.specs.Words.{board_of, shape_of};
+ghost use Rattle.segstore.specs.Words.{GoesOn, IsQuiet};
+ghost use Rattle.segclient.specs.Clearing.{ClearsRow, IsCleared, IsClearing};
+ghost use Rattle.segclient.specs.PutParts.{MakesRoom, most_for_room};
+ghost use Rattle.segclient.specs.Rings.{IsOwnRing};
+
+use crate::clearing::{Terms, Turn, clear_one_row};
+use crate::effort::Effort;
+use crate::put::Order;
+use crate::queues::was_refilled;
+use crate::room::{clear_next, make_room, make_room_in_order, make_row_by, take_free};
+use crate::segments::{Policy, Segments, Source};
+use segindex::{Index, Pass};
+use segqueues::Queues;
+use segword::{MOST_SPAN, span_of};
+
+// Whether so many rows of a segment are left, of which these are used.
+#[inline(always)]
+pub(crate) fn are_left(index: &Index, used: u32, rows: u32) -> bool {
+    if MOST_SPAN == 1 {
+        return used < index.shape().rows;
+    }
+    rows <= index.shape().rows.saturating_sub(used)
+}
+
+// The last row of an item that takes so many from this one on. The queues know an item by it.
+#[inline(always)]
+pub(crate) fn last_of(first: u32, rows: u32) -> u32 {
+    if MOST_SPAN == 1 {
+        return first;
+    }
+    first.saturating_add(rows.saturating_sub(1))
+}
+
+// Goes over one item of the source, or opens a main segment for what moves from it.
+// Behind its last row it is free.
+pub(crate) fn clear_row(
+    index: &Index,
+    pass: &mut Pass,
+    queues: &mut Queues,
+    source: Source,
+    terms: Terms,
+) -> Turn
+    requires quiet { IsQuiet (board_of index.now) pass.old }
+    requires clearing { IsClearing (shape_of index.now) source pass.old }
+    ensures on { GoesOn (board_of index.now) pass.old pass.new }
+    ensures cleared { IsCleared (shape_of index.now) result.source pass.new }
+    ensures few { (result.effort.refilled ≤ 1) × (result.effort.kept ≤ 1)
+        × (result.effort.keys < 2 ^ 32) }
+    ensures clears { (deadline : ℕ) → ClearsRow (board_of index.now) terms.least deadline
+        result.effort pass.old pass.new }
+{
+    if MOST_SPAN == 1 {
+        return clear_one_row(index, pass, queues, source, terms);
+    }
+    let rows = index.span_of(pass, source.segment, source.row);
+    let turn = clear_one_row(index, pass, queues, source, terms.of_rows(rows));
+    turn.behind(source, rows)
+}
+
+impl Terms {
+    // The same, where the item whose turn it is takes so many rows.
+    fn of_rows(self, rows: u32) -> Terms {
+        Terms { rows, ..self }
+    }
+}
+
+impl Turn {
+    // The same, but a turn that went over the first row of an item goes on behind all its rows.
+    fn behind(self, source: Source, rows: u32) -> Turn {
+        let Some(next) = self.source else {
+            return self;
+        };
+        if next.row == source.row {
+            return self;
+        }
+        let row = source.row.saturating_add(rows);
+        Turn {
+            source: Some(Source { row, ..next }),
+            ..self
+        }
+    }
+}
+
+// How many rows of the segment that the pass stores into are left, if it has this deadline.
+fn rows_until(index: &Index, pass: &Pass, deadline: u32) -> u32 {
+    let Some(segment) = pass.current() else {
+        return 0;
+    };
+    if pass.deadline(segment) != Some(deadline) {
+        return 0;
+    }
+    let used = pass.used(segment).unwrap_or(0);
+    index.shape().rows.saturating_sub(used)
+}
+
+// Makes room by the client's policy, at this moment, for an item of any length.
+pub(crate) fn make_room_by(
+    index: &Index,
+    pass: &mut Pass,
+    segments: &mut Segments,
+    policy: Policy,
+) -> (bool, Effort)
+    requires quiet { IsQuiet (board_of index.now) pass.old }
+    requires own { IsOwnRing (shape_of index.now) (number pass.old) segments.old.ring }
+    requires cleared { IsCleared (shape_of index.now) segments.old.source pass.old }
+    ensures on { GoesOn (board_of index.now) pass.old pass.new }
+    ensures own { IsOwnRing (shape_of index.now) (number pass.new) segments.new.ring }
+    ensures queues { is_some segments.new.queues ≡ is_some segments.old.queues }
+    ensures cleared { IsCleared (shape_of index.now) segments.new.source pass.new }
+    ensures few { (result.1.refilled < 2 ^ 30) × (result.1.kept < 2 ^ 60)
+        × (result.1.keys < 2 ^ 59) }
+    ensures room { MakesRoom (board_of index.now) policy.cutoff policy.deadline
+        (most_for_room (shape_of index.now)) result.0 result.1 pass.old pass.new }
+{
+    if MOST_SPAN == 1 {
+        return make_row_by(index, pass, segments, policy);
+    }
+    let rows = (MOST_SPAN as u32).min(index.shape().rows);
+    if segments.queues.is_some() && rows <= rows_until(index, pass, policy.deadline) {
+        return (true, Effort::none());
+    }
+    make_rows(index, pass, segments, policy, rows)
+}
+
+// Makes room for what is put, by its policy.
+pub(crate) fn make_room_for(
+    index: &Index,
+    pass: &mut Pass,
+    segments: &mut Segments,
+    order: Order<'_>,
+) -> (bool, Effort)
+    requires quiet { IsQuiet (board_of index.now) pass.old }
+    requires own { IsOwnRing (shape_of index.now) (number pass.old) segments.old.ring }
+    requires cleared { IsCleared (shape_of index.now) segments.old.source pass.old }
+    ensures on { GoesOn (board_of index.now) pass.old pass.new }
+    ensures own { IsOwnRing (shape_of index.now) (number pass.new) segments.new.ring }
+    ensures queues { is_some segments.new.queues ≡ is_some segments.old.queues }
+    ensures cleared { IsCleared (shape_of index.now) segments.new.source pass.new }
+    ensures few { (result.1.refilled < 2 ^ 30) × (result.1.kept < 2 ^ 60)
+        × (result.1.keys < 2 ^ 59) }
+    ensures room { MakesRoom (board_of index.now) order.entry.policy.cutoff
+        order.entry.policy.deadline (most_for_room (shape_of index.now)) result.0 result.1
+        pass.old pass.new }
+{
+    if MOST_SPAN == 1 {
+        return make_row_by(index, pass, segments, order.policy);
+    }
+    let rows = span_of(order.key, order.value);
+    if index.shape().rows < rows {
+        return (false, Effort::none());
+    }
+    make_rows(index, pass, segments, order.policy, rows)
+}
+
+// Makes room for an item of so many rows, by the client's policy. Where a free segment is taken
+// for it, the clearing of another goes on, and else it ends.
+#[cold]
+#[inline(never)]
+fn make_rows(
+    index: &Index,
+    pass: &mut Pass,
+    segments: &mut Segments,
+    policy: Policy,
+    rows: u32,
+) -> (bool, Effort)
+    requires quiet { IsQuiet (board_of index.now) pass.old }
+    requires own { IsOwnRing (shape_of index.now) (number pass.old) segments.old.ring }
+    requires cleared { IsCleared (shape_of index.now) segments.old.source pass.old }
+    ensures on { GoesOn (board_of index.now) pass.old pass.new }
+    ensures own { IsOwnRing (shape_of index.now) (number pass.new) segments.new.ring }
+    ensures queues { is_some segments.new.queues ≡ is_some segments.old.queues }
+    ensures cleared { IsCleared (shape_of index.now) segments.new.source pass.new }
+    ensures few { (result.1.refilled < 2 ^ 30) × (result.1.kept < 2 ^ 60)
+        × (result.1.keys < 2 ^ 59) }
+    ensures room { MakesRoom (board_of index.now) policy.cutoff policy.deadline
+        (most_for_room (shape_of index.now)) result.0 result.1 pass.old pass.new }
+{
+    if MOST_SPAN == 1 {
+        return make_row_by(index, pass, segments, policy);
+    }
+    if take_free(index, pass, segments, policy.deadline) {
+        let effort = Effort {
+            refilled: 1,
+            kept: 0,
+            keys: 0,
+        };
+        return (true, effort);
+    }
+    segments.source = None;
+    if segments.queues.is_some() {
+        return make_rows_in_queues(index, pass, segments, policy);
+    }
+    make_rows_in_turn(index, pass, segments, policy, rows)
+}
+
+// Gives up a segment for an item of several rows, by the queues. If none could be given up in their
+// order, each is tried once more, and the current one at last.
+fn make_rows_in_queues(
+    index: &Index,
+    pass: &mut Pass,
+    segments: &mut Segments,
+    policy: Policy,
+) -> (bool, Effort)
+    requires quiet { IsQuiet (board_of index.now) pass.old }
+    requires own { IsOwnRing (shape_of index.now) (number pass.old) segments.old.ring }
+    requires cleared { IsCleared (shape_of index.now) segments.old.source pass.old }
+    ensures on { GoesOn (board_of index.now) pass.old pass.new }
+    ensures own { IsOwnRing (shape_of index.now) (number pass.new) segments.new.ring }
+    ensures queues { is_some segments.new.queues ≡ is_some segments.old.queues }
+    ensures cleared { IsCleared (shape_of index.now) segments.new.source pass.new }
+    ensures few { (result.1.refilled < 2 ^ 30) × (result.1.kept < 2 ^ 60)
+        × (result.1.keys < 2 ^ 59) }
+    ensures room { MakesRoom (board_of index.now) policy.cutoff policy.deadline
+        (most_for_room (shape_of index.now)) result.0 result.1 pass.old pass.new }
+{
+    if MOST_SPAN == 1 {
+        return make_row_by(index, pass, segments, policy);
+    }
+    let Some(queues) = segments.queues.as_mut() else {
+        return make_room(index, pass, &mut segments.ring, policy.deadline);
+    };
+    let (is_made, first) = make_room_in_order(index, pass, queues, policy);
+    if is_made {
+        return (true, first);
+    }
+    let (is_made, last) = make_room(index, pass, &mut segments.ring, policy.deadline);
+    if let Some(segment) = pass.current() {
+        was_refilled(index, pass, queues, segment, false);
+    }
+    (is_made, first.plus(last))
+}
+
+// Gives up the segment that is next in turn for an item of so many rows, and keeps what has the
+// cutoff's frequency or a higher one. If what was kept left too few rows, one more is given up.
+fn make_rows_in_turn(
+    index: &Index,
+    pass: &mut Pass,
+    segments: &mut Segments,
+    policy: Policy,
+    rows: u32,
+) -> (bool, Effort)
+    requires quiet { IsQuiet (board_of index.now) pass.old }
+    requires own { IsOwnRing (shape_of index.now) (number pass.old) segments.old.ring }
+    requires cleared { IsCleared (shape_of index.now) segments.old.source pass.old }
+    ensures on { GoesOn (board_of index.now) pass.old pass.new }
+    ensures own { IsOwnRing (shape_of index.now) (number pass.new) segments.new.ring }
+    ensures queues { is_some segments.new.queues ≡ is_some segments.old.queues }
+    ensures cleared { IsCleared (shape_of index.now) segments.new.source pass.new }
+    ensures few { (result.1.refilled < 2 ^ 30) × (result.1.kept < 2 ^ 60)
+        × (result.1.keys < 2 ^ 59) }
+    ensures room { MakesRoom (board_of index.now) policy.cutoff policy.deadline
+        (most_for_room (shape_of index.now)) result.0 result.1 pass.old pass.new }
+{
+    if MOST_SPAN == 1 {
+        return make_row_by(index, pass, segments, policy);
+    }
+    let (is_made, first) = make_room(index, pass, &mut segments.ring, policy.deadline);
+    let Some(least) = policy.cutoff else {
+        return (is_made, first);
+    };
+    if !is_made {
+        return (false, first);
+    }
+    let effort = first.plus(clear_next(index, pass, &segments.ring, least));
+    if rows <= rows_until(index, pass, policy.deadline) {
+        return (true, effort);
+    }
+    let (is_made, last) = make_room(index, pass, &mut segments.ring, policy.deadline);
+    (is_made, effort.plus(last))
+}
