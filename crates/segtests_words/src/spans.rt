@@ -11,7 +11,7 @@ use std::test::Fail;
 
 // The lengths of a key and a value, and the rows of an item that has as many words for the key as
 // the key needs: its words are 1, at least 3 for the key, and those of the value.
-const SPANS: [(usize, usize, u32); 21] = [
+const SPANS: [(u32, u32, u32); 21] = [
     (24, 0, 1),
     (24, 31, 1),
     (24, 32, 1),
@@ -55,7 +55,8 @@ fn pattern() -> [u8; 4064] {
 }
 
 // A pair of these lengths, if this build has such keys and values.
-fn pair(rt: &impl Abort, key: usize, value: usize) -> Option<(Key, Value)> {
+fn pair(rt: &impl Abort, key: u32, value: u32) -> Option<(Key, Value)> {
+    let (key, value) = (key as usize, value as usize);
     if key > KEY_BYTES || value > VALUE_BYTES {
         return None;
     }
@@ -69,8 +70,8 @@ fn pair(rt: &impl Abort, key: usize, value: usize) -> Option<(Key, Value)> {
 fn an_item_takes_the_rows_that_its_words_fill(rt: HostRuntime) {
     for (key, value, several) in SPANS {
         let rows = if MOST_SPAN == 1 { 1 } else { several };
-        let header = (value as u64) << 8 | key as u64;
-        let found = (span(key as u32, value as u32), span_of_header(header));
+        let header = u64::from(value) << 8 | u64::from(key);
+        let found = (span(key, value), span_of_header(header));
         assert_eq!(rt; found, (rows, rows), "{key} {value}");
     }
     assert_eq!(rt; ITEM_WORDS, MOST_SPAN * ROW_WORDS);
