@@ -249,7 +249,8 @@ def busy_keys(command):
         say(connection, "ms busy-a 1 k q\r\nx\r\nmd busy-a k q\r\nma busy-a k v q\r\n", BUSY * 3)
         counts = stats_of(connection)
         check(counts["store_busy"] == "16" and counts["store_no_memory"] == "0", f"16 were busy: {counts}")
-        check(int(counts["busy_calls"]) >= 16 * 64 and counts["full_calls"] == "0", f"each was tried often: {counts}")
+        check(16 * 64 <= int(counts["busy_calls"]) < 10**6 and counts["full_calls"] == "0",
+              f"each was tried often: {counts}")
         check(counts["delete_misses"] == counts["incr_misses"] == counts["cas_misses"] == "0", f"no misses: {counts}")
         say(connection, "get busy-a\r\nmg busy-a v\r\nme busy-a\r\n", "END\r\nEN\r\nEN\r\n")
         counts = stats_of(connection)
@@ -285,7 +286,7 @@ def full_keys(command):
         say(connection, "ms full-a 1\r\n1\r\nms full-a 1\r\n2\r\nmg full-a v\r\n", f"HD\r\n{NO_MEMORY}EN\r\n")
         counts = stats_of(connection)
         check(counts["store_no_memory"] == "9" and counts["store_busy"] == "0", f"nine had no room: {counts}")
-        check(int(counts["full_calls"]) >= 9 and counts["busy_calls"] == "0", f"nine calls, too: {counts}")
+        check(9 <= int(counts["full_calls"]) < 1000 and counts["busy_calls"] == "0", f"nine calls, too: {counts}")
         made = int(counts["refilled_segments"])
         check(made > 0 and int(counts["kept_items"]) == 2 * made, f"room was made: {counts}")
         check(counts["overflow_buckets"] == "7" and int(counts["used_rows"]) == int(counts["curr_items"]) + 1,
