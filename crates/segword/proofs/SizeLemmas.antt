@@ -17,7 +17,7 @@ power_min n power = elim (cases_lt n 65536) [
 ]
 
 module _ (keys passes near each segments rows : ℕ) (few : keys ≤ 425984) (fit : ROW_WORDS * (2 * keys + 13440) ≤ 64000000) (in_range : IsInRange 1 64 passes)
-    (power : IsPowerOfTwo near) (over : div_ceil keys 3 ≤ near) (under : near / 2 < max 1 (div_ceil keys 3))
+    (power : IsPowerOfTwo near) (over : div_ceil (5 * keys) 16 ≤ near) (under : near / 2 < max 1 (div_ceil (5 * keys) 16))
     (is_each : each ≡ max (div_ceil (2 * keys) passes) 1) (is_segments : segments ≡ max (div_ceil each 4096) 64) (is_rows : rows ≡ div_ceil each segments) where
   abbrev pub made : Shape
   made = record { buckets = min near 65536; overflow = min near 65536; passes = passes; segments_each = segments; rows = rows; first_version = 0 }
@@ -84,8 +84,8 @@ module _ (keys passes near each segments rows : ℕ) (few : keys ≤ 425984) (fi
   -- no more words than for twice the rows, and for the segments of each pass
   few_words : word_count made ≤ (2 * ROW_WORDS + 11) * keys + 66 * (ROW_WORDS + 1) * passes + 20
   few_words =
-      let third = div_ceil_times keys 3 (omega arith) in
-      let chains : 48 * min near 65536 ≤ 32 * keys + 64 = omega (arith, under, third.1) in
+      let share = div_ceil_times (5 * keys) 16 (omega arith) in
+      let chains : 16 * min near 65536 ≤ 10 * keys + 32 = omega (arith, under, share.1) in
       let times = div_ceil_times each 4096 (omega arith) in
       let thick : segments * 4096 ≤ each + 262144 = omega (arith, is_segments, times.1) in
       let most : passes * (segments * 4096) ≤ passes * (each + 262144) = mul-le-mul_left passes thick in
@@ -115,5 +115,5 @@ module _ (keys passes near each segments rows : ℕ) (few : keys ≤ 425984) (fi
   }
     where
       words : (near < 65536) ⊎ (65536 ≤ near) → 2 * keys ≤ 7 * min near 65536 + 6 * min near 65536
-      words (inl low) = let times = div_ceil_times keys 3 (omega arith) in omega (arith, over, times.0)
+      words (inl low) = let times = div_ceil_times (5 * keys) 16 (omega arith) in omega (arith, over, times.0)
       words (inr high) = omega arith

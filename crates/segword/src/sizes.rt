@@ -26,7 +26,7 @@ impl Shape {
 
     /// A shape for this number of passes, in which this number of keys has room to spare:
     /// for each key its chains have two item words, and the segments of all passes two rows.
-    /// A bucket has three keys on the mean at most, unless there are more than 196,608.
+    /// A bucket has 3.2 keys on the mean at most, unless there are more than 209,715.
     /// Each pass has 64 segments at least.
     /// There is one for up to `MOST_KEYS` keys and 1 to 64 passes.
     pub fn for_keys(keys: u32, passes: u32) -> Result<Shape, ShapeFault>
@@ -40,7 +40,10 @@ impl Shape {
         if keys > MOST_KEYS {
             return Err(ShapeFault::TooLarge);
         }
-        let buckets = keys.div_ceil(3).next_power_of_two().min(Self::MOST_BUCKETS);
+        let buckets = (5 * keys)
+            .div_ceil(16)
+            .next_power_of_two()
+            .min(Self::MOST_BUCKETS);
         let rows_each = (2 * keys).div_ceil(passes).max(1);
         let segments_each = rows_each.div_ceil(Self::MOST_ROWS).max(LEAST_SEGMENTS);
         Ok(Shape {
