@@ -1,7 +1,7 @@
 //! A board at its end: its words at rest, which no pass changes any more.
 ghost use Rattle.std.specs.Prelude.{◌≡◌, ◌<◌, ◌≤◌, ◌^◌, List};
 ghost use Rattle.std.specs.Slots.{slots_len, IsFull};
-ghost use Rattle.segword.specs.Words.{most_span, word_count};
+ghost use Rattle.segword.specs.Words.{word_count};
 ghost use Rattle.segcore.specs.declared.event.Event.{Event};
 ghost use Rattle.segcore.specs.declared.cell.Cell.{Cell};
 ghost use Rattle.segcore.specs.Words.{IsSegment};
@@ -131,39 +131,28 @@ impl Words {
         requires row { row < (shape_of self.now).rows }
         ensures { HasWordsOf self.now segment row result }
     {
-        if MOST_SPAN > 1 {
-            return self.item_words(segment, row);
-        }
         let mut words = [0; ITEM_WORDS];
+        if MOST_SPAN > 1 {
+            let header = self.word(Spot::Row {
+                segment,
+                row,
+                word: 0,
+            });
+            let rows = span_of_header(header).min(self.shape.rows - row);
+            for at in 0..ITEM_WORDS.min(ROW_WORDS * rows as usize) {
+                words[at] = self.word(Spot::Row {
+                    segment,
+                    row: row + (at / ROW_WORDS) as u32,
+                    word: (at % ROW_WORDS) as u8,
+                });
+            }
+            return words;
+        }
         for place in 0..ROW_WORDS as u8 {
             words[place as usize] = self.word(Spot::Row {
                 segment,
                 row,
                 word: place,
-            });
-        }
-        words
-    }
-
-    // The words of the item that begins in a row.
-    fn item_words(&self, segment: u32, row: u32) -> [u64; ITEM_WORDS]
-        requires wide { 1 < most_span }
-        requires segment { IsSegment (shape_of self.now) segment }
-        requires row { row < (shape_of self.now).rows }
-        ensures { HasWordsOf self.now segment row result }
-    {
-        let header = self.word(Spot::Row {
-            segment,
-            row,
-            word: 0,
-        });
-        let rows = span_of_header(header).min(MOST_SPAN as u32);
-        let mut words = [0; ITEM_WORDS];
-        for place in 0..ROW_WORDS as u32 * rows.min(self.shape.rows - row) {
-            words[place as usize] = self.word(Spot::Row {
-                segment,
-                row: row + place / ROW_WORDS as u32,
-                word: (place % ROW_WORDS as u32) as u8,
             });
         }
         words

@@ -1,6 +1,5 @@
 //! Steps at segments: their rows, and who reads in them.
-ghost use Rattle.std.specs.Prelude.{◌≡◌, ℕ, ◌+◌, ◌-◌, ◌*◌, ◌^◌, ◌<◌, ◌≤◌, [], IsSome, Some};
-ghost use Rattle.segword.specs.Words.{most_span};
+ghost use Rattle.std.specs.Prelude.{◌≡◌, ℕ, ◌+◌, ◌-◌, ◌*◌, ◌^◌, ◌≤◌, [], IsSome, Some};
 ghost use Rattle.segmodel.specs.Words.{after};
 ghost use Rattle.segcore.specs.declared.event.Event.TheVariants.{Filled, Entered, Left};
 ghost use Rattle.segcore.specs.Words.{enter, IsCell, leave, none_reading, row_after, row_load};
@@ -91,7 +90,6 @@ impl Board {
     /// The row so many rows behind this one, in its segment.
     #[inline(always)]
     pub fn row_behind(&self, row: RowPlace, rows: u32) -> RowPlace
-        requires wide { 1 < most_span }
         requires start { IsRowAt self.now.shape row }
         requires row { IsCell self.now.shape (OfRow row.segment (row.row + rows) 0) }
         ensures row { (result.segment ≡ row.segment) × (result.row ≡ row.row + rows) }

@@ -6,7 +6,7 @@ ghost use Rattle.std.specs.BTreeMap.{is_at};
 ghost use Rattle.segmodel.specs.Cache.{key_cmp, with_at, in_segment, counted};
 ghost use Rattle.segmodel.specs.State.{but_for, is_among, is_in};
 ghost use Rattle.segmodel.specs.Serving.{with_rows, higher, raised, raised_in};
-ghost use Rattle.segword.specs.Words.{most_span, span_of};
+ghost use Rattle.segword.specs.Words.{span_of};
 ghost use Rattle.segmodel.specs.declared.answer.SegState.TheVariants.{InUse, Evicted};
 ghost use Rattle.segmodel.specs.Segments.{HasRows, AreRoomy, KeepsRoom, AllEmpty, fillings};
 ghost use Rattle.segmodel.specs.Segments.{deadlines, by_bucket};
@@ -87,27 +87,14 @@ pub fn add_row(segments: &mut Vec<Segment>, segment: usize, key: Key, value: &Va
     ensures room { KeepsRoom segments.old.items segments.new.items }
 {
     if MOST_SPAN > 1 {
-        return add_rows(segments, segment, &key, span_of(&key, value), frequency);
+        for _row in 0..span_of(&key, value) {
+            segments[segment].keys.push_reserved(key.copy());
+            segments[segment].frequencies.push_reserved(frequency);
+        }
+        return;
     }
     segments[segment].keys.push_reserved(key);
     segments[segment].frequencies.push_reserved(frequency);
-}
-
-// Adds a key to a segment so many times, with this frequency.
-fn add_rows(segments: &mut Vec<Segment>, segment: usize, key: &Key, rows: u32, frequency: u8)
-    requires wide { 1 < most_span }
-    requires left { HasRows segments.old.items segment rows }
-    ensures len { vec_len segments.new ≡ vec_len segments.old }
-    ensures added { fillings segments.new.items
-        ≡ with_at (fillings segments.old.items) segment
-        (with_rows rows key.now frequency (fillings segments.old.items segment)) }
-    ensures deadlines { deadlines segments.new.items ≡ deadlines segments.old.items }
-    ensures room { KeepsRoom segments.old.items segments.new.items }
-{
-    for _row in 0..rows {
-        segments[segment].keys.push_reserved(key.copy());
-        segments[segment].frequencies.push_reserved(frequency);
-    }
 }
 
 // Counts one more write to a bucket.

@@ -1,6 +1,6 @@
 //! Whether the plain cache has rows left in the segment that it fills.
 ghost use Rattle.std.specs.Prelude.{◌≡◌, ◌<◌, length, true, false, Some, IfSome, IfNone};
-ghost use Rattle.segword.specs.Words.{most_span, span_of};
+ghost use Rattle.segword.specs.Words.{span_of};
 
 use crate::parts::used_rows;
 use crate::plain::Plain;
@@ -34,25 +34,12 @@ impl Plain {
         ensures none { IfNone result (lacks_room self.now (span_of key.now value.now) ≡ true) }
     {
         if MOST_SPAN > 1 {
-            return self.room_of(span_of(key, value));
+            let segment = self.current?;
+            let used = used_rows(&self.segments, segment as usize);
+            let rows = used + span_of(key, value) as usize;
+            return (rows <= self.shape.rows as usize).then_some(segment);
         }
         self.room()
-    }
-
-    // The segment that is filled, if it has so many rows left.
-    fn room_of(&self, rows: u32) -> Option<u32>
-        requires wide { 1 < most_span }
-        ensures current { IfSome result (λ segment. self.now.current ≡ Some segment) }
-        ensures left { IfSome result (λ segment. HasLeft self.now segment rows) }
-        ensures some { IfSome result (λ segment. lacks_room self.now rows ≡ false) }
-        ensures none { IfNone result (lacks_room self.now rows ≡ true) }
-    {
-        let segment = self.current?;
-        let used = used_rows(&self.segments, segment as usize);
-        if (self.shape.rows as usize) < used + rows as usize {
-            return None;
-        }
-        Some(segment)
     }
 
     // The segment that is filled, if it has rows left for the item under a row's key.
@@ -66,18 +53,23 @@ impl Plain {
         ensures none { IfNone result (lacks_room self.now (span_at self.now segment row) ≡ true) }
     {
         if MOST_SPAN > 1 {
-            return self.room_of(self.span_at(segment, row));
+            let to = self.current?;
+            let used = used_rows(&self.segments, to as usize);
+            let rows = used + self.span_at(segment, row) as usize;
+            return (rows <= self.shape.rows as usize).then_some(to);
         }
         self.room()
     }
 
     // How many rows the item under a row's key takes.
     fn span_at(&self, segment: u32, row: usize) -> u32
-        requires wide { 1 < most_span }
         requires own { segment < self.now.shape.segments_each }
         requires used { row < length (filling_in self.now segment).keys }
         ensures { result ≡ span_at self.now segment row }
     {
+        if MOST_SPAN == 1 {
+            return 1;
+        }
         let key = &self.segments[segment as usize].keys[row];
         match self.items.get(key) {
             Some(item) => span_of(key, &item.value),

@@ -1,9 +1,9 @@
 //! Whether a pass has a row left to store into.
-ghost use Rattle.std.specs.Prelude.{◌≡◌, ◌↔◌, ◌<◌, Some, false, IfOk, IsErr};
+ghost use Rattle.std.specs.Prelude.{◌≡◌, ◌↔◌, Some, false, IfOk, IsErr};
 ghost use Rattle.segbase.specs.Words.{current_of, IsPassOf, used_of};
 ghost use Rattle.segbase.specs.declared.board.Board.{Board};
 ghost use Rattle.segstore.specs.Segments.{AreRows, has_room, has_room_for};
-ghost use Rattle.segword.specs.Words.{most_span, span_of};
+ghost use Rattle.segword.specs.Words.{span_of};
 
 use crate::row::RowRef;
 use segbase::{Board, Pass};
@@ -36,26 +36,17 @@ pub fn next_row(board: &Board, pass: &Pass, key: &KeyWords, value: &Value) -> Re
         ↔ (has_room_for board.now.shape (span_of key.now value.now) pass.now ≡ false) }
 {
     if MOST_SPAN > 1 {
-        return next_rows(board, pass, key.span(value));
+        let segment = pass.current().ok_or(NoRoom)?;
+        let row = pass.used(segment).ok_or(NoRoom)?;
+        let left = board.shape().rows.saturating_sub(row);
+        if left < key.span(value) {
+            return Err(NoRoom);
+        }
+        return Ok(RowRef { segment, row });
     }
     let segment = pass.current().ok_or(NoRoom)?;
     match pass.used(segment) {
         Some(row) if row < board.shape().rows => Ok(RowRef { segment, row }),
-        _ => Err(NoRoom),
-    }
-}
-
-// The first of so many rows that the pass stores into next.
-fn next_rows(board: &Board, pass: &Pass, rows: u32) -> Result<RowRef, NoRoom>
-    requires wide { 1 < most_span }
-    ensures next { IfOk result (λ next.
-        (current_of pass.now ≡ Some next.segment) × (used_of pass.now next.segment ≡ Some next.row)
-        × AreRows board.now.shape next.row rows) }
-    ensures no_room { IsErr result ↔ (has_room_for board.now.shape rows pass.now ≡ false) }
-{
-    let segment = pass.current().ok_or(NoRoom)?;
-    match pass.used(segment) {
-        Some(row) if row + rows <= board.shape().rows => Ok(RowRef { segment, row }),
         _ => Err(NoRoom),
     }
 }

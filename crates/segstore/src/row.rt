@@ -6,11 +6,11 @@ ghost use Rattle.segbase.specs.Words.{IsPassOf, trace};
 ghost use Rattle.segstore.specs.Calls.{TakesAtMost};
 ghost use Rattle.segstore.specs.Reading.{HoldsPair, IsReadable, ReadsRow, words_at};
 
-use crate::spans::{item_of_key, key_of_item, pair_of_item, value_of_item};
+use crate::spans::load_place;
 use segbase::{Board, Pass};
 use segword::{
-    HEAD_WORDS, Key, KeyWords, MOST_SPAN, ROW_WORDS, Value, read_key, read_row, read_value,
-    value_in_row,
+    HEAD_WORDS, Key, KeyWords, MOST_SPAN, ROW_WORDS, VALUE_WORDS, Value, read_key, read_row,
+    read_value, value_in_row, value_place,
 };
 
 /// A row of a segment.
@@ -68,7 +68,18 @@ pub fn row_of_key(
         → IsSome result ↔ (held ≡ key.now) }
 {
     if MOST_SPAN > 1 {
-        return item_of_key(board, pass, RowRef { segment, row }, key);
+        let at = board.row_at(segment, row);
+        let header = load_place(board, pass, at, 0);
+        if !key.has_word(0, header) {
+            return None;
+        }
+        for place in 1..key.head() {
+            let word = load_place(board, pass, at, place as u32);
+            if !key.has_word(place, word) {
+                return None;
+            }
+        }
+        return Some(header);
     }
     let words = load_words(board, pass, segment, row, 0);
     if !key.begins(&words) {
@@ -89,7 +100,14 @@ pub fn value_of_row(board: &Board, pass: &mut Pass, segment: u32, row: u32, head
         → Holds (row_after (trace pass.new) segment row) key value → result ≡ value }
 {
     if MOST_SPAN > 1 {
-        return value_of_item(board, pass, RowRef { segment, row }, header);
+        let at = board.row_at(segment, row);
+        let from = value_place(header) as u32;
+        let long = (header >> 8 & 0xffff) as usize;
+        let mut loaded = [0; VALUE_WORDS];
+        for place in 0..long.div_ceil(8).min(VALUE_WORDS) {
+            loaded[place] = load_place(board, pass, at, from + place as u32);
+        }
+        return read_value(header, &loaded);
     }
     let words = load_words(board, pass, segment, row, VALUE_WORD);
     read_value(header, &words)
@@ -109,7 +127,7 @@ pub fn value_of_pair(board: &Board, pass: &mut Pass, segment: u32, row: u32, hea
         → Holds (row_after (trace pass.new) segment row) key value → result ≡ value }
 {
     if MOST_SPAN > 1 {
-        return value_of_item(board, pass, RowRef { segment, row }, header);
+        return value_of_row(board, pass, segment, row, header);
     }
     let words = load_words(board, pass, segment, row, VALUE_WORD);
     value_in_row(header, &words)
@@ -125,7 +143,13 @@ pub fn key_of_row(board: &Board, pass: &mut Pass, segment: u32, row: u32) -> Opt
         → Holds (row_after (trace pass.new) segment row) key value → result ≡ Some key }
 {
     if MOST_SPAN > 1 {
-        return key_of_item(board, pass, RowRef { segment, row });
+        let at = board.row_at(segment, row);
+        let mut words = [0; HEAD_WORDS];
+        words[0] = load_place(board, pass, at, 0);
+        for place in 1..value_place(words[0]).min(HEAD_WORDS) {
+            words[place] = load_place(board, pass, at, place as u32);
+        }
+        return read_key(&words);
     }
     read_key(&load_words(board, pass, segment, row, 0))
 }
@@ -139,7 +163,9 @@ pub fn pair_of_row(board: &Board, pass: &mut Pass, segment: u32, row: u32) -> Op
         → Holds (row_after (trace pass.new) segment row) key value → result ≡ Some (key, value) }
 {
     if MOST_SPAN > 1 {
-        return pair_of_item(board, pass, RowRef { segment, row });
+        let key = key_of_row(board, pass, segment, row)?;
+        let header = board.row_load(pass, segment, row, 0);
+        return Some((key, value_of_row(board, pass, segment, row, header)));
     }
     read_row(&load_words(board, pass, segment, row, 0))
 }

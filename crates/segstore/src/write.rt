@@ -12,9 +12,8 @@ ghost use Rattle.segstore.specs.Segments.{KeepsSegments, has_room_for};
 
 use crate::room::{NoRoom, next_row};
 use crate::row::{RowRef, load_words};
-use crate::spans::{copy_rows, fill_rows};
 use segbase::{Board, Pass, RowPlace};
-use segword::{ITEM_WORDS, Key, KeyWords, MOST_SPAN, ROW_WORDS, Value};
+use segword::{ITEM_WORDS, Key, KeyWords, MOST_SPAN, ROW_WORDS, Value, span_of_header};
 
 /// Writes a key and a value into the row that the pass stores into next.
 /// It returns the row's segment and the row. The call doesn't count the row as used.
@@ -63,7 +62,12 @@ pub fn fill_row(board: &Board, pass: &mut Pass, row: RowRef, key: &KeyWords, val
     ensures memo { (sight pass.new).memo ≡ (sight pass.old).memo }
 {
     if MOST_SPAN > 1 {
-        return fill_rows(board, pass, row, key, value);
+        let words = key.row(value);
+        for behind in 0..key.span(value) {
+            let part = words[ROW_WORDS * behind as usize..].first_chunk().unwrap();
+            store_words(board, pass, row.segment, row.row + behind, part);
+        }
+        return;
     }
     store_words(board, pass, row.segment, row.row, &key.row(value));
 }
@@ -87,7 +91,13 @@ pub fn copy_row(board: &Board, pass: &mut Pass, from: RowRef, to: RowRef)
     ensures memo { (sight pass.new).memo ≡ (sight pass.old).memo }
 {
     if MOST_SPAN > 1 {
-        return copy_rows(board, pass, from, to);
+        let first = load_words(board, pass, from.segment, from.row, 0);
+        store_words(board, pass, to.segment, to.row, &first);
+        for behind in 1..span_of_header(first[0]) {
+            let next = load_words(board, pass, from.segment, from.row + behind, 0);
+            store_words(board, pass, to.segment, to.row + behind, &next);
+        }
+        return;
     }
     let words = load_words(board, pass, from.segment, from.row, 0);
     store_words(board, pass, to.segment, to.row, &words);

@@ -9,6 +9,7 @@ ghost use Rattle.segword.specs.Spans.{span_of};
 
 use crate::row::HEAD_WORDS;
 use crate::spans::{ITEM_WORDS, MOST_SPAN, key_width, span};
+use crate::value::VALUE_WORDS;
 use crate::{Key, Value};
 use std::marker::Model;
 
@@ -77,7 +78,12 @@ impl KeyWords {
         ensures valid { IsValue value.now }
     {
         if MOST_SPAN > 1 {
-            return self.item(value);
+            let head = self.head();
+            let mut words = [0; ITEM_WORDS];
+            words[..head].copy_from_slice(&self.words[..head]);
+            words[0] |= (value.len() as u64) << 8;
+            words[head..head + VALUE_WORDS].copy_from_slice(&value.words());
+            return words;
         }
         let mut row = [0; ITEM_WORDS];
         row[..HEAD_WORDS].copy_from_slice(&self.words);
@@ -86,42 +92,9 @@ impl KeyWords {
         row
     }
 
-    // These words one by one, where an item has as many for the key as the key needs.
-    fn item(&self, value: &Value) -> [u64; ITEM_WORDS]
-        requires wide { 1 < MOST_SPAN }
-        ensures row { result ≡ row_of self.now value.now }
-        ensures valid { IsValue value.now }
-    {
-        let mut words = [0; ITEM_WORDS];
-        for place in 0..ITEM_WORDS {
-            words[place] = self.word(value, place);
-        }
-        words
-    }
-
-    /// The word at a place of this key's and a value's words, where an item has as many for the
-    /// key as the key needs.
-    #[inline(always)]
-    pub fn word(&self, value: &Value, place: usize) -> u64
-        requires wide { 1 < MOST_SPAN }
-        requires place { place < ITEM_WORDS }
-        ensures { result ≡ slice_index (row_of self.now value.now) place }
-    {
-        if place == 0 {
-            return (value.len() as u64) << 8 | self.words[0];
-        }
-        let from = self.head();
-        if place < from {
-            return self.words[place];
-        }
-        value.word(place - from)
-    }
-
-    /// How many of an item's words have the lengths and this key, where these are as many as the
-    /// key needs.
+    /// How many of an item's words have the lengths and this key.
     #[inline(always)]
     pub fn head(&self) -> usize
-        requires wide { 1 < MOST_SPAN }
         ensures { result ≡ 1 + key_width (length self.now) }
     {
         1 + key_width(self.words[0] as u32) as usize
@@ -131,7 +104,6 @@ impl KeyWords {
     /// key has this length, and at any other that has a part of a key if that part is the same.
     #[inline(always)]
     pub fn has_word(&self, place: usize, word: u64) -> bool
-        requires wide { 1 < MOST_SPAN }
         requires place { place < HEAD_WORDS }
         ensures { IsTrue result ↔ (slice_index (key_words self.now) place
             ≡ (if place == 0 then key_length word else word)) }

@@ -14,11 +14,11 @@ returns-clause-row c =
     let key = c.args.self.now in
     let value = c.args.value.now in
     let is_key : IsKey key = subst IsKey c.self.view_is c.self.invariant.is_key in
-    let is_value : IsValue value = c.words.ensures.valid in
-    let front : c.copy_from_slice.new.self ≡ key_words key = c.copy_from_slice.ensures.after ∙ sym (ap key_words (sym c.self.view_is) ∙ c.self.invariant.same_words) in
-    let long : c.len.result ≡ length value = c.len.ensures in
-    let back : c.copy_from_slice-2.new.self ≡ words_from VALUE_WORDS value 0 =
-    c.copy_from_slice-2.ensures.after ∙ c.words.ensures.value in
+    let is_value : IsValue value = c.words-2.ensures.valid in
+    let front : c.copy_from_slice-2.new.self ≡ key_words key = c.copy_from_slice-2.ensures.after ∙ sym (ap key_words (sym c.self.view_is) ∙ c.self.invariant.same_words) in
+    let long : c.len-2.result ≡ length value = c.len-2.ensures in
+    let back : c.copy_from_slice-3.new.self ≡ words_from VALUE_WORDS value 0 =
+    c.copy_from_slice-3.ensures.after ∙ c.words-2.ensures.value in
     let header : bit_or (length key) (length value * 2 ^ 8 % 2 ^ 64) ≡ length value * 256 + length key =
     ap (bit_or (length key)) (let small : length value * 2 ^ 8 % 2 ^ 64 ≡ length value * 2 ^ 8 = omega (arith, is_value.fits) in small)
     ∙ or_shifted_r (length value) 8 (length key) (omega (arith, is_key.fits)) in
