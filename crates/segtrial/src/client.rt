@@ -47,7 +47,6 @@ impl<'a> ClientCaller<'a> {
     ) -> Result<ClientCaller<'a>, AllocError> {
         let mut session = Session::new(alloc, desk, number, seed);
         let keeping = session.draws.keeping(desk.segments);
-        let current = Current::new(desk.rows, matches!(keeping, Keeping::ByQueues));
         match keeping {
             Keeping::ByQueues => {}
             Keeping::From(cutoff) => client.keep_from(Some(cutoff)),
@@ -55,6 +54,8 @@ impl<'a> ClientCaller<'a> {
         }
         let time_to_live = session.draws.time_to_live();
         client.set_time_to_live(time_to_live);
+        let has_one_open = matches!(keeping, Keeping::ByQueues) && time_to_live == u32::MAX;
+        let current = Current::new(desk.rows, has_one_open);
         let mut answers = Vec::new(alloc);
         for _ in 0..EACH {
             answers.push(GetAnswer::Busy)?;
@@ -128,8 +129,9 @@ impl<'a> ClientCaller<'a> {
         let answer = put(&mut self.client, key, value);
         let returned = self.session.log.stamp();
         let recycled = self.recycled(before);
-        let refill = self.refill(before, *now);
-        let is_allowed = self.current.was_put(answer, *now, refill);
+        let refill = self.refill(before);
+        let is_timely = answer != PutAnswer::Stored || self.is_timely(refill.deadline, *now);
+        let is_allowed = self.current.was_put(answer, *now, refill) && is_timely;
         self.current.were_moved(recycled.kept);
         let deadline = self.current.deadline();
         let said = said_by_put(answer, place, recycled, Item { deadline, ..item });
@@ -172,7 +174,7 @@ impl<'a> ClientCaller<'a> {
         let is_made = make_room(&mut self.client);
         let returned = self.session.log.stamp();
         let recycled = self.recycled(before);
-        let refill = self.refill(before, now);
+        let refill = self.refill(before);
         let is_allowed = self.current.was_made_room(is_made, refill);
         self.current.were_moved(recycled.kept);
         let room = Operation::MakeRoom { recycled };
@@ -212,13 +214,24 @@ impl<'a> ClientCaller<'a> {
         self.session.note((called, returned), said);
     }
 
-    // Whether a call at this moment refilled segments, by the counts before it.
-    fn refill(&self, before: Stats, now: u32) -> Refill {
+    // Whether a call refilled segments, by the counts before it, and what the client stores until.
+    fn refill(&self, before: Stats) -> Refill {
         let after = self.client.stats();
         Refill {
             came_about: before.segments_refilled < after.segments_refilled,
-            deadline: deadline_at(now, self.time_to_live),
+            deadline: self.client.stores_until().unwrap_or(0),
         }
+    }
+
+    // Whether what is put at this moment and expires at the deadline lives seven eighths of its
+    // time or more, and no longer.
+    fn is_timely(&self, deadline: u32, now: u32) -> bool {
+        let latest = now.saturating_add(self.time_to_live);
+        if latest == u32::MAX {
+            return deadline == latest;
+        }
+        let earliest = latest.saturating_sub(self.time_to_live / 8);
+        (earliest..=latest).contains(&deadline)
     }
 
     // What a call recycled, by the counts before it.
@@ -355,15 +368,6 @@ fn write(client: &mut Client<'_>, request: &Request) -> Answer
         Request::Cas(key, value, expected, _) => Answer::Write(client.cas(key, value, *expected)),
         Request::Delete(key, _) => Answer::Delete(client.delete(key)),
     }
-}
-
-// The deadline of a segment that is refilled at a moment.
-fn deadline_at(now: u32, time_to_live: u32) -> u32 {
-    let until = now.saturating_add(time_to_live);
-    if until == u32::MAX {
-        return until;
-    }
-    until.saturating_sub(until % (time_to_live / 2).max(1))
 }
 
 // How much a count grew.

@@ -9,8 +9,8 @@ use segmodel::WriteAnswer;
 pub struct Current {
     /// How many rows each segment has.
     rows: u32,
-    /// How many rows of this one are left. None of a client without queues,
-    /// which refills no segment aside.
+    /// How many rows of this one are left. None of a client without queues, which refills no
+    /// segment aside, and of one whose items expire, which stores into several segments by turns.
     left: Option<Left>,
     deadline: u32,
     /// Whether a call that made no room can have evicted it though a row was left.
@@ -25,7 +25,7 @@ struct Left {
     most: u32,
 }
 
-/// Whether a call refilled a segment, and the deadline of what is refilled at the call's moment.
+/// Whether a call refilled a segment, and the deadline of the one that is stored into then.
 #[derive(Clone, Copy)]
 pub struct Refill {
     pub came_about: bool,
@@ -34,10 +34,10 @@ pub struct Refill {
 
 impl Current {
     /// Before the first call there is none.
-    pub fn new(rows: u32, has_queues: bool) -> Current {
+    pub fn new(rows: u32, has_one_open: bool) -> Current {
         Current {
             rows,
-            left: has_queues.then_some(Left { least: 0, most: 0 }),
+            left: has_one_open.then_some(Left { least: 0, most: 0 }),
             deadline: 0,
             is_unsure: false,
         }
@@ -120,8 +120,8 @@ impl Current {
 
     // The refill, if it came about, was one of the segment that the client stores into.
     fn was_refilled(&mut self, refill: Refill) -> bool {
+        self.deadline = refill.deadline;
         if refill.came_about {
-            self.deadline = refill.deadline;
             self.left = self.left.map(|_| Left {
                 least: self.rows,
                 most: self.rows,
