@@ -14,9 +14,9 @@
 #include <unistd.h>
 
 extern int checks, faults;
-extern atomic_long out;    /* blocks of memory that are out */
+extern atomic_long out;                       /* blocks of memory that are out */
 extern atomic_long bytes_out, most_bytes_out; /* their bytes, and the most that were */
-extern long until_refused; /* so many allocations more, and one is refused; none if negative */
+extern long until_refused;                    /* so many allocations more, and one is refused; none if negative */
 
 /* From now on a block that is freed is the next one of its size again; and from now on no longer. */
 void reuse_blocks(void);

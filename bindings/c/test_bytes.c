@@ -17,7 +17,8 @@ static uint32_t kept_of(segcache_client *clients, uint32_t threads, uint32_t key
   for (uint32_t key = 0; key < keys; key++) {
     uint32_t value = 0;
     size_t length = 0;
-    kept += segcache_get(&clients[0], &key, sizeof key, 0, &value, sizeof value, &length) == SEGCACHE_OK && value == key;
+    kept +=
+        segcache_get(&clients[0], &key, sizeof key, 0, &value, sizeof value, &length) == SEGCACHE_OK && value == key;
   }
   return kept;
 }

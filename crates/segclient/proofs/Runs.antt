@@ -7,7 +7,6 @@ use Rattle.segmodel.specs.Words.{EvictAnswer, WriteAnswer}
 use Rattle.segbase.specs.Words.{Board, Pass}
 use Rattle.segstore.specs.Words.{has_room}
 use Rattle.segclient.specs.PutCalls.{PutCall, sets, evicts, keeps, refills, Makes, room_plan}
-
 use Rattle.segclient.specs.Putting.{last_sets, SetsAtMost16}
 use Rattle.segclient.proofs.Calls.{last_of}
 

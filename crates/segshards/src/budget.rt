@@ -1,5 +1,5 @@
 //! How large a cache is that may take a number of bytes.
-ghost use Rattle.std.specs.Prelude.{◌≡◌, ◌≤◌, ◌⊎◌, ◌+◌, IfErr, IfOk, IfSome, IsNone};
+ghost use Rattle.std.specs.Prelude.{◌≡◌, ◌≤◌, IfErr, IfOk, IfSome, IsNone};
 ghost use Rattle.std.specs.Int.{IsInRange};
 ghost use Rattle.segword.specs.Words.{IsValid};
 ghost use Rattle.segshards.specs.Budget.{bytes_of, IsShapeFor, TakesOver};

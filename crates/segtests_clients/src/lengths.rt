@@ -1,6 +1,6 @@
 //! Items of every length: each is stored, read, moved and evicted whole, at whatever limits of keys
 //! and values the crates are built with. How many rows an item takes is asked, and not assumed.
-ghost use Rattle.std.specs.Prelude.{All, IfSome};
+ghost use Rattle.std.specs.Prelude.{All};
 ghost use Rattle.segindex.specs.Words.{board_of, IsQuiet};
 
 use crate::same::{check_that, same};
