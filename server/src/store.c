@@ -59,20 +59,20 @@ enum store_status store_read(struct store_client *client, struct word key, uint3
   return status_of(status);
 }
 
-/* A segment's deadline is a multiple of half the time to live. So one begins at each such multiple, and a value
- * lives for half of that time at least. */
+/* A put goes into a segment whose deadline suits it. An add and a cas store into that of the last put, or a new one.
+ * A segment's deadline is a multiple of an eighth of the time to live. So one begins for them at each such multiple,
+ * and what they store lives for seven eighths of that time at least. */
 static void renew(struct store_client *client, uint32_t now) {
   uint32_t time_to_live = client->plan.time_to_live;
   if (time_to_live == 0 || now < client->renew_at) return;
-  uint32_t half = time_to_live > 1 ? time_to_live / 2 : 1;
-  if (segcache_make_room(&client->client, now) == SEGCACHE_OK) client->renew_at = now - now % half + half;
+  uint32_t eighth = time_to_live >= 8 ? time_to_live / 8 : 1;
+  if (segcache_make_room(&client->client, now) == SEGCACHE_OK) client->renew_at = now - now % eighth + eighth;
 }
 
 /* This build of the library has no time to live of a put. One that has gets value.seconds here. */
 enum store_status store_put(struct store_client *client, struct word key, struct store_value value, uint32_t now) {
   uint32_t status;
   int tries = 0;
-  renew(client, now);
   do status = segcache_put(&client->client, key.at, key.length, value.at, value.length, now);
   while (was_busy(status, &tries));
   return status_of(status);

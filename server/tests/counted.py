@@ -299,31 +299,31 @@ def full_keys(command):
 
 
 def renewals(command):
-    """Only over the stand-in, whose segments are counted exactly. One begins at each multiple of half of the time,
-    whatever stores first. A value lives for half of that time or more, and no longer than that time."""
+    """Only over the stand-in, whose segments are counted exactly. For an add or a cas one begins at each multiple of an
+    eighth of the time; a set needs none. A value lives for seven eighths of that time or more, and no longer."""
     def begun(connection, sent, wanted, segments):
         say(connection, sent, wanted)
         made = int(stats_of(connection)["refilled_segments"])
         check(made == segments, f"{sent} comes to {made} segments, and not to {segments}")
 
     with running(command, "-t", "1", "--time-to-live", "40000") as port, connect(port) as connection:
-        say(connection, "debugtime 15000\r\n", "OK\r\n")
-        begun(connection, "set a 0 0 1\r\n1\r\n", "STORED\r\n", 1)
-        begun(connection, "set b 0 0 1\r\n2\r\nadd c 0 0 1\r\n3\r\nincr a 0\r\n",
-              "STORED\r\nSTORED\r\n1\r\n", 1)
-        begun(connection, "debugtime 4000\r\nset d 0 0 1\r\n4\r\n", "OK\r\nSTORED\r\n", 1)
-        begun(connection, "debugtime 2000\r\nadd e 0 0 1\r\n5\r\n", "OK\r\nSTORED\r\n", 2)
-        say(connection, "debugtime 18000\r\nget a d e\r\n",
-            "OK\r\nVALUE a 0 1\r\n1\r\nVALUE d 0 1\r\n4\r\nVALUE e 0 1\r\n5\r\nEND\r\n")
+        say(connection, "debugtime 12000\r\n", "OK\r\n")
+        begun(connection, "set a 0 0 1\r\n1\r\n", "STORED\r\n", 0)
+        begun(connection, "add b 0 0 1\r\n2\r\nincr a 0\r\n", "STORED\r\n1\r\n", 1)
+        begun(connection, "debugtime 2000\r\nadd c 0 0 1\r\n3\r\n", "OK\r\nSTORED\r\n", 1)
+        begun(connection, "debugtime 2000\r\nset d 0 0 1\r\n4\r\n", "OK\r\nSTORED\r\n", 1)
+        begun(connection, "add e 0 0 1\r\n5\r\n", "STORED\r\n", 2)
+        say(connection, "debugtime 33000\r\nget a b c d e\r\n",
+            "OK\r\n" + "".join(f"VALUE {key} 0 1\r\n{value}\r\n" for key, value in zip("abcde", "12345")) + "END\r\n")
         begun(connection, "debugtime 2000\r\nincr e 0\r\n", "OK\r\n5\r\n", 3)
-        say(connection, "get a d e\r\n", "VALUE e 0 1\r\n5\r\nEND\r\n")
-        begun(connection, "debugtime 20000\r\nset f 0 0 1\r\n6\r\n", "OK\r\nSTORED\r\n", 4)
+        say(connection, "get a b c d e\r\n", "VALUE d 0 1\r\n4\r\nVALUE e 0 1\r\n5\r\nEND\r\n")
+        say(connection, "debugtime 5000\r\nget d e\r\n", "OK\r\nVALUE e 0 1\r\n5\r\nEND\r\n")
     with running(command, "-t", "1", "--time-to-live", "1") as port, connect(port) as connection:
         for second in range(6):
-            begun(connection, "debugtime 1\r\nset a 0 0 1\r\n1\r\n", "OK\r\nSTORED\r\n", second + 1)
+            begun(connection, f"debugtime 1\r\nadd a{second} 0 0 1\r\n1\r\n", "OK\r\nSTORED\r\n", second + 1)
     with running(command, "-t", "1", "--time-to-live", "40001") as port, connect(port) as connection:
-        for segments in (0, 1, 1):  # the first one can't be had
-            begun(connection, "set a 0 0 1\r\n1\r\n", "STORED\r\n", segments)
+        for place, segments in enumerate((0, 1, 1)):  # the first one can't be had
+            begun(connection, f"add a{place} 0 0 1\r\n1\r\n", "STORED\r\n", segments)
     with running(command, "-t", "1") as port, connect(port) as connection:
         begun(connection, "set a 0 0 1\r\n1\r\nadd b 0 0 1\r\n1\r\nincr a 1\r\n", "STORED\r\nSTORED\r\n2\r\n", 0)
 

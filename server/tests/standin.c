@@ -6,9 +6,9 @@
  * It has few buckets, so that keys often share one: a cas then finds the bucket's version changed by others. It
  * evicts the oldest item once there are as many as it was opened for.
  *
- * With a time to live a value is absent from a deadline on, which make_room sets: the last multiple of half of that
- * time that comes in it. Some keys have faults, which the library seldom has: see fault_of. Each call has to have a
- * moment, which the server begins at 2: without one the program is aborted. */
+ * With a time to live a value is absent from a deadline on, which put and make_room set: the last multiple of an eighth
+ * of that time that comes in it. Some keys have faults, which the library seldom has: see fault_of. Each call has to
+ * have a moment, which the server begins at 2: without one the program is aborted. */
 #include "segcache.h"
 #include <pthread.h>
 #include <stdbool.h>
@@ -210,9 +210,18 @@ static uint32_t store_if(segcache_handle *handle, const uint8_t *key, size_t key
   return status;
 }
 
-uint32_t segcache_raw_put(segcache_handle *client, const uint8_t *key, size_t key_len, const uint8_t *value,
+/* The last multiple of an eighth of the time to live that comes in it. */
+static uint32_t deadline_of(const struct client *client, uint32_t now) {
+  uint32_t eighth = client->time_to_live >= 8 ? client->time_to_live / 8 : 1;
+  uint32_t until = now + client->time_to_live;
+  return client->time_to_live == 0 ? UINT32_MAX : until - until % eighth;
+}
+
+uint32_t segcache_raw_put(segcache_handle *handle, const uint8_t *key, size_t key_len, const uint8_t *value,
                           size_t value_len, uint32_t now) {
-  return store_if(client, key, key_len, value, value_len, 0, always, now);
+  struct client *client = handle->at;
+  client->deadline = deadline_of(client, now);
+  return store_if(handle, key, key_len, value, value_len, 0, always, now);
 }
 
 uint32_t segcache_raw_add(segcache_handle *client, const uint8_t *key, size_t key_len, const uint8_t *value,
@@ -270,12 +279,11 @@ uint32_t segcache_raw_keep_from(segcache_handle *client, uint32_t cutoff) {
 /* Only counts itself, a segment refilled and two items kept, and sets the deadline. */
 uint32_t segcache_raw_make_room(segcache_handle *handle, uint32_t now) {
   struct client *client = handle->at;
-  uint32_t half = client->time_to_live > 1 ? client->time_to_live / 2 : 1;
   if (now < FIRST_MOMENT) abort();
   pthread_mutex_lock(&client->map->lock);
   if (client->made++ == 0 && client->time_to_live == NO_ROOM_AT_FIRST)
     return pthread_mutex_unlock(&client->map->lock), (uint32_t)SEGCACHE_NO_ROOM;
-  if (client->time_to_live > 0) client->deadline = now + client->time_to_live - (now + client->time_to_live) % half;
+  client->deadline = deadline_of(client, now);
   client->counts.segments_refilled++;
   client->counts.items_kept += 2;
   pthread_mutex_unlock(&client->map->lock);
