@@ -251,7 +251,7 @@ static inline uint32_t segcache_hand_out(uint32_t status, segcache_handle made, 
 /* Makes a cache for so many keys, and a client for each of so many threads (1 to 64). Each client stores into its own
    equal share of the room. So all keys fit if the clients store about as many each. There is a table for every 200,000
    keys, and each key belongs to one of the tables by its hash. A call on a key goes to that table alone.
-   It takes all memory at once, but for that of notes and of a close: about 177 bytes a key, and up to 34 MB more for a
+   It takes all memory at once, but for that of notes and of a close: 174 to 214 bytes a key, and up to 34 MB more for a
    moment. `cache` and `clients[threads]` are written,
    whatever they were: if they are of a cache that is still open, that one is lost. If the answer is not OK they are
    zeroed, of more than 64 clients the first 64. Answers: OK, BAD_SHAPE, OUT_OF_MEMORY; OTHER_VERSION or OTHER_SIZES, if
@@ -493,9 +493,9 @@ static inline uint32_t segcache_note_free(segcache_note_t *note) {
 
 /* --- Settings, room and counts ---------------------------------------------------------------------- */
 
-/* From the client's next segment on, what it stores is absent at `now` plus this time, or earlier: a segment has
-   one deadline, the last multiple of half this time that comes in it. At the start it is 4294967295.
-   Answers: OK, NO_HANDLE. */
+/* What the client puts from now on lives for this time at most, and for seven eighths of it at least, unless it is
+   evicted, replaced or deleted before: it is absent once `now` has grown by that. A client may set another time before
+   each put. At the start it is 4294967295. Answers: OK, NO_HANDLE. */
 static inline uint32_t segcache_set_time_to_live(segcache_client *client, uint32_t time_to_live) {
   return SEGCACHE_CALL(client, segcache_raw_set_time_to_live(&client->raw, time_to_live));
 }
@@ -513,8 +513,8 @@ static inline uint32_t segcache_keep_nothing(segcache_client *client) {
 }
 
 /* Makes room, as a put does that finds no row: in the table of the client's last write, if that was answered by NO_ROOM,
-   and else in each table. What is stored there next goes into a segment with the deadline of `now`: it lives for more
-   than half of the time to live. Answers: OK; NO_ROOM, of one table at least; NO_HANDLE. */
+   and else in each table. What is stored there next goes into a segment with a deadline for `now`: it lives for seven
+   eighths of the time to live at least. Answers: OK; NO_ROOM, of one table at least; NO_HANDLE. */
 static inline uint32_t segcache_make_room(segcache_client *client, uint32_t now) {
   return SEGCACHE_CALL(client, segcache_raw_make_room(&client->raw, now));
 }

@@ -48,13 +48,33 @@ static void test_reads_and_writes(segcache_client *client) {
   CHECK(reads(client, "k", 109, "w"));
 }
 
-/* A put goes into a segment whose deadline has not come: the next one's is 120. */
+/* What is put lives for its time at most, and for seven eighths of it at least: here for 9 or 10. */
 static void test_puts(segcache_client *client) {
   EXPECT(put(client, "k", "v", 109), SEGCACHE_OK);
-  CHECK(readers(client, 110) == 0);
+  CHECK(readers(client, 117) == EACH);
+  CHECK(readers(client, 119) == 0);
   EXPECT(put(client, "k", "w", 110), SEGCACHE_OK);
-  CHECK(readers(client, 119) == EACH);
+  CHECK(readers(client, 118) == EACH);
   CHECK(readers(client, 120) == 0);
+}
+
+/* Items of one client with several times to live, put by turns: each lives as its own time says. */
+static void test_several_times(segcache_client *client) {
+  const struct {
+    const char *key;
+    uint32_t seconds;
+  } kinds[] = {{"minutes", 300}, {"hours", 3600}, {"forever", UINT32_MAX}};
+  for (uint32_t now = 1000; now < 1200; now += 50)
+    for (int i = 0; i < 3; i++) {
+      EXPECT(segcache_set_time_to_live(client, kinds[i].seconds), SEGCACHE_OK);
+      EXPECT(put(client, kinds[i].key, "v", now), SEGCACHE_OK);
+    }
+  CHECK(reads(client, "minutes", 1150 + 262, "v"));
+  CHECK(reads(client, "minutes", 1150 + 300, NULL));
+  CHECK(reads(client, "hours", 1150 + 3150, "v"));
+  CHECK(reads(client, "hours", 1150 + 3600, NULL));
+  CHECK(reads(client, "forever", 1150 + 3600, "v"));
+  CHECK(reads(client, "forever", 4294967294, "v"));
 }
 
 void test_clock(void) {
@@ -65,6 +85,7 @@ void test_clock(void) {
   EXPECT(segcache_make_room(&client, 100), SEGCACHE_OK);
   test_reads_and_writes(&client);
   test_puts(&client);
+  test_several_times(&client);
   EXPECT(segcache_give_back(&cache, &client), SEGCACHE_OK);
   EXPECT(segcache_free(&cache), SEGCACHE_OK);
 }

@@ -264,8 +264,8 @@ impl Client {
         done(unsafe { raw::segcache_raw_learn(self.handle(), note.handle()) })
     }
 
-    /// What this client stores from its next segment on is absent at its clock plus this time, or earlier: a
-    /// segment's deadline is the last multiple of half this time that comes within it.
+    /// What this client puts from now on lives for this time at most, and for seven eighths of it at least, unless
+    /// it is evicted, replaced or deleted before. A client may set another time before each put.
     pub fn set_time_to_live(&self, time_to_live: u32) {
         // SAFETY: the handle is this client's.
         unsafe { raw::segcache_raw_set_time_to_live(self.handle(), time_to_live) };
