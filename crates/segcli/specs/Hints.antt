@@ -30,18 +30,22 @@ abbrev pub miss_hint : ℕ → List CacheTotals → List ℕ
 miss_hint warm [] = []
 miss_hint warm (t ∷ totals) = first_hint (are_mostly_first warm t.counts)
 
--- a client keeps one time to live apart: that of its segment in use
-abbrev pub lives_hint : ℕ → List ℕ
-lives_hint lives =
-    if nat_lt 1 lives
-    then codes "the trace has more times to live than a client keeps apart: items can go early\n"
+-- each time to live takes segments of its own: about four of a client's
+abbrev pub are_many_lives : ℕ → ℕ → Bool
+are_many_lives lives segments = nat_lt 1 lives && nat_lt segments (4 * lives)
+
+abbrev pub lives_hint : Bool → List ℕ
+lives_hint are_many =
+    if are_many
+    then codes "the trace has many times to live for so few segments: items can be evicted early\n"
     else []
 
 -- each of the totals has what is known of the trace
-abbrev pub trace_hint : List CacheTotals → List ℕ
-trace_hint [] = []
-trace_hint (t ∷ totals) = lives_hint t.lives
+abbrev pub trace_hint : ℕ → List CacheTotals → List ℕ
+trace_hint segments [] = []
+trace_hint segments (t ∷ totals) = lives_hint (are_many_lives t.lives segments)
 
 abbrev pub hints_text : Replay → List CacheTotals → List ℕ
 hints_text asked totals =
-    small_hint (rows_of asked.shape) ++ miss_hint asked.warm totals ++ trace_hint totals
+    small_hint (rows_of asked.shape) ++ miss_hint asked.warm totals
+    ++ trace_hint asked.shape.segments_each totals

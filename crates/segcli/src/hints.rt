@@ -1,16 +1,13 @@
 //! What is told on standard error of a replay that shows less than it may seem.
 ghost use Rattle.std.specs.Prelude.{◌≡◌, IfOk};
-ghost use Rattle.segcli.specs.Hints.{are_mostly_first, first_hint, hints_text, lives_hint};
-ghost use Rattle.segcli.specs.Hints.{miss_hint, small_hint, taken_away, trace_hint};
+ghost use Rattle.segcli.specs.Hints.{are_many_lives, are_mostly_first, first_hint, hints_text};
+ghost use Rattle.segcli.specs.Hints.{lives_hint, miss_hint, small_hint, taken_away, trace_hint};
 
 use crate::asked::Replay;
 use crate::replayed::rows_of;
 use crate::totals::put;
 use segreplay::{CacheTotals, Counts};
 use std::alloc::{AllocError, Global};
-
-/// How many times to live a client keeps apart: that of the segment that it stores into.
-const CLASSES: usize = 1;
 
 fn small_hint(rows: u128) -> &'static [u8]
     ensures { result.now ≡ small_hint rows }
@@ -57,23 +54,30 @@ fn miss_hint(warm: u64, totals: &[CacheTotals]) -> &'static [u8]
     first_hint(are_mostly_first(warm, &totals[0].counts))
 }
 
-fn lives_hint(lives: usize) -> &'static [u8]
-    ensures { result.now ≡ lives_hint lives }
+// Each time to live takes segments of its own.
+fn are_many_lives(lives: usize, segments: u32) -> bool
+    ensures { result ≡ are_many_lives lives segments }
 {
-    if lives > CLASSES {
-        b"the trace has more times to live than a client keeps apart: items can go early\n"
+    lives > 1 && 4 * lives as u128 > u128::from(segments)
+}
+
+fn lives_hint(are_many: bool) -> &'static [u8]
+    ensures { result.now ≡ lives_hint are_many }
+{
+    if are_many {
+        b"the trace has many times to live for so few segments: items can be evicted early\n"
     } else {
         b""
     }
 }
 
-fn trace_hint(totals: &[CacheTotals]) -> &'static [u8]
-    ensures { result.now ≡ trace_hint totals.now }
+fn trace_hint(segments: u32, totals: &[CacheTotals]) -> &'static [u8]
+    ensures { result.now ≡ trace_hint segments totals.now }
 {
     if totals.is_empty() {
         return b"";
     }
-    lives_hint(totals[0].lives)
+    lives_hint(are_many_lives(totals[0].lives, segments))
 }
 
 /// The lines that are told of a replay, if there are any.
@@ -87,6 +91,6 @@ pub fn hints_text(
     let mut text = Vec::new(alloc);
     put(&mut text, small_hint(rows_of(asked.shape)))?;
     put(&mut text, miss_hint(asked.warm, totals))?;
-    put(&mut text, trace_hint(totals))?;
+    put(&mut text, trace_hint(asked.shape.segments_each, totals))?;
     Ok(text)
 }

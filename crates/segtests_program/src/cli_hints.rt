@@ -13,7 +13,7 @@ const SMALL: &str = "the cache has at most 8 rows: --for-keys N makes room for N
 const FIRST: &str = "most misses are first requests of their keys, or came after a time to live\n";
 
 const LIVES: &str =
-    "the trace has more times to live than a client keeps apart: items can go early\n";
+    "the trace has many times to live for so few segments: items can be evicted early\n";
 
 /// A watch that keeps how many bytes are told of a replay.
 #[derive(Drop)]
@@ -71,16 +71,20 @@ fn first_requests_are_told(rt: HostRuntime) {
     );
 }
 
-// A delete puts nothing, so its time to live counts for nothing.
+// Two times to live are many for seven segments. A delete puts nothing, so its time to live
+// counts for nothing.
 #[test]
-fn more_times_than_a_client_keeps_apart_are_told(rt: HostRuntime) {
-    let words = ["replay", "--csv", "--for-keys=64"];
+fn many_times_to_live_for_few_segments_are_told(rt: HostRuntime) {
+    let words = ["replay", "--csv", "--for-keys=64", "--segments=7"];
     check_told(&rt, &words, b"0,a,set,10\n0,b,set,20\n", &[LIVES]);
     check_told(&rt, &words, b"0,a,set,10\n0,b,delete,20\n", &[]);
+    let more = ["replay", "--csv", "--for-keys=64", "--segments=8"];
+    check_told(&rt, &more, b"0,a,set,10\n0,b,set,20\n", &[]);
+    // There is one segment, and so the second put evicts what the first one stored.
     check_told(
         &rt,
         &["replay", "--csv"],
         b"0,a,get,10\n0,b,get,0\n",
-        &[SMALL, FIRST, LIVES],
+        &[SMALL, LIVES],
     );
 }

@@ -33,13 +33,14 @@ fn an_item_expires_with_its_segment(rt: HostRuntime) {
     );
 }
 
-// Each put is given 10 of 10 at least.
+// Deadlines are multiples of an eighth of the time, rounded down. The first put is given 96 of 100,
+// and the second one, in a segment of its own, 10 of 10: 98 %, each put counting alike.
 #[test]
-fn more_than_the_whole_counts_as_the_whole(rt: HostRuntime) {
+fn each_time_to_live_has_its_own_deadline(rt: HostRuntime) {
     check_end(
         &rt,
         b"0,a,set,100\n1,b,set,10\n",
-        " items=2 lives=2 given=100.00\n",
+        " items=2 lives=2 given=98.00\n",
     );
 }
 
@@ -83,10 +84,10 @@ fn expired_items_stand_up_to_the_refill(rt: HostRuntime) {
 }
 
 // The times to live of the first two commands are counted, and what they are given isn't.
-// The third is given 75 of 80.
+// The third goes into the segment of the first, and is given 75 of 80.
 #[test]
 fn a_warm_replay_counts_the_rest(rt: HostRuntime) {
-    let words = ["replay", "--csv", "--for-keys=64", "--warm=2"];
+    let words = ["replay", "--csv", "--for-keys=64", "--rows=64", "--warm=2"];
     let ended = run(&rt, &words, b"0,a,set,80\n0,a,get,7\n5,b,set,80\n");
     let text = text_of(&rt, &ended);
     check_same(&rt, &words, ended.status, 0);

@@ -128,14 +128,20 @@ fn totals_are_one_object(rt: HostRuntime) {
     }
 }
 
-// With room for its keys a load of one pass counts as a plain map.
+// With room for its keys a load of one pass counts as a plain map with sixteen versions.
 #[test]
 fn a_load_has_a_shape_for_its_keys(rt: HostRuntime) {
     let totals =
         "p0 commands=500 hit=113 miss=204 stored=85 not_stored=25 exists=6 not_found=45 deleted=22 noroom=0 bucketfull=0 busy=0\ntotal commands=500 keys=36\n";
     check_load(
         &rt,
-        &["load", "--for-keys=64", "--seed=7", "--commands=500"],
+        &[
+            "load",
+            "--for-keys=64",
+            "--buckets=16",
+            "--seed=7",
+            "--commands=500",
+        ],
         500,
         totals,
     );
@@ -144,6 +150,7 @@ fn a_load_has_a_shape_for_its_keys(rt: HostRuntime) {
         &[
             "load",
             "--for-keys=64",
+            "--buckets=16",
             "--seed=7",
             "--commands=500",
             "--format=json",
