@@ -7,8 +7,8 @@
  *     for (i = 0; i < 4; i++) segcache_give_back(&cache, &clients[i]);
  *     segcache_free(&cache);
  *
- * SHAPES. A key has 1 to 24 bytes, a value 0 to 32: SEGCACHE_MAX_KEY and SEGCACHE_MAX_VALUE. They are 250 and 4,064
- * in files that are compiled with -DSEGCACHE_WIDE, for the library's wide build. A key is its bytes: a final NUL counts
+ * SHAPES. A key has 1 to 24 bytes, a value 0 to 32: SEGCACHE_MAX_KEY and SEGCACHE_MAX_VALUE. -DSEGCACHE_WIDE makes
+ * them 250 and 4,064, for a wide build that isn't made or proved yet: until then an open returns OTHER_SIZES. A key is its bytes: a final NUL counts
  * only if the length counts it. `now` is the caller's clock, a number that grows, in units of the caller's choice
  * (seconds since the start, say); with no time to live set, any number below 4294967295 will do.
  *
@@ -121,7 +121,7 @@ typedef struct segcache_note_t {
 
 /* The size of a cache with one table. segcache_open makes shapes up from a number of keys. Each bucket, overflow bucket
    and row takes 64 bytes, and each segment 8: 512 MiB at most, and twice that for a moment while it is opened. Clients
-   take 3 bytes more for each row, and 12 for each segment. */
+   take 3 bytes more for each row, and 56 for each segment. */
 typedef struct segcache_shape {
   uint32_t buckets;       /* a power of two, 65536 at most; a bucket has words for 7 keys */
   uint32_t overflow;      /* overflow buckets, 65536 at most, each for 6 keys more of one bucket */
@@ -281,9 +281,10 @@ static inline uint32_t segcache_open_for_writers(uint32_t keys, uint32_t threads
   return segcache_hand_out(status, made, raw, count, cache, clients);
 }
 
-/* The same for a number of bytes: the largest cache for so many threads that takes no more, also while it is opened.
+/* The same for a number of bytes: a cache for so many threads that takes no more, also while it is opened. What the
+   opening needs for a moment, one table, is free afterwards: half of a budget up to 8 MiB, a ninth of 64 to 256 MiB.
    Notes and a close take more. All threads are to store about as much each. BAD_SHAPE comes also if even the smallest
-   cache takes more, which has some 70,000 bytes for one thread. Answers as segcache_open. */
+   cache takes more, which has some 18,000 bytes for one thread. Answers as segcache_open. */
 static inline uint32_t segcache_open_bytes(uint64_t bytes, uint32_t threads, segcache *cache,
                                            segcache_client *clients) {
   segcache_handle made, raw[SEGCACHE_MAX_THREADS];
@@ -493,9 +494,10 @@ static inline uint32_t segcache_note_free(segcache_note_t *note) {
 
 /* --- Settings, room and counts ---------------------------------------------------------------------- */
 
-/* What the client puts from now on lives for this time at most, and for seven eighths of it at least, unless it is
-   evicted, replaced or deleted before: it is absent once `now` has grown by that. A client may set another time before
-   each put. At the start it is 4294967295. Answers: OK, NO_HANDLE. */
+/* What segcache_put stores from now on lives for this time at most, and for seven eighths of it at least, unless it is
+   evicted, replaced or deleted before. A client may set another time before each put. A set, add, replace or cas
+   stores into the segment of the client's last put or make_room, and expires with it. After a change of time call
+   segcache_make_room before it. At the start the time is 4294967295. Answers: OK, NO_HANDLE. */
 static inline uint32_t segcache_set_time_to_live(segcache_client *client, uint32_t time_to_live) {
   return SEGCACHE_CALL(client, segcache_raw_set_time_to_live(&client->raw, time_to_live));
 }

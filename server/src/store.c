@@ -69,7 +69,7 @@ static void renew(struct store_client *client, uint32_t now) {
   if (segcache_make_room(&client->client, now) == SEGCACHE_OK) client->renew_at = now - now % eighth + eighth;
 }
 
-/* This build of the library has no time to live of a put. One that has gets value.seconds here. */
+/* One time to live holds for all: an add or a cas stores into the segment of the last put, whatever its own time. */
 enum store_status store_put(struct store_client *client, struct word key, struct store_value value, uint32_t now) {
   uint32_t status;
   int tries = 0;

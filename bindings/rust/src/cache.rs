@@ -7,8 +7,8 @@ use std::sync::{Arc, Mutex, PoisonError};
 
 /// The size of a cache of one table. [`Builder::keys`] makes shapes up from a number of keys. Each bucket,
 /// overflow bucket and row takes 64 bytes, and each segment 8; all of them together have 512 MiB at most, and twice that for a
-/// moment while the cache is made. The clients take 3 bytes more for each row, and 16 for each segment, to
-/// know what was read.
+/// moment while the cache is made. The clients take 3 bytes more for each row, and 56 for each segment, to
+/// know what was read and when it expires.
 #[repr(C)]
 #[derive(Clone, Copy, Debug, PartialEq, Eq)]
 pub struct Shape {
@@ -84,8 +84,8 @@ impl Builder {
         self
     }
 
-    /// How many bytes the cache may take, in place of the numbers of keys and writers. It is the largest that takes
-    /// no more, also while it is made. Notes and a close take more.
+    /// How many bytes the cache may take, in place of the numbers of keys and writers, also while it is made. What
+    /// making it needs for a moment, one table, is free afterwards. Notes and a close take more.
     #[must_use]
     pub fn bytes(mut self, bytes: u64) -> Builder {
         self.bytes = Some(bytes);

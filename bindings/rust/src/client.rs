@@ -265,7 +265,9 @@ impl Client {
     }
 
     /// What this client puts from now on lives for this time at most, and for seven eighths of it at least, unless
-    /// it is evicted, replaced or deleted before. A client may set another time before each put.
+    /// it is evicted, replaced or deleted before. The unit is that of `set_now`, whose clock stands still until it is
+    /// set again. A client may set another time before each put. An add, a replace or a cas stores into the segment
+    /// of the last put or `make_room`, and expires with it.
     pub fn set_time_to_live(&self, time_to_live: u32) {
         // SAFETY: the handle is this client's.
         unsafe { raw::segcache_raw_set_time_to_live(self.handle(), time_to_live) };
