@@ -27,13 +27,9 @@ mod keeping;
 #[cfg(test)]
 mod keeping_at_once;
 #[cfg(test)]
-mod lengths;
-#[cfg(test)]
 mod limiting;
 #[cfg(test)]
 mod many_keys;
-#[cfg(test)]
-mod mixed_puts;
 #[cfg(test)]
 mod only_client;
 #[cfg(test)]
