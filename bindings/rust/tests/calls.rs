@@ -188,13 +188,17 @@ fn what_is_stored_expires_for_each_write_that_looks_first() {
     assert!(!is_read_at(&client, 110)); // where the deadline of its segment has come
 }
 
+// What is put lives for its time at most, and for seven eighths of it at least: here for 9 or 10.
 #[test]
-fn a_put_goes_where_the_deadline_has_not_come() {
+fn what_is_put_lives_for_seven_eighths_of_its_time() {
     let (_cache, client) = until_110();
+    client.set_now(109);
     client.put("k", "v").unwrap();
-    assert!(!is_read_at(&client, 110));
+    assert!(is_read_at(&client, 117));
+    assert!(!is_read_at(&client, 119));
+    client.set_now(110);
     client.put("k", "w").unwrap();
-    assert!(is_read_at(&client, 119));
+    assert!(is_read_at(&client, 118));
     assert!(!is_read_at(&client, 120));
 }
 
