@@ -20,7 +20,9 @@ use Rattle.segbase.proofs.Ended.{views_kept, apart_moved}
 use Rattle.segbase.proofs.Holders.{held_moved, pass_only}
 
 -- a seat that keeps its number, and stays a pass if it is one, keeps the passes' numbers apart
-pub apart_kept : (views : List Sight) (id : ℕ) (x u : Sight) → ((i j : ℕ) (a b : Sight) → get_elem? views i ≡ some a → get_elem? views j ≡ some b → a.is_pass ≡ true → b.is_pass ≡ true → a.view.number ≡ b.view.number → i ≡ j)
+pub apart_kept : (views : List Sight) (id : ℕ) (x u : Sight)
+    → ((i j : ℕ) (a b : Sight) → get_elem? views i ≡ some a → get_elem? views j ≡ some b → a.is_pass ≡ true
+    → b.is_pass ≡ true → a.view.number ≡ b.view.number → i ≡ j)
     → get_elem? views id ≡ some x → x.is_pass ≡ true → u.view.number ≡ x.view.number
     → (i j : ℕ) (a b : Sight) → get_elem? (set views id u) i ≡ some a → get_elem? (set views id u) j ≡ some b → a.is_pass ≡ true → b.is_pass ≡ true → a.view.number ≡ b.view.number → i ≡ j
 apart_kept views id x u one at pass same i j a b ai bj pa pb e = ⊎_elim
@@ -36,7 +38,8 @@ apart_kept views id x u one at pass same i j a b ai bj pa pb e = ⊎_elim
 
 module _ {S : Type 0} where
   -- a pass whose view alone changes, with its number kept, keeps what the rule says of the seats
-  sights_kept : (z : Shape) (s : State S Sight) (rule : Rule z s) (id : ℕ) (x : Sight) (w : View) (es : List Event) → get_elem? s.views id ≡ some x → x.is_pass ≡ true → w.number ≡ x.view.number → w.trace ≡ es ++ rule.trace
+  sights_kept : (z : Shape) (s : State S Sight) (rule : Rule z s) (id : ℕ) (x : Sight) (w : View) (es : List Event)
+      → get_elem? s.views id ≡ some x → x.is_pass ≡ true → w.number ≡ x.view.number → w.trace ≡ es ++ rule.trace
       → (j : ℕ) (y : Sight) → get_elem? (set s.views id (record x { view = w })) j ≡ some y → IsSight (set rule.views x.view.number w) (es ++ rule.trace) y
   sights_kept z s rule id x w es at pass same all j y is =
       let old = rule.sights id x at in ⊎_elim
@@ -93,11 +96,15 @@ module _ {S : Type 0} where
         now = (λ j. record v { trace = es ++ k.rest j; looks = k.rest j ∷ v.looks; turn = suc (steps_of rule.views) });
         legal = rw is kept.legal;
       } in
-      (x, keeps, tt, ruled, (record { told = told; met = begins_on es me.0.met rule.trace old.met; among = λ n past. ruled.lawful.later n (let few = ruled.few in omega arith); is_pass = refl; memo = refl }, refl))
+      (x, keeps, tt, ruled, (record { told = told; met = begins_on es me.0.met rule.trace old.met;
+          among = λ n past. ruled.lawful.later n (let few = ruled.few in omega arith); is_pass = refl;
+          memo = refl }, refl))
 
 -- the same over a board's own table, as a step of it asks
 pub step_of : (b : Board) (p : Pass) (st : Step) (spot : Spot) (i : ℕ) (f : ℕ → ℕ) → CanStep b p st spot f → i ≡ address b.shape (cell_of b.shape spot) → i < b.table.shared.table_id.words
-    → (p.seat.table_id ≡ b.table.shared.table_id) × (i < b.table.shared.table_id.words) × Allows (Rule b.table.shared.key) b.table.shared.table_id.slots p.seat.id p.seat.me i f (λ found me'. Learns b.table.shared.key st found p.seat.me.0 me'.0 × (me'.1 ≡ p.seat.me.1))
+    → (p.seat.table_id ≡ b.table.shared.table_id) × (i < b.table.shared.table_id.words)
+        × Allows (Rule b.table.shared.key) b.table.shared.table_id.slots p.seat.id p.seat.me i f
+        (λ found me'. Learns b.table.shared.key st found p.seat.me.0 me'.0 × (me'.1 ≡ p.seat.me.1))
 step_of b p st spot i f can place within = (
   can.pass.table,
   within,
@@ -106,6 +113,8 @@ step_of b p st spot i f can place within = (
 )
 
 pub store_of : (b : Board) (p : Pass) (st : Step) (spot : Spot) (i : ℕ) (f : ℕ → ℕ) → CanStep b p st spot f → i ≡ address b.shape (cell_of b.shape spot) → i < b.table.shared.table_id.words
-    → (p.seat.table_id ≡ b.table.shared.table_id) × (i < b.table.shared.table_id.words) × Allows (Rule b.table.shared.key) b.table.shared.table_id.slots p.seat.id p.seat.me i f (λ _ me'. ((found : ℕ) × Learns b.table.shared.key st found p.seat.me.0 me'.0) × (me'.1 ≡ p.seat.me.1))
+    → (p.seat.table_id ≡ b.table.shared.table_id) × (i < b.table.shared.table_id.words)
+        × Allows (Rule b.table.shared.key) b.table.shared.table_id.slots p.seat.id p.seat.me i f
+        (λ _ me'. ((found : ℕ) × Learns b.table.shared.key st found p.seat.me.0 me'.0) × (me'.1 ≡ p.seat.me.1))
 store_of b p st spot i f can place within = let s = step_of b p st spot i f can place within in
     (s.0, s.1, λ x rule homes at fits. let r = s.2 x rule homes at fits in (r.0, r.1, r.2, r.3, ((get_or x.words i 0, r.4.0), r.4.1)))

@@ -57,7 +57,11 @@ carries S z id x u pass view met is_pass ended s rule at =
       few = rule.few;
       sights = λ j y is. ⊎_elim
           (λ t. ⊎_elim
-          (λ o. subst (IsSight rule.views rule.trace) o.1 (record { seen = subst (λ v. Begins v.trace rule.trace) (sym view) old.seen; met = subst (λ m. Begins m rule.trace) (sym met) old.met; own = λ _. subst (λ v. get_elem? rule.views v.number ≡ some v) (sym view) (old.own pass); ended = subst (AreViews rule.views) (sym ended) old.ended }))
+          (λ o. subst (IsSight rule.views rule.trace) o.1
+              (record { seen = subst (λ v. Begins v.trace rule.trace) (sym view) old.seen;
+              met = subst (λ m. Begins m rule.trace) (sym met) old.met;
+              own = λ _. subst (λ v. get_elem? rule.views v.number ≡ some v) (sym view) (old.own pass);
+              ended = subst (AreViews rule.views) (sym ended) old.ended }))
           (λ o. rule.sights j y o.1)
           (at_set s.views id j u y t))
           (λ t. subst (IsSight rule.views rule.trace) t (record { seen = old.seen; met = begins_all rule.trace; own = λ yes. absurd (false≢true yes); ended = tt }))
@@ -139,7 +143,9 @@ pub within_first : (n each passes : ℕ) → n < passes → 0 < each → n * eac
 within_first n each passes few more = mul-lt-mul_of_pos_right few more
 
 -- a pass with the same view is the same pass
-same_pass : (b : Board) (p q : Pass) → IsPassOf b p → q.seat.table_id ≡ p.seat.table_id → q.seat.me.1 ≡ p.seat.me.1 → view q ≡ view p → (sight q).is_pass ≡ (sight p).is_pass → IsMemo b p (sight q).memo → q.plain ≡ p.plain → IsPassOf b q
+same_pass : (b : Board) (p q : Pass) → IsPassOf b p → q.seat.table_id ≡ p.seat.table_id → q.seat.me.1 ≡ p.seat.me.1
+    → view q ≡ view p → (sight q).is_pass ≡ (sight p).is_pass → IsMemo b p (sight q).memo → q.plain ≡ p.plain
+    → IsPassOf b q
 same_pass b p q is table bare same pass minds plain =
     let of : number q ≡ number p = ap (λ (v : View). v.number) same in record {
       table = table ∙ is.table;
@@ -158,11 +164,18 @@ same_pass b p q is table bare same pass minds plain =
 
 -- one that was told of another
 pub retold : (b : Board) (p q : Pass) (w : Sight) → IsPassOf b p → q.seat.table_id ≡ p.seat.table_id → q.seat.me ≡ (meets p.seat.me.0 w, p.seat.me.1) → q.plain ≡ p.plain → IsPassOf b q
-retold b p q w is table me plain = same_pass b p q is table (ap (λ (m : Me (Unit {0}) Sight). m.1) me) (ap (λ (m : Me (Unit {0}) Sight). m.0.view) me) (ap (λ (m : Me (Unit {0}) Sight). m.0.is_pass) me) (subst (λ (m : Memo). IsMemo b p m) (sym (ap (λ (m : Me (Unit {0}) Sight). m.0.memo) me)) is.minds) plain
+retold b p q w is table me plain = same_pass b p q is table (ap (λ (m : Me (Unit {0}) Sight). m.1) me)
+    (ap (λ (m : Me (Unit {0}) Sight). m.0.view) me) (ap (λ (m : Me (Unit {0}) Sight). m.0.is_pass) me)
+    (subst (λ (m : Memo). IsMemo b p m) (sym (ap (λ (m : Me (Unit {0}) Sight). m.0.memo) me)) is.minds) plain
 
 -- and one that keeps another thing in mind
-pub reminded : (b : Board) (p q : Pass) (memo : Memo) → IsPassOf b p → IsMemo b p memo → q.seat.table_id ≡ p.seat.table_id → q.seat.me ≡ (minding memo p.seat.me.0, p.seat.me.1) → q.plain ≡ p.plain → IsPassOf b q
-reminded b p q memo is minds table me plain = same_pass b p q is table (ap (λ (m : Me (Unit {0}) Sight). m.1) me) (ap (λ (m : Me (Unit {0}) Sight). m.0.view) me) (ap (λ (m : Me (Unit {0}) Sight). m.0.is_pass) me) (subst (λ (m : Memo). IsMemo b p m) (sym (ap (λ (m : Me (Unit {0}) Sight). m.0.memo) me)) minds) plain
+pub reminded : (b : Board) (p q : Pass) (memo : Memo) → IsPassOf b p → IsMemo b p memo
+    → q.seat.table_id ≡ p.seat.table_id → q.seat.me ≡ (minding memo p.seat.me.0, p.seat.me.1) → q.plain ≡ p.plain
+    → IsPassOf b q
+reminded b p q memo is minds table me plain =
+    same_pass b p q is table (ap (λ (m : Me (Unit {0}) Sight). m.1) me)
+    (ap (λ (m : Me (Unit {0}) Sight). m.0.view) me) (ap (λ (m : Me (Unit {0}) Sight). m.0.is_pass) me)
+    (subst (λ (m : Memo). IsMemo b p m) (sym (ap (λ (m : Me (Unit {0}) Sight). m.0.memo) me)) minds) plain
 
 -- it may load the first word of its first row
 pub own_row : (b : Board) (p : Pass) → IsPassOf b p → May b.shape (trace p) (number p) (row_load p.plain.first 0 0)
@@ -173,4 +186,6 @@ own_row b p is =
 
 -- a pass that was only looked at is the same pass
 pub as_was : (b : Board) (p q : Pass) → IsPassOf b p → q.seat.table_id ≡ p.seat.table_id → q.seat.me ≡ (p.seat.me.0, p.seat.me.1) → q.plain ≡ p.plain → IsPassOf b q
-as_was b p q is table me plain = same_pass b p q is table (ap (λ (m : Me (Unit {0}) Sight). m.1) me) (ap (λ (m : Me (Unit {0}) Sight). m.0.view) me) (ap (λ (m : Me (Unit {0}) Sight). m.0.is_pass) me) (subst (λ (m : Memo). IsMemo b p m) (sym (ap (λ (m : Me (Unit {0}) Sight). m.0.memo) me)) is.minds) plain
+as_was b p q is table me plain = same_pass b p q is table (ap (λ (m : Me (Unit {0}) Sight). m.1) me)
+    (ap (λ (m : Me (Unit {0}) Sight). m.0.view) me) (ap (λ (m : Me (Unit {0}) Sight). m.0.is_pass) me)
+    (subst (λ (m : Memo). IsMemo b p m) (sym (ap (λ (m : Me (Unit {0}) Sight). m.0.memo) me)) is.minds) plain

@@ -38,7 +38,9 @@ closes b p words xs is of final =
         rest = record {
           valid = rw of is.valid;
           lawful = rw of l.legal;
-          each = subst (λ (k : Shape). (cell : Cell) → IsCell k cell → get_or ws (address k cell) 0 ≡ word k now cell) (sym of) (λ cell within. ap (λ (l : List ℕ). get_or l (address z cell) 0) (sym final.2) ∙ l.each cell within);
+          each = subst (λ (k : Shape). (cell : Cell) → IsCell k cell
+              → get_or ws (address k cell) 0 ≡ word k now cell) (sym of)
+              (λ cell within. ap (λ (l : List ℕ). get_or l (address z cell) 0) (sym final.2) ∙ l.each cell within);
         };
         more = known.more;
         goes_on = known.rest;

@@ -36,7 +36,8 @@ stood sights id x u at pass same ended j y is = ⊎_elim
     (at_set sights id j u y is)
 
 -- a pass changes, and keeps its number
-pub apart_moved : (sights : List Sight) (id : ℕ) (x u : Sight) → AreApart sights → get_elem? sights id ≡ some x → x.is_pass ≡ true → u.view.number ≡ x.view.number → u.ended ≡ x.ended → AreApart (set sights id u)
+pub apart_moved : (sights : List Sight) (id : ℕ) (x u : Sight) → AreApart sights → get_elem? sights id ≡ some x
+    → x.is_pass ≡ true → u.view.number ≡ x.view.number → u.ended ≡ x.ended → AreApart (set sights id u)
 apart_moved sights id x u apart at pass same ended i j a b ai bj pb =
     let f = stood sights id x u at pass same ended i a ai in let g = stood sights id x u at pass same ended j b bj in
     subst (λ n. NoneNumbered n a.ended) g.2 (subst (NoneNumbered g.0.view.number) f.3 (apart i j f.0 g.0 f.1 g.1 (g.4 pb)))
@@ -62,7 +63,9 @@ apart_spent sights id u apart off none i j a b ai bj pb = ⊎_elim
     (at_set sights id j u b bj)
 
 -- the same where the pass at this place is given up to the seat at another
-pub apart_given : (sights : List Sight) (id other : ℕ) (x w : Sight) → AreApart sights → ((j : ℕ) (y : Sight) → get_elem? sights j ≡ some y → y.is_pass ≡ true → w.view.number ≡ y.view.number → other ≡ j)
+pub apart_given : (sights : List Sight) (id other : ℕ) (x w : Sight) → AreApart sights
+    → ((j : ℕ) (y : Sight) → get_elem? sights j ≡ some y → y.is_pass ≡ true → w.view.number ≡ y.view.number
+    → other ≡ j)
     → get_elem? sights id ≡ some x → x.is_pass ≡ false → AreApart (set (set sights id (ends x w)) other spent)
 apart_given sights id other x w apart one at off i j a b ai bj pb = ⊎_elim
     (λ t. absurd (false≢true (ap (λ (s : Sight). s.is_pass) t.1 ∙ pb)))

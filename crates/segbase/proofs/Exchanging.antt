@@ -15,19 +15,29 @@ use Rattle.segbase.specs.Steps.{counting, Missed, CounterMissed}
 use Rattle.segbase.proofs.Standing.{under_bit, higher}
 
 -- the exchange of an event that found what it expects
-pub hit : (b : Board) (p q : Pass) (step : Step) (event : Event) (found old : ℕ) → adds step (number p) found ≡ cond (eqb found old) (event ∷ []) [] → found ≡ old → Stepped b step found p q → AddsAtOnce b (event ∷ []) p q
+pub hit : (b : Board) (p q : Pass) (step : Step) (event : Event) (found old : ℕ)
+    → adds step (number p) found ≡ cond (eqb found old) (event ∷ []) [] → found ≡ old → Stepped b step found p q
+    → AddsAtOnce b (event ∷ []) p q
 hit b p q step event found old is same s = subst (λ es. AddsAtOnce b es p q) (is ∙ cond-true (eqb found old) (event ∷ []) [] (eq-eqb found old same)) s.did
 
-pub miss : (b : Board) (p q : Pass) (step : Step) (event : Event) (found old : ℕ) → adds step (number p) found ≡ cond (eqb found old) (event ∷ []) [] → found ≢ old → Stepped b step found p q → AddsAtOnce b [] p q
+pub miss : (b : Board) (p q : Pass) (step : Step) (event : Event) (found old : ℕ)
+    → adds step (number p) found ≡ cond (eqb found old) (event ∷ []) [] → found ≢ old → Stepped b step found p q
+    → AddsAtOnce b [] p q
 miss b p q step event found old is other s = subst (λ es. AddsAtOnce b es p q) (is ∙ cond-false (eqb found old) (event ∷ []) [] (ne_eqb found old other)) s.did
 
 -- under the bit an empty word is found empty
-pub finds_nothing : (b : Board) (p q : Pass) (step : Step) (found bucket n : ℕ) → HasBit b.shape (trace p) (number p) bucket → IsItemAt b.shape (trace p) bucket n (cell step) → (bucket_after b.shape (trace p) bucket).items n ≡ nothing → Stepped b step found p q → found ≡ 0
+pub finds_nothing : (b : Board) (p q : Pass) (step : Step) (found bucket n : ℕ)
+    → HasBit b.shape (trace p) (number p) bucket → IsItemAt b.shape (trace p) bucket n (cell step)
+    → (bucket_after b.shape (trace p) bucket).items n ≡ nothing → Stepped b step found p q → found ≡ 0
 finds_nothing b p q step found bucket n bit at none s =
     s.told.found_is ∙ (under_bit b.shape s.told.more (trace p) (number p) bucket n (cell step) s.told.before s.told.others bit.1 at ∙ ap (content_word (s.told.more ++ trace p)) none)
 
-pub missed : (b : Board) (p q : Pass) (step : Step) (event : Event) (place : Place) (found old bucket n : ℕ) (a : Slot) → IsPassOf b p → HasBit b.shape (trace p) (number p) bucket → cell step ≡ cell_at b.shape place → IsItemAt b.shape (trace p) bucket n (cell_at b.shape place)
-    → (bucket_after b.shape (trace p) bucket).items n ≡ item a → adds step (number p) found ≡ cond (eqb found old) (event ∷ []) [] → found ≢ old → Stepped b step found p q → Missed b place old found p q
+pub missed : (b : Board) (p q : Pass) (step : Step) (event : Event) (place : Place) (found old bucket n : ℕ)
+    (a : Slot) → IsPassOf b p → HasBit b.shape (trace p) (number p) bucket → cell step ≡ cell_at b.shape place
+    → IsItemAt b.shape (trace p) bucket n (cell_at b.shape place)
+    → (bucket_after b.shape (trace p) bucket).items n ≡ item a
+        → adds step (number p) found ≡ cond (eqb found old) (event ∷ []) [] → found ≢ old → Stepped b step found p q
+        → Missed b place old found p q
 missed b p q step event place found old bucket n a is bit of at here adds_is other s =
     let h : List Event = s.told.more ++ trace p in
     let now : trace q ≡ h = ap (λ (v : View). v.trace) s.told.now ∙ ap (λ es. es ++ h) (adds_is ∙ cond-false (eqb found old) (event ∷ []) [] (ne_eqb found old other)) in
@@ -35,7 +45,9 @@ missed b p q step event place found old bucket n a is bit of at here adds_is oth
       did = miss b p q step event found old adds_is other s;
       other = other;
       is = found_is ∙ ap (λ t. word b.shape t (cell_at b.shape place)) (sym now);
-      higher = λ same low. higher b.shape s.told.more (trace p) (number p) bucket n old found a (cell_at b.shape place) is.valid is.lawful s.told.before s.told.others bit at here same low found_is other;
+      higher = λ same low. higher b.shape s.told.more (trace p) (number p) bucket n old found a
+          (cell_at b.shape place) is.valid is.lawful s.told.before s.told.others bit at here same low found_is
+          other;
     }
 
 -- a draw that failed

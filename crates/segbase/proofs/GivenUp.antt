@@ -71,7 +71,9 @@ gives S z id other x w off pass s rule at apart at' =
 pub given : (b : Board) (passes rest : List Pass) (p : Pass) → passes ≡ rest ++ p ∷ [] → ((place : ℕ) (q : Pass) → slice_get passes place ≡ Some q → IsPassOf b q) → IsPassOf b p
 given b passes rest p is each = each (length rest) p (ap (λ l. slice_get l (length rest)) is ∙ last_of rest p)
 
-pub others : (b : Board) (passes rest : List Pass) (p : Pass) → passes ≡ rest ++ p ∷ [] → ((place : ℕ) (q : Pass) → slice_get passes place ≡ Some q → IsPassOf b q) → (place : ℕ) (q : Pass) → slice_get rest place ≡ Some q → IsPassOf b q
+pub others : (b : Board) (passes rest : List Pass) (p : Pass) → passes ≡ rest ++ p ∷ []
+    → ((place : ℕ) (q : Pass) → slice_get passes place ≡ Some q → IsPassOf b q) → (place : ℕ) (q : Pass)
+    → slice_get rest place ≡ Some q → IsPassOf b q
 others b passes rest p is each place q at = each place q (ap (λ l. slice_get l place) is ∙ front_of rest (p ∷ []) place q at)
 
 -- and its view comes before those of the passes that were given up before it
@@ -131,7 +133,9 @@ module _ (b : Board) (passes : List Pass) (all : AreAll b passes) where
       let at_rest : IsAtRest words now = record {
         valid = rw of l.valid;
         lawful = rw of l.legal;
-        each = subst (λ (k : Shape). (cell : Cell) → IsCell k cell → get_or (slots_items words.closed.words) (address k cell) 0 ≡ word k now cell) (sym of) (λ cell within. ap (λ (l : List ℕ). get_or l (address z cell) 0) (sym final.2) ∙ l.each cell within);
+        each = subst (λ (k : Shape). (cell : Cell) → IsCell k cell
+            → get_or (slots_items words.closed.words) (address k cell) 0 ≡ word k now cell) (sym of)
+            (λ cell within. ap (λ (l : List ℕ). get_or l (address z cell) 0) (sym final.2) ∙ l.each cell within);
       } in record {
         of = of;
         place = one.0;

@@ -1,5 +1,6 @@
 -- What a pass knows of its segments after one of them was changed.
-use Rattle.std.proofs.Common.{◌≡◌, ◌≢◌, ℕ, zero, suc, ◌-◌, nat_le, cond, List, [], ◌∷◌, length, set, Option, Some, None, IsSome, option_map, slice_get, slice_index_or, refl, sym, ap, ◌∙◌, subst, ⊎_elim, arith, length-set}
+use Rattle.std.proofs.Common.{◌≡◌, ◌≢◌, ℕ, zero, suc, ◌-◌, nat_le, cond, List, [], ◌∷◌, length, set, Option, Some,
+    None, IsSome, option_map, slice_get, slice_index_or, refl, sym, ap, ◌∙◌, subst, ⊎_elim, arith, length-set}
 use Rattle.std.proofs.lemmas.Bool.{cases_Bool, cases_eq, cond-true, cond-false, leb-true, false≢true}
 use Rattle.std.proofs.lemmas.Option.{none-some, get_or_from_slice_get}
 use Rattle.std.specs.Global.{Vec}
@@ -64,7 +65,8 @@ module _ (x : PlainPart) (s : ℕ) where
 
     pub own_here : own_segment (with_own s change x) s ≡ option_map change (own_segment x s)
     own_here = let low = nat_le x.first s in let old = slice_get x.segments.items at in ⊎_elim
-        (λ t. cond-true low (slice_get (put_own x.segments at (option_map change (own_segment x s))).items at) None t ∙ put_here x.segments at change (own_segment x s) (sym (cond-true low old None t)))
+        (λ t. cond-true low (slice_get (put_own x.segments at (option_map change (own_segment x s))).items at) None
+            t ∙ put_here x.segments at change (own_segment x s) (sym (cond-true low old None t)))
         (λ f. cond-false low (slice_get (put_own x.segments at (option_map change (own_segment x s))).items at) None f ∙ sym (ap (option_map change) (cond-false low old None f)))
         (cases_Bool low)
 
@@ -73,9 +75,12 @@ module _ (x : PlainPart) (s : ℕ) where
         (λ low. ⊎_elim
         (λ there. let a = leb-true x.first s low in let c = leb-true x.first t there in
         ap (λ o. cond (nat_le x.first t) o None) (put_apart x.segments at (t - x.first) (option_map change (own_segment x s)) (λ e. ne (omega (arith, e)))))
-        (λ f. cond-false (nat_le x.first t) (slice_get (put_own x.segments at (option_map change (own_segment x s))).items (t - x.first)) None f ∙ sym (cond-false (nat_le x.first t) (slice_get x.segments.items (t - x.first)) None f))
+        (λ f. cond-false (nat_le x.first t) (slice_get
+            (put_own x.segments at (option_map change (own_segment x s))).items (t - x.first)) None f
+            ∙ sym (cond-false (nat_le x.first t) (slice_get x.segments.items (t - x.first)) None f))
         (cases_Bool (nat_le x.first t)))
-        (λ f. ap (λ o. cond (nat_le x.first t) (slice_get (put_own x.segments at (option_map change o)).items (t - x.first)) None) (cond-false (nat_le x.first s) (slice_get x.segments.items at) None f))
+        (λ f. ap (λ o. cond (nat_le x.first t) (slice_get (put_own x.segments at (option_map change o)).items
+            (t - x.first)) None) (cond-false (nat_le x.first s) (slice_get x.segments.items at) None f))
         (cases_Bool (nat_le x.first s))
 
     -- two changes that come to the same of the segment
@@ -83,7 +88,9 @@ module _ (x : PlainPart) (s : ℕ) where
     own_alike other = ap (λ o. record x { segments = put_own x.segments at o })
 
     -- what the change leaves is known as before of each segment
-    pub own_kept : {A : Type 0} (read : Option OwnSegment → A) → ((o : Option OwnSegment) → read (option_map change o) ≡ read o) → (t : ℕ) → read (own_segment (with_own s change x) t) ≡ read (own_segment x t)
+    pub own_kept : {A : Type 0} (read : Option OwnSegment → A)
+        → ((o : Option OwnSegment) → read (option_map change o) ≡ read o) → (t : ℕ)
+        → read (own_segment (with_own s change x) t) ≡ read (own_segment x t)
     own_kept read same t = ⊎_elim
         (λ e. subst (λ n. read (own_segment (with_own s change x) n) ≡ read (own_segment x n)) (sym e) (ap read own_here ∙ same (own_segment x s)))
         (λ ne. ap read (own_apart t ne))

@@ -25,10 +25,14 @@ pub moved_inside : (b : Board) (own : List Event) (p q : Pass) (s : ℕ) → Add
 moved_inside b own p q s m = ap (λ h. inside h (number p) s) m.goes_on ∙ (own_inside m.more (trace p) (number p) s ∙ ap (λ es. inside (es ++ trace p) (number p) s) m.adds)
 
 pub moved_mine : (b : Board) (own : List Event) (p q : Pass) → AddsEvents b own p q → passes.mine q ≡ mine (number p) (seen (own ++ trace p))
-moved_mine b own p q m = ap (λ n. mine n (seen (trace q))) m.same ∙ (ap (λ h. mine (number p) (seen h)) m.goes_on ∙ (own_mine m.more (trace p) (number p) ∙ ap (λ es. mine (number p) (seen (es ++ trace p))) m.adds))
+moved_mine b own p q m = ap (λ n. mine n (seen (trace q))) m.same
+    ∙ (ap (λ h. mine (number p) (seen h)) m.goes_on
+    ∙ (own_mine m.more (trace p) (number p) ∙ ap (λ es. mine (number p) (seen (es ++ trace p))) m.adds))
 
 pub moved_count : (b : Board) (own : List Event) (p q : Pass) (what : Counted) → AddsEvents b own p q → passes.count what q ≡ count what (number p) (own ++ trace p)
-moved_count b own p q what m = ap (λ n. count what n (trace q)) m.same ∙ (ap (count what (number p)) m.goes_on ∙ (own_count what m.more (trace p) (number p) ∙ ap (λ es. count what (number p) (es ++ trace p)) m.adds))
+moved_count b own p q what m = ap (λ n. count what n (trace q)) m.same
+    ∙ (ap (count what (number p)) m.goes_on ∙ (own_count what m.more (trace p) (number p)
+    ∙ ap (λ es. count what (number p) (es ++ trace p)) m.adds))
 
 -- what it has seen only grows
 pub moved_on : (b : Board) (own : List Event) (p q : Pass) → AddsEvents b own p q → Begins (trace p) (trace q)
@@ -70,7 +74,9 @@ pub reads_nothing : (b : Board) (p q : Pass) → AddsEvents b [] p q → Reads b
 reads_nothing b p q m = record { own = []; moved = m; only = tt; inside = λ s. moved_inside b [] p q s m; stays = λ s there. there }
 
 -- a call of a reader after another: where the pass stays, by both
-stays_then : (b : Board) (first second : List Event) (p q : Pass) (s : ℕ) → AddsEvents b first p q → (0 < inside (trace p) (number p) s → StaysIn first (trace p) (number p) s) → (0 < inside (trace q) (number q) s → StaysIn second (trace q) (number q) s)
+stays_then : (b : Board) (first second : List Event) (p q : Pass) (s : ℕ) → AddsEvents b first p q
+    → (0 < inside (trace p) (number p) s → StaysIn first (trace p) (number p) s)
+    → (0 < inside (trace q) (number q) s → StaysIn second (trace q) (number q) s)
     → 0 < inside (trace p) (number p) s → StaysIn (second ++ first) (trace p) (number p) s
 stays_then b first second p q s m one two there =
     let a = one there in
@@ -117,7 +123,8 @@ enter_then b p q r segment i j = record {
   own = j.own ++ i.own;
   moved = moved_then b i.own j.own p q r i.moved j.moved;
   only = only_both j.own i.own j.only i.only;
-  inside = λ s. subst (λ n. inside (trace r) n s ≡ cond (eqb segment s) (inside (trace q) n s + 1) (inside (trace q) n s)) i.moved.same (j.inside s) ∙ ap (λ n. cond (eqb segment s) (n + 1) n) (i.inside s);
+  inside = λ s. subst (λ n. inside (trace r) n s ≡ cond (eqb segment s) (inside (trace q) n s + 1)
+      (inside (trace q) n s)) i.moved.same (j.inside s) ∙ ap (λ n. cond (eqb segment s) (n + 1) n) (i.inside s);
   stays = λ s there. stays_then b i.own j.own p q s i.moved (i.stays s) (j.stays s) there;
 }
 
@@ -133,12 +140,16 @@ then_reads b p q r segment i j = record {
 -- in the segment it is inside
 pub is_inside : (b : Board) (p q : Pass) (segment : ℕ) → ReadsIn b p q segment → 0 < inside (trace q) (number q) segment
 is_inside b p q segment i = subst (λ n. 0 < inside (trace q) n segment) (sym i.moved.same)
-    (let e : inside (trace q) (number p) segment ≡ inside (trace p) (number p) segment + 1 = i.inside segment ∙ cond-true (eqb segment segment) (inside (trace p) (number p) segment + 1) (inside (trace p) (number p) segment) (eq-eqb segment segment refl) in omega arith)
+    (let e : inside (trace q) (number p) segment ≡ inside (trace p) (number p) segment + 1 = i.inside segment
+        ∙ cond-true (eqb segment segment) (inside (trace p) (number p) segment + 1)
+        (inside (trace p) (number p) segment) (eq-eqb segment segment refl) in omega arith)
 
 pub leave_then : (b : Board) (p q r : Pass) (segment : ℕ) → ReadsIn b p q segment → AddsEvents b (Left (number q) segment ∷ []) q r → Reads b p r
 leave_then b p q r segment i m =
     let out : (s : ℕ) → inside (trace r) (number p) s ≡ inside (trace p) (number p) s = λ s.
-    subst (λ n. inside (trace r) n s ≡ cond (eqb segment s) (inside (trace q) n s - 1) (inside (trace q) n s)) i.moved.same (moved_inside b (Left (number q) segment ∷ []) q r s m ∙ once_less (number q) segment s (trace q))
+    subst (λ n. inside (trace r) n s ≡ cond (eqb segment s) (inside (trace q) n s - 1) (inside (trace q) n s))
+        i.moved.same (moved_inside b (Left (number q) segment ∷ []) q r s m
+        ∙ once_less (number q) segment s (trace q))
     ∙ (ap (λ n. cond (eqb segment s) (n - 1) n) (i.inside s) ∙ one_less (eqb segment s) (inside (trace p) (number p) s)) in record {
       own = Left (number q) segment ∷ i.own;
       moved = moved_then b i.own (Left (number q) segment ∷ []) p q r i.moved m;

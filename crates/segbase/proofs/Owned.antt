@@ -1,5 +1,6 @@
 -- What the plain part of a pass says of the segments that it owns, and that its setters leave the pass what it is.
-use Rattle.std.proofs.Common.{◌≡◌, ℕ, zero, suc, ◌+◌, ◌-◌, ◌*◌, ◌/◌, ◌%◌, ◌<◌, ◌≤◌, true, nat_le, List, [], ◌∷◌, length, Option, Some, None, is_some, slice_get, refl, sym, ap, ◌∙◌, ⊎_elim, arith, mod-lt, div-add-mod'}
+use Rattle.std.proofs.Common.{◌≡◌, ℕ, zero, suc, ◌+◌, ◌-◌, ◌*◌, ◌/◌, ◌%◌, ◌<◌, ◌≤◌, true, nat_le, List, [], ◌∷◌,
+    length, Option, Some, None, is_some, slice_get, refl, sym, ap, ◌∙◌, ⊎_elim, arith, mod-lt, div-add-mod'}
 use Rattle.std.proofs.lemmas.Bool.{cases_Bool, cond-true, cond-false, leb-true, le-leb, false≢true}
 use Rattle.std.proofs.lemmas.Nat.{div-mul-add}
 use Rattle.segmodel.specs.Words.{owner}
@@ -61,7 +62,9 @@ owns_state b p s is there =
     let each = b.shape.segments_each in let n = number p in let first = p.plain.first in
     ⊎_elim
     (λ t. let low : first ≤ s = leb-true first s t in
-    let got : is_some (slice_get p.plain.segments.items (s - first)) ≡ true = sym (ap is_some (cond-true (nat_le first s) (slice_get p.plain.segments.items (s - first)) None t)) ∙ (sym (state_there (own_segment p.plain s)) ∙ there) in
+    let got : is_some (slice_get p.plain.segments.items (s - first)) ≡ true =
+        sym (ap is_some (cond-true (nat_le first s) (slice_get p.plain.segments.items (s - first)) None t))
+        ∙ (sym (state_there (own_segment p.plain s)) ∙ there) in
     let within = got_within p.plain.segments.items (s - first) got in
     let owns = is.owns in let at = is.first in
     ap (λ x. x / each) (let e : s ≡ n * each + (s - first) = omega arith in e) ∙ div-mul-add n each (s - first) (omega arith))
@@ -77,4 +80,6 @@ state_owned b p s is own =
     let at : first ≡ s / each * each = is.first ∙ ap (λ n. n * each) (sym own) in
     let owns = is.owns in
     let low : nat_le first s ≡ true = le-leb first s (omega arith) in
-    state_there (own_segment p.plain s) ∙ (ap is_some (cond-true (nat_le first s) (slice_get p.plain.segments.items (s - first)) None low) ∙ gets_within p.plain.segments.items (s - first) (omega arith))
+    state_there (own_segment p.plain s) ∙ (ap is_some
+        (cond-true (nat_le first s) (slice_get p.plain.segments.items (s - first)) None low)
+        ∙ gets_within p.plain.segments.items (s - first) (omega arith))

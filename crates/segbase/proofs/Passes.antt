@@ -1,5 +1,6 @@
 -- The passes of a new board, one dealt after the other.
-use Rattle.std.proofs.Common.{◌≡◌, ℕ, zero, suc, ◌+◌, ◌*◌, ◌<◌, ◌⊎◌, List, [], ◌∷◌, ◌++◌, length, get_or, set, Some, None, true, slice_get, refl, sym, ap, ◌∙◌, subst, inl, inr, ⊎_elim, arith, length-append, length-set}
+use Rattle.std.proofs.Common.{◌≡◌, ℕ, zero, suc, ◌+◌, ◌*◌, ◌<◌, ◌⊎◌, List, [], ◌∷◌, ◌++◌, length, get_or, set, Some,
+    None, true, slice_get, refl, sym, ap, ◌∙◌, subst, inl, inr, ⊎_elim, arith, length-append, length-set}
 use Rattle.std.proofs.lemmas.List.{length-replicate}
 use Rattle.std.proofs.lemmas.Option.{same_Some, none-some}
 use Rattle.segmodel.proofs.ListPlaces.{front_or_last}
@@ -54,7 +55,9 @@ new_pass b n p x valid few table me pass of nothing none free plain =
       plain = plain;
     }
 
-pub one_more : (b : Board) (count : ℕ) (ps : List Pass) (x p : Pass) (seat : Seat (Unit {0}) Sight) → IsValid b.shape → IsDealt b count ps → slice_get ps 0 ≡ Some x → (view x).dealt ≡ count → count < b.shape.passes
+pub one_more : (b : Board) (count : ℕ) (ps : List Pass) (x p : Pass) (seat : Seat (Unit {0}) Sight)
+    → IsValid b.shape → IsDealt b count ps → slice_get ps 0 ≡ Some x → (view x).dealt ≡ count
+    → count < b.shape.passes
     → seat.table_id ≡ x.seat.table_id → seat.me ≡ (dealer x.seat.me.0, x.seat.me.1) → p.seat.table_id ≡ x.seat.table_id → p.seat.me ≡ (newcomer x.seat.me.0, []) → IsNewPlain b.shape count p.plain
     → let all = set ps 0 (record { seat = seat; plain = x.plain }) ++ p ∷ [] in IsDealt b (count + 1) all × ((y : Pass) → slice_get all 0 ≡ Some y → (view y).dealt ≡ count + 1)
 one_more b count ps x p seat valid dealt first here few table me table' me' plain =

@@ -20,7 +20,9 @@ homed z (Drew p b d n ∷ h) m x l is = ⊎_elim
     (cases_Bool (eqb n m))
 homed z (e ∷ h) m x l is = homed z h m x l.0 is
 
-cell_home : (z : Shape) (h : List Event) (b n : ℕ) (place : Place) (t : Bool) → IsLawful z h → ltb place.bucket z.buckets ≡ t → IsAt h b n (cond t (OfBucket place.bucket place.word) (OfOverflow (place.bucket - z.buckets) place.word)) → b < z.buckets
+cell_home : (z : Shape) (h : List Event) (b n : ℕ) (place : Place) (t : Bool) → IsLawful z h
+    → ltb place.bucket z.buckets ≡ t → IsAt h b n
+    (cond t (OfBucket place.bucket place.word) (OfOverflow (place.bucket - z.buckets) place.word)) → b < z.buckets
 cell_home z h b n place true l low at = subst (λ a. a < z.buckets) at.0 (ltb-true place.bucket z.buckets low)
 cell_home z h b n place false l high at = homed z h (place.bucket - z.buckets) (home b at.0) l at.1
 

@@ -101,10 +101,14 @@ same_views (x ∷ xs) (y ∷ ys) a b =
     let rest : xs ≡ ys = same_views xs ys (λ n v at. a (suc n) v at) (λ n v at. b (suc n) v at) in (λ j. first j ∷ rest j)
 
 -- the world of the longer trace has seen no more
-goes_on : (z : Shape) (before after : State (Unit {0}) Sight) (was : Rule z before) (is : Rule z after) → ((n : ℕ) (v : View) → get_elem? was.views n ≡ some v → get_elem? is.views n ≡ some v) → Begins was.trace is.trace
+goes_on : (z : Shape) (before after : State (Unit {0}) Sight) (was : Rule z before) (is : Rule z after)
+    → ((n : ℕ) (v : View) → get_elem? was.views n ≡ some v → get_elem? is.views n ≡ some v)
+    → Begins was.trace is.trace
 goes_on z before after was is still = all_seen z (world_of was) is.trace was.lawful (λ n v at. let k = is.lawful.knows n v (still n v at) in (k.more, k.rest))
 
-pub beside : (z : Shape) (before after : State (Unit {0}) Sight) (was : Rule z before) (is : Rule z after) → after.words ≡ before.words → ((v : View) → IsHeld before.views v ↔ IsHeld after.views v) → world_of is ≡ world_of was
+pub beside : (z : Shape) (before after : State (Unit {0}) Sight) (was : Rule z before) (is : Rule z after)
+    → after.words ≡ before.words → ((v : View) → IsHeld before.views v ↔ IsHeld after.views v)
+    → world_of is ≡ world_of was
 beside z before after was is words held =
     let on = still_there z before after was is (λ v. (held v).0) in let back = still_there z after before is was (λ v. (held v).1) in
     let views : is.views ≡ was.views = same_views is.views was.views back on in

@@ -67,6 +67,8 @@ pub since_then : (p q r : Pass) (Is Is' : List Event → Type 0) → TakesSteps 
 since_then p q r Is Is' more so s = (s.0, starts_on p q r s.0 s.1 more, so s.0 s.2)
 
 -- it is so of the first step of two calls, if it is so of that of the second
-pub since_before : (p q r : Pass) (Is : List Event → Type 0) → number q ≡ number p → TakesSteps p q → ((start later : List Event) → Begins start later → Is later → Is start) → SinceFirst q r Is → SinceFirst p r Is
+pub since_before : (p q r : Pass) (Is : List Event → Type 0) → number q ≡ number p → TakesSteps p q
+    → ((start later : List Event) → Begins start later → Is later → Is start) → SinceFirst q r Is
+    → SinceFirst p r Is
 since_before p q r Is same (inl t) wider s = (t.0, starts_on p q r t.0 t.1 (inl (s.0, s.1)), wider t.0 s.0 (begins_then t.0 (trace q) s.0 t.1.until (start_grew q r s.0 s.1)) s.2)
 since_before p q r Is same (inr t) wider s = (s.0, starts_same p q r s.0 same t.0 t.1 s.1, s.2)

@@ -23,7 +23,8 @@ module _ {A B : Type 0} (R : A → B → Type 0) where
       let below = shorter xs done b rest (subst (λ l. AllZip R xs l) split zip) in omega (arith, below, at, long)
 
   -- and it stands beside the next of the second
-  pub there : (xs ys : List A) (all done : List B) (b : B) (rest : List B) (n : ℕ) (x : A) → n ≡ length done → drop n ys ≡ drop n xs → all ≡ done ++ b ∷ rest → AllZip R xs all → x ≡ get_or ys n x → R x b
+  pub there : (xs ys : List A) (all done : List B) (b : B) (rest : List B) (n : ℕ) (x : A) → n ≡ length done
+      → drop n ys ≡ drop n xs → all ≡ done ++ b ∷ rest → AllZip R xs all → x ≡ get_or ys n x → R x b
   there xs ys all done b rest n x at same split zip is =
       let beside_it = (beside xs done b rest x (subst (λ l. AllZip R xs l) split zip)).1 in
       let of : get_or xs (length done) x ≡ x = ap (λ m. get_or xs m x) (sym at) ∙ sym (first xs n x) ∙ ap (λ l. get_or l 0 x) (sym same) ∙ first ys n x ∙ sym is in
@@ -36,7 +37,8 @@ module _ {A B : Type 0} (R : A → B → Type 0) where
       first (y ∷ l) (suc m) d = first l m d
 
   -- one more of both is so
-  pub more : (xs : List A) (ys : List B) (n : ℕ) (x : A) (y : B) → n < length xs → n < length ys → x ≡ get_or xs n x → y ≡ get_or ys n y → AllZip R (take n xs) (take n ys) → R x y → AllZip R (take (n + 1) xs) (take (n + 1) ys)
+  pub more : (xs : List A) (ys : List B) (n : ℕ) (x : A) (y : B) → n < length xs → n < length ys → x ≡ get_or xs n x
+      → y ≡ get_or ys n y → AllZip R (take n xs) (take n ys) → R x y → AllZip R (take (n + 1) xs) (take (n + 1) ys)
   more xs ys n x y in_xs in_ys is_x is_y were one =
       subst (λ l. AllZip R l (take (n + 1) ys)) (sym (subst (λ k. take (n + 1) xs ≡ take n xs ++ k ∷ []) (sym is_x) (take_more xs n x in_xs)))
       (subst (λ l. AllZip R (take n xs ++ x ∷ []) l) (sym (subst (λ k. take (n + 1) ys ≡ take n ys ++ k ∷ []) (sym is_y) (take_more ys n y in_ys)))

@@ -17,7 +17,8 @@ closes was now cache (closing.Refused why) from is = subst (λ (k : Kept). IsRef
 closes was now cache closing.Gone from is = subst IsLost (sym from) is
 
 -- what a handle had, and an empty handle for the cursor
-pub closed : (before after cursor next : Option Kept) (was : Kept) (returned : Status) → before ≡ Some was → is_none cursor ≡ true → Closes was after next returned → Closed before after cursor next returned
+pub closed : (before after cursor next : Option Kept) (was : Kept) (returned : Status) → before ≡ Some was
+    → is_none cursor ≡ true → Closes was after next returned → Closed before after cursor next returned
 closed before after None next was returned from is closes = subst (λ (b : Option Kept). ClosesFrom b after next returned) (sym from) closes
 closed before after (Some used) next was returned from is closes = absurd (false≢true is)
 

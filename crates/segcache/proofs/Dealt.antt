@@ -43,7 +43,9 @@ three_long R (x ∷ ones) (y ∷ others) [] all = absurd all
 three_long R (x ∷ ones) (y ∷ others) (z ∷ thirds) all = ap suc (three_long R ones others thirds all.1)
 
 -- at the end of two lists it is so of all three
-pub all_three : {A B C : Type 0} (R : A → B → C → Type 0) (ones : List A) (others : List B) (thirds : List C) (n : ℕ) → n ≡ length others → length thirds ≡ length others → AllThree R ones (take n others) (take n thirds) → AllThree R ones others thirds
+pub all_three : {A B C : Type 0} (R : A → B → C → Type 0) (ones : List A) (others : List B) (thirds : List C)
+    (n : ℕ) → n ≡ length others → length thirds ≡ length others → AllThree R ones (take n others) (take n thirds)
+    → AllThree R ones others thirds
 all_three R ones others thirds n end long made =
     subst (λ l. AllThree R ones l thirds) (ap (λ m. take m others) end ∙ take-length others)
     (subst (λ l. AllThree R ones (take n others) l) (ap (λ m. take m thirds) (end ∙ sym long) ∙ take-length thirds) made)
@@ -58,7 +60,8 @@ pub no_rows : (rows : List (Vec Guest)) → All (λ row. row.items ≡ []) rows 
 no_rows rows all = λ n row at. subst (λ (l : List Guest). AllZip (IsGuestAt n) [] l) (sym (all_at (λ row. row.items ≡ []) rows n row all at)) tt
 
 -- of one shard more
-pub rows_more : (shape : Shape) (home : Home) (old new : List (Vec Guest)) (shards : List Shard) (adds : AddsShard shape home old new) → AreRowsOf shards old → AreRowsOf (shards ++ adds.shard ∷ []) new
+pub rows_more : (shape : Shape) (home : Home) (old new : List (Vec Guest)) (shards : List Shard)
+    (adds : AddsShard shape home old new) → AreRowsOf shards old → AreRowsOf (shards ++ adds.shard ∷ []) new
 rows_more shape home old new shards adds are = λ n row at.
     let dealt = three_at (λ guest was is. is.items ≡ was.items ++ guest ∷ []) adds.guests old new n row adds.deals at in
     let guest = dealt.0 in
@@ -68,7 +71,8 @@ rows_more shape home old new shards adds are = λ n row at.
     (zip_push (IsGuestAt n) shards was.items adds.shard guest (are n was dealt.3) (record { pass = its.0; there = its.1; new = its.2 }))
 
 -- each has as many guests as there are shards
-pub rows_in_range : (plan : ShardPlan) (homes : List Home) (rows : List (Vec Guest)) → OpensShards plan homes rows → 1 ≤ plan.count → plan.count ≤ 16384 → All (λ row. IsInRange 1 16384 (vec_len row)) rows
+pub rows_in_range : (plan : ShardPlan) (homes : List Home) (rows : List (Vec Guest)) → OpensShards plan homes rows
+    → 1 ≤ plan.count → plan.count ≤ 16384 → All (λ row. IsInRange 1 16384 (vec_len row)) rows
 rows_in_range plan homes rows opens some few = all_from (λ row. IsInRange 1 16384 (vec_len row)) rows (λ n row at.
     let long = zip_long (IsGuestAt n) opens.shards row.items (opens.rows_of n row at) in
     let count = opens.count in
@@ -87,7 +91,8 @@ is_client n shards row (kept.Cache cache) guests is = absurd is
 is_client n shards row (kept.Cursor cursor) guests is = absurd is
 is_client n shards row (kept.Note notes) guests is = absurd is
 
-pub all_clients : (shards : List Shard) (rows : List (Vec Guest)) (clients : List Kept) → AreRowsOf shards rows → AllZip IsClientOf rows clients → (n : ℕ) (k : Kept) → slice_get clients n ≡ Some k → IsClient n shards k
+pub all_clients : (shards : List Shard) (rows : List (Vec Guest)) (clients : List Kept) → AreRowsOf shards rows
+    → AllZip IsClientOf rows clients → (n : ℕ) (k : Kept) → slice_get clients n ≡ Some k → IsClient n shards k
 all_clients shards rows clients are all n k at = let row = zip_at IsClientOf rows clients n k all at in is_client n shards row.0 k (are n row.0 row.1) row.2
 
 pub is_cache : (shards : List Shard) (k : Kept) (cache : Cache) (homes : Vec Home) → k ≡ kept.Cache cache → cache.homes ≡ homes → AllZip IsHomeOf shards homes.items → IsCache shards k

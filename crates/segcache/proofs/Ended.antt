@@ -57,7 +57,8 @@ found : (mid is : Kept) (new : Cursor) (key key' value value' : Out) (returned :
 found mid is new key key' value value' returned from so = subst (λ (k : Kept). ReturnsIn k is key key' value value' returned) from so
 
 -- a next pair was found, and returned
-pub listed : (was mid is : Kept) (key key' value value' : Out) (returned : Status) → SeeksIn was mid status.Ok → ReturnsIn mid is key key' value value' returned → Listed (Some was) (Some is) key key' value value' returned
+pub listed : (was mid is : Kept) (key key' value value' : Out) (returned : Status) → SeeksIn was mid status.Ok
+    → ReturnsIn mid is key key' value value' returned → Listed (Some was) (Some is) key key' value value' returned
 listed (kept.Cursor old) mid is key key' value value' returned sought so =
     let last = found mid is sought.0 key key' value value' returned sought.1 so in
     (last.0, ap (λ (k : Kept). Some k) last.1, record { sought = status.Ok; mid = sought.0; seeks = sought.2; returns = last.2 })

@@ -8,11 +8,14 @@ use Rattle.segcache.specs.declared.guest.Guest.{Guest}
 use Rattle.segcache.specs.Guest.{At, Calls, MakesCall}
 
 -- a call of this index
-pub calls : (Made : Board → Member → Member → Type 0) (i : Index) (old new : Guest) → i ≡ old.share.index.value → Made (board_of i) old.member new.member → new.share.index.value ≡ old.share.index.value → Calls Made old new
+pub calls : (Made : Board → Member → Member → Type 0) (i : Index) (old new : Guest) → i ≡ old.share.index.value
+    → Made (board_of i) old.member new.member → new.share.index.value ≡ old.share.index.value → Calls Made old new
 calls Made i old new at made index = record { index = index; made = subst (λ (j : Index). Made (board_of j) old.member new.member) at made }
 
 -- and it holds what it held
-pub makes_call : (Made : Board → Member → Member → Type 0) (i : Index) (old new : Guest) → i ≡ old.share.index.value → Made (board_of i) old.member new.member → new.share.index.value ≡ old.share.index.value → new.share.held ≡ old.share.held → MakesCall Made old new
+pub makes_call : (Made : Board → Member → Member → Type 0) (i : Index) (old new : Guest) → i ≡ old.share.index.value
+    → Made (board_of i) old.member new.member → new.share.index.value ≡ old.share.index.value
+    → new.share.held ≡ old.share.held → MakesCall Made old new
 makes_call Made i old new at made index held = record { calls = calls Made i old new at made index; held = held }
 
 -- at a moment

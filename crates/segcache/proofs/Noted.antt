@@ -42,18 +42,24 @@ learns_none (kept.Cursor cursor) guest is = (refl, refl, refl)
 -- the same for a client that was to learn it
 pub not_learned : (before after : Option Kept) (was : Kept) (guest : SharedClient) → before ≡ Some was → after ≡ Some was → is_note was ≡ false → LearnsFrom before after status.NoHandle guest guest
 not_learned before after was guest from into is =
-    subst (λ (b : Option Kept). LearnsFrom b after status.NoHandle guest guest) (sym from) (subst (λ (a : Option Kept). LearnsFrom (Some was) a status.NoHandle guest guest) (sym into) (learns_none was guest is))
+    subst (λ (b : Option Kept). LearnsFrom b after status.NoHandle guest guest) (sym from)
+        (subst (λ (a : Option Kept). LearnsFrom (Some was) a status.NoHandle guest guest) (sym into)
+        (learns_none was guest is))
 
 pub nothing_learned : (before after : Option Kept) (guest : SharedClient) → before ≡ None → after ≡ None → LearnsFrom before after status.NoHandle guest guest
 nothing_learned before after guest from into =
     subst (λ (b : Option Kept). LearnsFrom b after status.NoHandle guest guest) (sym from) (refl, into, refl)
 
-pub learned : (before after : Option Kept) (was : Kept) (notes : Vec Note) (old new : SharedClient) → before ≡ Some was → was ≡ kept.Note notes → after ≡ None → EachAnswers Learns notes.items old new → LearnsFrom before after status.Ok old new
+pub learned : (before after : Option Kept) (was : Kept) (notes : Vec Note) (old new : SharedClient)
+    → before ≡ Some was → was ≡ kept.Note notes → after ≡ None → EachAnswers Learns notes.items old new
+    → LearnsFrom before after status.Ok old new
 learned before after was notes old new from is into learns =
     subst (λ (b : Option Kept). LearnsFrom b after status.Ok old new) (sym from) (subst (λ (k : Kept). LearnsFrom (Some k) after status.Ok old new) (sym is) (refl, into, learns))
 
 -- notes that were made for an empty handle, or weren't for one in use, or for want of memory
-pub noted : (before after : Option Kept) (returned : Status) (notes : Vec Note) (old new : SharedClient) → is_none before ≡ true → EachAnswers Notes notes.items old new → KeepsNotes notes returned after → NotesInto before after returned old new
+pub noted : (before after : Option Kept) (returned : Status) (notes : Vec Note) (old new : SharedClient)
+    → is_none before ≡ true → EachAnswers Notes notes.items old new → KeepsNotes notes returned after
+    → NotesInto before after returned old new
 noted None after returned notes old new is makes keeps = inl (notes, makes, keeps)
 noted (Some used) after returned notes old new is makes keeps = absurd (false≢true is)
 

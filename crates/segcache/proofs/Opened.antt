@@ -23,7 +23,8 @@ pub same_long : (handles others : List Handle) → values_of handles ≡ values_
 same_long handles others same = sym (length-map handles value_of) ∙ ap length same ∙ length-map others value_of
 
 -- one handle more has the value of one box more
-pub one_more : (handles : List Handle) (at : ℕ) (handle : Handle) (boxes : List (Box Kept)) (boxed : Box Kept) → at < length handles → values_of (take at handles) ≡ map put_in boxes → handle.value ≡ Some boxed.value
+pub one_more : (handles : List Handle) (at : ℕ) (handle : Handle) (boxes : List (Box Kept)) (boxed : Box Kept)
+    → at < length handles → values_of (take at handles) ≡ map put_in boxes → handle.value ≡ Some boxed.value
     → values_of (take (suc at) (set handles at handle)) ≡ map put_in (boxes ++ boxed ∷ [])
 one_more handles at handle boxes boxed below were is =
     ap values_of (take-suc-set handles at handle below) ∙ map-append value_of (take at handles) (handle ∷ [])

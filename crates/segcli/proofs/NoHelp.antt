@@ -4,7 +4,9 @@ use Rattle.std.specs.Prelude.{⊤, fold, if◌then◌else◌, is_some}
 use Rattle.std.specs.Str.{bytes_eq}
 use Rattle.clap.specs.Lexer.{long_of, short_of}
 use Rattle.clap.specs.Walk.{Held, Names, Outcome, Rule, Step, Text, Waiting, Walk}
-use Rattle.clap.specs.Walk.{after_flag, after_step, arg_by_index, arg_by_long, bundle, done, idle, long_met, long_or_other, next, option, plain, plain_word, positional, refused, short_or_plain, subcommand, subcommand_met, subcommand_or_other, to_positional, trailing, value, waits, walked, walked_from, word_met}
+use Rattle.clap.specs.Walk.{after_flag, after_step, arg_by_index, arg_by_long, bundle, done, idle, long_met,
+    long_or_other, next, option, plain, plain_word, positional, refused, short_or_plain, subcommand, subcommand_met,
+    subcommand_or_other, to_positional, trailing, value, waits, walked, walked_from, word_met}
 use Rattle.clap.specs.Simple.{Shape as CommandRules}
 use Rattle.clap.specs.Kinds.{Kinds, or_else}
 use Rattle.clap.specs.Faults.{other_fault, step_fault, walk_fault, word_fault}
@@ -63,7 +65,9 @@ module _ (s : CommandRules) (names : Names) (has_help : s.disable_help_subcomman
   other_past_help position word w h waiting (Some name) none past = named_past_help name word h (bytes_eq name (codes "help")) refl none
   other_past_help position word w h waiting None none past = go (bytes_eq word (45 ∷ 45 ∷ []))
     where
-      go : (b : Bool) → IsPastHelp (after_step s.rules word w (if b then (h, trailing position) else long_or_other s.rules waiting word (long_of word) h).0 (if b then (h, trailing position) else long_or_other s.rules waiting word (long_of word) h).1).stopped
+      go : (b : Bool) → IsPastHelp (after_step s.rules word w
+          (if b then (h, trailing position) else long_or_other s.rules waiting word (long_of word) h).0
+          (if b then (h, trailing position) else long_or_other s.rules waiting word (long_of word) h).1).stopped
       go true = past
       go false = let met = long_or_other s.rules waiting word (long_of word) h in step_stops_nowhere word w met.0 met.1 (long_names_none waiting word (long_of word) h) past
 

@@ -55,15 +55,24 @@ text_number bits None r none some = none refl
 text_number bits (Some text) r none some = read_number bits text r (some text refl)
 
 -- the number of an option, if it has one
-pub option_found : (option : NumberOption) (found : Found) {r : Option ℕ} → (one_text found option.name ≡ None → r ≡ None) → ((t : List ℕ) → one_text found option.name ≡ Some t → ReadsOne (Gives option.bits) t r) → r ≡ number_found option (rows_of found)
+pub option_found : (option : NumberOption) (found : Found) {r : Option ℕ}
+    → (one_text found option.name ≡ None → r ≡ None)
+    → ((t : List ℕ) → one_text found option.name ≡ Some t → ReadsOne (Gives option.bits) t r)
+    → r ≡ number_found option (rows_of found)
 option_found option found {r} none some =
     rw (← one_text-rows found option.name) (text_number option.bits (one_text found option.name) r none some)
 
 -- the same, or another number
-pub option_over : (other : ℕ) (option : NumberOption) (found : Found) {r : Option ℕ} {n : ℕ} → (one_text found option.name ≡ None → r ≡ None) → ((t : List ℕ) → one_text found option.name ≡ Some t → ReadsOne (Gives option.bits) t r) → n ≡ unwrap_or r other → n ≡ number_over other option (rows_of found)
+pub option_over : (other : ℕ) (option : NumberOption) (found : Found) {r : Option ℕ} {n : ℕ}
+    → (one_text found option.name ≡ None → r ≡ None)
+    → ((t : List ℕ) → one_text found option.name ≡ Some t → ReadsOne (Gives option.bits) t r)
+    → n ≡ unwrap_or r other → n ≡ number_over other option (rows_of found)
 option_over other option found {r} none some is = is ∙ ap (λ o. unwrap_or o other) (option_found option found none some)
 
-pub option_read : (option : NumberOption) (found : Found) {r : Option ℕ} {n : ℕ} → (one_text found option.name ≡ None → r ≡ None) → ((t : List ℕ) → one_text found option.name ≡ Some t → ReadsOne (Gives option.bits) t r) → n ≡ unwrap_or r option.default → n ≡ number_given option (rows_of found)
+pub option_read : (option : NumberOption) (found : Found) {r : Option ℕ} {n : ℕ}
+    → (one_text found option.name ≡ None → r ≡ None)
+    → ((t : List ℕ) → one_text found option.name ≡ Some t → ReadsOne (Gives option.bits) t r)
+    → n ≡ unwrap_or r option.default → n ≡ number_given option (rows_of found)
 option_read option found none some is = option_over option.default option found none some is
 
 -- a text that isn't `true`
@@ -76,11 +85,16 @@ read_flag text (Some true) read = sym ((bytes_eq-Decides text true_text).1 read)
 read_flag text (Some false) read = rw read refl
 read_flag text None read = other_text text (bytes_eq text true_text) refl read.1.0
 
-found_flag : (text : Option (List ℕ)) (r : Option Bool) → (text ≡ None → r ≡ None) → ((t : List ℕ) → text ≡ Some t → ReadsOne (ParsesBool {E = ParseBoolError}) t r) → unwrap_or r false ≡ option_map_or (λ t. bytes_eq t true_text) text false
+found_flag : (text : Option (List ℕ)) (r : Option Bool) → (text ≡ None → r ≡ None)
+    → ((t : List ℕ) → text ≡ Some t → ReadsOne (ParsesBool {E = ParseBoolError}) t r)
+    → unwrap_or r false ≡ option_map_or (λ t. bytes_eq t true_text) text false
 found_flag None r none some = rw (none refl) refl
 found_flag (Some text) r none some = read_flag text r (some text refl)
 
-pub flag_read : (flag : List ℕ) (found : Found) {r : Option Bool} {b : Bool} → (one_text found flag ≡ None → r ≡ None) → ((t : List ℕ) → one_text found flag ≡ Some t → ReadsOne (ParsesBool {E = ParseBoolError}) t r) → b ≡ unwrap_or r false → b ≡ is_given flag (rows_of found)
+pub flag_read : (flag : List ℕ) (found : Found) {r : Option Bool} {b : Bool}
+    → (one_text found flag ≡ None → r ≡ None)
+    → ((t : List ℕ) → one_text found flag ≡ Some t → ReadsOne (ParsesBool {E = ParseBoolError}) t r)
+    → b ≡ unwrap_or r false → b ≡ is_given flag (rows_of found)
 flag_read flag found {r} none some is =
     is ∙ rw (← one_text-rows found flag) (found_flag (one_text found flag) r none some)
 
@@ -89,6 +103,8 @@ unwrapped None other = refl
 unwrapped (Some s) other = refl
 
 -- the text of an argument, or the other one
-pub text_read : (id : List ℕ) (found : Found) (r : Option (Bor (List ℕ))) (other : Bor (List ℕ)) {text : Bor (List ℕ)} → option_map (λ s. s.now) r ≡ first_value found id → text ≡ unwrap_or r other → text.now ≡ unwrap_or (first_of id (rows_of found)) other.now
+pub text_read : (id : List ℕ) (found : Found) (r : Option (Bor (List ℕ))) (other : Bor (List ℕ))
+    {text : Bor (List ℕ)} → option_map (λ s. s.now) r ≡ first_value found id → text ≡ unwrap_or r other
+    → text.now ≡ unwrap_or (first_of id (rows_of found)) other.now
 text_read id found r other read is =
     ap (λ s. s.now) is ∙ unwrapped r other ∙ ap (λ o. unwrap_or o other.now) (read ∙ first_value-rows found id)

@@ -21,13 +21,17 @@ json_one [] d one = absurd (omega (arith, one))
 json_one (t ∷ []) d one = refl
 json_one (t ∷ u ∷ totals) d one = absurd (omega (arith, one))
 
-pub json_more : (totals : List CacheTotals) (d : CacheTotals) → (length totals ≡ 0 → ⊥) → (length totals ≡ 1 → ⊥) → replay_json totals ≡ codes "{\"caches\":[" ++ cache_object (get_or totals 0 d) ++ flat_map next_object (drop 1 totals) ++ codes "]}"
+pub json_more : (totals : List CacheTotals) (d : CacheTotals) → (length totals ≡ 0 → ⊥) → (length totals ≡ 1 → ⊥)
+    → replay_json totals ≡ codes "{\"caches\":[" ++ cache_object (get_or totals 0 d) ++ flat_map next_object
+    (drop 1 totals) ++ codes "]}"
 json_more [] d some more = absurd (some refl)
 json_more (t ∷ []) d some more = absurd (more refl)
 json_more (t ∷ u ∷ totals) d some more = refl
 
 -- one part more of a text that is made of parts
-pub flat_more : (part : CacheTotals → List ℕ) (old : List ℕ) (totals : List CacheTotals) (i : ℕ) (d : CacheTotals) {a b : List ℕ} → i < length totals → a ≡ old ++ flat_map part (take i totals) → b ≡ a ++ part (get_or totals i d) → b ≡ old ++ flat_map part (take (i + 1) totals)
+pub flat_more : (part : CacheTotals → List ℕ) (old : List ℕ) (totals : List CacheTotals) (i : ℕ) (d : CacheTotals)
+    {a b : List ℕ} → i < length totals → a ≡ old ++ flat_map part (take i totals)
+    → b ≡ a ++ part (get_or totals i d) → b ≡ old ++ flat_map part (take (i + 1) totals)
 flat_more part old totals i d below was put =
     let x : CacheTotals = get_or totals i d in
     let before : List ℕ = flat_map part (take i totals) in

@@ -23,11 +23,15 @@ module _ (word : Word) (m : Meaning) {W : Type 0} (o : Output W) where
 
 -- the totals of a load
 module _ (load : Load) {W : Type 0} (o : Output W) where
-  load_ends : (totals : Totals) (end : Result (Unit {0}) ProgramFault) → IsLoad load.shape load.seed (non_zero_u32_get load.keys) load.commands totals → ShowOutcome (text_in load.format totals) o end → LoadOutcome load o end
+  load_ends : (totals : Totals) (end : Result (Unit {0}) ProgramFault)
+      → IsLoad load.shape load.seed (non_zero_u32_get load.keys) load.commands totals
+      → ShowOutcome (text_in load.format totals) o end → LoadOutcome load o end
   load_ends totals (Ok v) is shown = (totals, is, shown)
   load_ends totals (Err fault.Write) is shown = (totals, is, shown)
   load_ends totals (Err f) is shown = absurd shown
 
-  pub load_shown : (end : Result (Unit {0}) ProgramFault) {text lines : List ℕ} → (totals : Totals) × IsLoad load.shape load.seed (non_zero_u32_get load.keys) load.commands totals × (text ≡ text_in load.format totals) → lines ≡ text → ShowOutcome lines o end
+  pub load_shown : (end : Result (Unit {0}) ProgramFault) {text lines : List ℕ} → (totals : Totals)
+      × IsLoad load.shape load.seed (non_zero_u32_get load.keys) load.commands totals
+      × (text ≡ text_in load.format totals) → lines ≡ text → ShowOutcome lines o end
       → LoadOutcome load o end
   load_shown end told same shown = load_ends told.0 end told.1 (subst (λ l. ShowOutcome l o end) (same ∙ told.2) shown)

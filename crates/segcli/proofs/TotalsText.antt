@@ -19,7 +19,10 @@ if_ok (Err e) so p = p
 
 module _ (text_of : ℕ → PassTotals → List ℕ) where
   -- with the text of one pass more, the texts of the passes after it are still to come
-  pub one_pass_more : (text all : List ℕ) (n : ℕ) (passes : List PassTotals) (d : PassTotals) {more : List ℕ} → n < length passes → text ++ texts_from text_of n (drop n passes) ≡ all → more ≡ text ++ text_of n (get_or passes n d) → more ++ texts_from text_of (n + 1) (drop (n + 1) passes) ≡ all
+  pub one_pass_more : (text all : List ℕ) (n : ℕ) (passes : List PassTotals) (d : PassTotals) {more : List ℕ}
+      → n < length passes → text ++ texts_from text_of n (drop n passes) ≡ all
+      → more ≡ text ++ text_of n (get_or passes n d)
+      → more ++ texts_from text_of (n + 1) (drop (n + 1) passes) ≡ all
   one_pass_more text all n passes d there is put =
       let line : List ℕ = text_of n (get_or passes n d) in
       ap (λ l. l ++ texts_from text_of (n + 1) (drop (n + 1) passes)) put

@@ -32,7 +32,9 @@ script_alone : IsReadAsCommand (codes "script" ∷ []) (Ok (command.Script defau
 unfolding command_line clap_on_literals digits
 script_alone = (refl, (refl, (default_shape, refl, refl), refl, refl))
 
-load_with_options : (keys : NonZeroU32) → non_zero_u32_get keys ≡ 64 → IsReadAsCommand (codes "load" ∷ codes "--seed" ∷ codes "7" ∷ codes "--rows=4" ∷ []) (Ok (command.Load (record (load_alone keys) { shape = record default_shape { rows = 4 }; seed = 7 })))
+load_with_options : (keys : NonZeroU32) → non_zero_u32_get keys ≡ 64
+    → IsReadAsCommand (codes "load" ∷ codes "--seed" ∷ codes "7" ∷ codes "--rows=4" ∷ [])
+    (Ok (command.Load (record (load_alone keys) { shape = record default_shape { rows = 4 }; seed = 7 })))
 unfolding command_line clap_on_literals digits load_alone
 load_with_options keys is = (refl, (refl, record { shape = (default_shape, refl, refl); seed = refl; commands = refl; keys = is; format = refl; stats = refl; progress = refl; explain = refl }))
 
@@ -40,7 +42,9 @@ load_over_keys : (keys : NonZeroU32) → non_zero_u32_get keys ≡ 1000000 → I
 unfolding command_line clap_on_literals digits load_alone
 load_over_keys keys is = (refl, (refl, record { shape = (default_shape, refl, refl); seed = refl; commands = refl; keys = is; format = refl; stats = refl; progress = refl; explain = refl }))
 
-load_told : (keys : NonZeroU32) → non_zero_u32_get keys ≡ 64 → IsReadAsCommand (codes "load" ∷ codes "--progress" ∷ codes "--format=json" ∷ codes "--stats" ∷ []) (Ok (command.Load (record (load_alone keys) { format = format.Json; stats = true; progress = true })))
+load_told : (keys : NonZeroU32) → non_zero_u32_get keys ≡ 64
+    → IsReadAsCommand (codes "load" ∷ codes "--progress" ∷ codes "--format=json" ∷ codes "--stats" ∷ [])
+    (Ok (command.Load (record (load_alone keys) { format = format.Json; stats = true; progress = true })))
 unfolding command_line clap_on_literals digits load_alone
 load_told keys is = (refl, (refl, record { shape = (default_shape, refl, refl); seed = refl; commands = refl; keys = is; format = refl; stats = refl; progress = refl; explain = refl }))
 

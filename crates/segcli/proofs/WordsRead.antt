@@ -1,5 +1,6 @@
 -- What is read of the words, from what `clap` says of its matches and of its faults.
-use Rattle.std.proofs.Common.{◌≡◌, ◌∙◌, ◌==◌, length, ◌⊎◌, ◌||◌, Bool, cond, true, false, not, List, [], ◌∷◌, Option, Some, None, Result, Ok, Err, IsSomeAnd, ap, refl, sym, subst, true≢false, inl, inr, map, codes}
+use Rattle.std.proofs.Common.{◌≡◌, ◌∙◌, ◌==◌, length, ◌⊎◌, ◌||◌, Bool, cond, true, false, not, List, [], ◌∷◌,
+    Option, Some, None, Result, Ok, Err, IsSomeAnd, ap, refl, sym, subst, true≢false, inl, inr, map, codes}
 use Rattle.std.specs.Prelude.{⊤, Box, option_map}
 use Rattle.std.specs.List.{find, list_any}
 use Rattle.std.specs.Str.{bytes_eq}
@@ -45,7 +46,9 @@ of_words (word ∷ words) read some is = is
 
 -- ---- a command
 
-pub command_read : (words : List Text) (found : Text × List Row) (asked : Command) → fault_of command_line words ≡ [] → subcommand_of command_line words ≡ Some found → IsAsked found asked → IsReadByClap words (Ok asked)
+pub command_read : (words : List Text) (found : Text × List Row) (asked : Command)
+    → fault_of command_line words ≡ [] → subcommand_of command_line words ≡ Some found → IsAsked found asked
+    → IsReadByClap words (Ok asked)
 command_read words found (command.Script shape explain file) none is asked = (none, subst (λ o. IsSomeAnd o (λ f. IsAsked f (command.Script shape explain file))) (sym is) asked)
 command_read words found (command.Load load) none is asked = (none, subst (λ o. IsSomeAnd o (λ f. IsAsked f (command.Load load))) (sym is) asked)
 command_read words found (command.Replay replay) none is asked = (none, subst (λ o. IsSomeAnd o (λ f. IsAsked f (command.Replay replay))) (sym is) asked)
@@ -53,7 +56,9 @@ command_read words found (command.Word word) none is asked = (none, subst (λ o.
 command_read words found (command.Show text) none is asked = absurd asked
 
 -- a format or a kind that is none
-pub choice_read : (words : List Text) (found : Text × List Row) (why : String Global) → fault_of command_line words ≡ [] → subcommand_of command_line words ≡ Some found → IsMisnamed found → IsReadByClap words (Err (refusal.Usage why))
+pub choice_read : (words : List Text) (found : Text × List Row) (why : String Global)
+    → fault_of command_line words ≡ [] → subcommand_of command_line words ≡ Some found → IsMisnamed found
+    → IsReadByClap words (Err (refusal.Usage why))
 choice_read words found why none is named = inr (none, subst (λ o. IsSomeAnd o IsMisnamed) (sym is) named)
 
 abbrev Each : (CommandRules → Type 0) → List CommandRules → Type 0
@@ -61,11 +66,14 @@ Each P [] = ⊤
 Each P (s ∷ rest) = P s × Each P rest
 
 -- what holds of the name of each command that the test finds, holds of the name that was found
-found_name : (P : Text → Type 0) (test : CommandRules → Bool) (words : List Text) (commands : List CommandRules) (found : Text × List Row) → Each (λ s. test s ≡ true → P s.name) commands → option_map (λ s. rows_at s words) (find test commands) ≡ Some found → P found.0
+found_name : (P : Text → Type 0) (test : CommandRules → Bool) (words : List Text) (commands : List CommandRules)
+    (found : Text × List Row) → Each (λ s. test s ≡ true → P s.name) commands
+    → option_map (λ s. rows_at s words) (find test commands) ≡ Some found → P found.0
 found_name P test words [] found each is = absurd (cc)
 found_name P test words (s ∷ rest) found each is = go (test s) each.0 (found_name P test words rest found each.1) is
   where
-    go : (b : Bool) → (b ≡ true → P s.name) → (option_map (λ s. rows_at s words) (find test rest) ≡ Some found → P found.0) → option_map (λ s. rows_at s words) (cond b (Some s) (find test rest)) ≡ Some found → P found.0
+    go : (b : Bool) → (b ≡ true → P s.name) → (option_map (λ s. rows_at s words) (find test rest) ≡ Some found
+        → P found.0) → option_map (λ s. rows_at s words) (cond b (Some s) (find test rest)) ≡ Some found → P found.0
     go true here later is = let same : rows_at s words ≡ found = cc in subst (λ (f : Text × List Row). P f.0) same (here refl)
     go false here later is = later is
 
@@ -91,12 +99,15 @@ command_name words found none is =
 
 module _ {Z : Type 0} where
   -- the subcommand of a parse
-  pub found_rows : (o : Option (Box SubCommand Z)) (name : Text) (rows : List Row) → Some name ≡ option_map (λ b. (out-SubCommand (box_value b)).name.now) o → Some rows ≡ option_map (λ p. p.1) (subcommand_rows o) → subcommand_rows o ≡ Some (name, rows)
+  pub found_rows : (o : Option (Box SubCommand Z)) (name : Text) (rows : List Row)
+      → Some name ≡ option_map (λ b. (out-SubCommand (box_value b)).name.now) o
+      → Some rows ≡ option_map (λ p. p.1) (subcommand_rows o) → subcommand_rows o ≡ Some (name, rows)
   found_rows None name rows named with_rows = absurd (cc)
   found_rows (Some b) name rows named with_rows = cc
 
 -- what `clap` finds without a fault
-pub parse_found : (app : App) (words : List Text) (m : ArgMatches) (name : Text) (rows : List Row) → app ≡ command_line → (is_simple_and_free app ≡ true → fault_of app words ≡ []) → HasMatchesOf app words m
+pub parse_found : (app : App) (words : List Text) (m : ArgMatches) (name : Text) (rows : List Row)
+    → app ≡ command_line → (is_simple_and_free app ≡ true → fault_of app words ≡ []) → HasMatchesOf app words m
     → Some name ≡ subcommand_name_of m → Some rows ≡ option_map (λ p. p.1) (subcommand_rows_of m) → (fault_of command_line words ≡ []) × (subcommand_of command_line words ≡ Some (name, rows))
 parse_found app words m name rows line none matches named with_rows =
     let free : is_simple_and_free app ≡ true = ap is_simple_and_free line ∙ is_simple_line in (

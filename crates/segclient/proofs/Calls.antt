@@ -101,7 +101,10 @@ bare_within deadline cutoff = record {
 
 module _ (b : Board) (from to : Plan) (within : IsWithin from to) where
   call_within : (call : PutCall) (p q : Pass) → IsCall b from call p q → IsCall b to call p q
-  call_within (sets told) p q (key, value, now, is, fresh, set, writes) = (key, value, now, within.request (Set key value now) is, (λ until stores. subst (λ span. IsInSpan span until) (within.span (Set key value now) is) (fresh until stores)), set, writes)
+  call_within (sets told) p q (key, value, now, is, fresh, set, writes) =
+      (key, value, now, within.request (Set key value now) is,
+      (λ until stores. subst (λ span. IsInSpan span until) (within.span (Set key value now) is)
+      (fresh until stores)), set, writes)
   call_within (evicts segment told) p q is = is
   call_within (keeps segment row cutoff told) p q is = (is.0, (is.1.0, within.cutoff is.1.0 is.1.1, is.1.2), is.2)
   call_within (refills segment told) p q is = (is.0, subst (λ deadline. RefillsSegment b segment deadline told p q) within.deadline is.1)
@@ -136,7 +139,8 @@ effort_more call earlier first one = record {
 }
 
 -- one call
-pub effort_one : (call : PutCall) (effort : Effort) → effort.refilled ≡ came_to refilled_segments call → effort.kept ≡ came_to kept_items call → effort.keys ≡ came_to evicted_keys call → IsEffort (call ∷ []) effort
+pub effort_one : (call : PutCall) (effort : Effort) → effort.refilled ≡ came_to refilled_segments call
+    → effort.kept ≡ came_to kept_items call → effort.keys ≡ came_to evicted_keys call → IsEffort (call ∷ []) effort
 effort_one call effort one two three = let is = effort_more call [] (effort_from 0 0 0) no_effort in record {
   refilled = let x = is.refilled in omega (arith, x, one);
   kept = let x = is.kept in omega (arith, x, two);
@@ -165,7 +169,8 @@ module _ (b : Board) (cutoff : Option ℕ) (deadline : ℕ) where
   abbrev pub arranges_none : (p : Pass) → Arranges b cutoff deadline 0 (effort_from 0 0 0) p p
   arranges_none p = record { calls = []; makes = none_made b (room_plan cutoff deadline) p; few = omega arith; comes = no_effort }
 
-  abbrev pub arranges_then : (m n : ℕ) (first more : Effort) (p q r : Pass) → Arranges b cutoff deadline m first p q → Arranges b cutoff deadline n more q r → Arranges b cutoff deadline (m + n) (both first more) p r
+  abbrev pub arranges_then : (m n : ℕ) (first more : Effort) (p q r : Pass) → Arranges b cutoff deadline m first p q
+      → Arranges b cutoff deadline n more q r → Arranges b cutoff deadline (m + n) (both first more) p r
   arranges_then m n first more p q r one then = record {
     calls = then.calls ++ one.calls;
     makes = makes_then b (room_plan cutoff deadline) then.calls one.calls p q r one.makes then.makes;
@@ -178,7 +183,9 @@ module _ (b : Board) (cutoff : Option ℕ) (deadline : ℕ) where
   none_arranges most effort p none = record { calls = []; makes = none_made b (room_plan cutoff deadline) p; few = omega arith; comes = subst (IsEffort []) (sym none) no_effort }
 
   -- some and then more, whose efforts were added up
-  pub arranges_plus : (m n total : ℕ) (first more all : Effort) (p q r : Pass) → m + n ≤ total → all ≡ both first more → Arranges b cutoff deadline m first p q → Arranges b cutoff deadline n more q r → Arranges b cutoff deadline total all p r
+  pub arranges_plus : (m n total : ℕ) (first more all : Effort) (p q r : Pass) → m + n ≤ total
+      → all ≡ both first more → Arranges b cutoff deadline m first p q → Arranges b cutoff deadline n more q r
+      → Arranges b cutoff deadline total all p r
   arranges_plus m n total first more all p q r enough sum one then = record {
     calls = then.calls ++ one.calls;
     makes = makes_then b (room_plan cutoff deadline) then.calls one.calls p q r one.makes then.makes;
@@ -187,7 +194,9 @@ module _ (b : Board) (cutoff : Option ℕ) (deadline : ℕ) where
   }
 
   -- the same with a higher bound, and other names for the numbers
-  abbrev pub arranges_as : (m n : ℕ) (first effort : Effort) (p q : Pass) → m ≤ n → effort.refilled ≡ first.refilled → effort.kept ≡ first.kept → effort.keys ≡ first.keys → Arranges b cutoff deadline m first p q → Arranges b cutoff deadline n effort p q
+  abbrev pub arranges_as : (m n : ℕ) (first effort : Effort) (p q : Pass) → m ≤ n → effort.refilled ≡ first.refilled
+      → effort.kept ≡ first.kept → effort.keys ≡ first.keys → Arranges b cutoff deadline m first p q
+      → Arranges b cutoff deadline n effort p q
   arranges_as m n first effort p q enough one two three is = record {
     calls = is.calls;
     makes = is.makes;
@@ -195,7 +204,9 @@ module _ (b : Board) (cutoff : Option ℕ) (deadline : ℕ) where
     comes = same_effort is.calls first effort one two three is.comes;
   }
 
-  one_arranges : (call : PutCall) (effort : Effort) (p q : Pass) → effort.refilled ≡ came_to refilled_segments call → effort.kept ≡ came_to kept_items call → effort.keys ≡ came_to evicted_keys call → IsCall b (room_plan cutoff deadline) call p q → Arranges b cutoff deadline 1 effort p q
+  one_arranges : (call : PutCall) (effort : Effort) (p q : Pass) → effort.refilled ≡ came_to refilled_segments call
+      → effort.kept ≡ came_to kept_items call → effort.keys ≡ came_to evicted_keys call
+      → IsCall b (room_plan cutoff deadline) call p q → Arranges b cutoff deadline 1 effort p q
   one_arranges call effort p q one two three is = record {
     calls = call ∷ [];
     makes = one_more b (room_plan cutoff deadline) call [] p p q (none_made b (room_plan cutoff deadline) p) is;
@@ -203,25 +214,40 @@ module _ (b : Board) (cutoff : Option ℕ) (deadline : ℕ) where
     comes = effort_one call effort one two three;
   }
 
-  pub evict_arranges : (segment : ℕ) (told : EvictAnswer) (effort : Effort) (p q : Pass) → effort.refilled ≡ 0 → effort.kept ≡ 0 → effort.keys ≡ evicted_by told → owner b.shape segment ≡ number p → EvictsSegment b segment told p q → Arranges b cutoff deadline 1 effort p q
+  pub evict_arranges : (segment : ℕ) (told : EvictAnswer) (effort : Effort) (p q : Pass) → effort.refilled ≡ 0
+      → effort.kept ≡ 0 → effort.keys ≡ evicted_by told → owner b.shape segment ≡ number p
+      → EvictsSegment b segment told p q → Arranges b cutoff deadline 1 effort p q
   evict_arranges segment told effort p q one two three own went = one_arranges (evicts segment told) effort p q one two (three ∙ evicted_came segment told) (own, went)
 
-  pub refill_arranges : (segment : ℕ) (told : RefillAnswer) (effort : Effort) (p q : Pass) → effort.refilled ≡ refilled_by told → effort.kept ≡ 0 → effort.keys ≡ 0 → owner b.shape segment ≡ number p → RefillsSegment b segment deadline told p q → Arranges b cutoff deadline 1 effort p q
+  pub refill_arranges : (segment : ℕ) (told : RefillAnswer) (effort : Effort) (p q : Pass)
+      → effort.refilled ≡ refilled_by told → effort.kept ≡ 0 → effort.keys ≡ 0 → owner b.shape segment ≡ number p
+      → RefillsSegment b segment deadline told p q → Arranges b cutoff deadline 1 effort p q
   refill_arranges segment told effort p q one two three own filled = one_arranges (refills segment told) effort p q (one ∙ refilled_came segment told) two three (own, filled)
 
-  pub row_arranges : (least segment row by : ℕ) (told : KeepRowAnswer) (effort : Effort) (p q : Pass) → cutoff ≡ Some least → least ≤ by → effort.refilled ≡ 0 → effort.kept ≡ came_to kept_items (keeps segment row by told) → effort.keys ≡ 0 → owner b.shape segment ≡ number p → KeepsItem b segment row by told p q
+  pub row_arranges : (least segment row by : ℕ) (told : KeepRowAnswer) (effort : Effort) (p q : Pass)
+      → cutoff ≡ Some least → least ≤ by → effort.refilled ≡ 0
+      → effort.kept ≡ came_to kept_items (keeps segment row by told) → effort.keys ≡ 0
+      → owner b.shape segment ≡ number p → KeepsItem b segment row by told p q
       → Arranges b cutoff deadline 1 effort p q
   row_arranges least segment row by told effort p q is enough one two three own stayed = one_arranges (keeps segment row by told) effort p q one two three (own, (least, is, enough), stayed)
 
   -- a row more is gone over
-  pub row_more : (least segment at by row more : ℕ) (before : ℕ) (told : KeepRowAnswer) (p q r : Pass) → cutoff ≡ Some least → least ≤ by → owner b.shape segment ≡ number p → number q ≡ number p → more ≡ came_to kept_items (keeps segment at by told) → Arranges b cutoff deadline row (effort_from 0 before 0) p q → KeepsItem b segment at by told q r
+  pub row_more : (least segment at by row more : ℕ) (before : ℕ) (told : KeepRowAnswer) (p q r : Pass)
+      → cutoff ≡ Some least → least ≤ by → owner b.shape segment ≡ number p → number q ≡ number p
+      → more ≡ came_to kept_items (keeps segment at by told)
+      → Arranges b cutoff deadline row (effort_from 0 before 0) p q → KeepsItem b segment at by told q r
       → Arranges b cutoff deadline (row + 1) (effort_from 0 (before + more) 0) p r
   row_more least segment at by row more before told p q r is enough own same count over stayed =
-      arranges_then row 1 (effort_from 0 before 0) (effort_from 0 more 0) p q r over (row_arranges least segment at by told (effort_from 0 more 0) q r is enough refl count refl (own ∙ sym same) stayed)
+      arranges_then row 1 (effort_from 0 before 0) (effort_from 0 more 0) p q r over
+          (row_arranges least segment at by told (effort_from 0 more 0) q r is enough refl count refl (own
+          ∙ sym same) stayed)
 
   -- those of a client that keeps nothing are those of one that keeps
-  abbrev pub arranges_wider : (most : ℕ) (effort : Effort) (p q : Pass) → (bare : Arranges b None deadline most effort p q) → (wide : Arranges b cutoff deadline most effort p q) × (wide.calls ≡ bare.calls)
+  abbrev pub arranges_wider : (most : ℕ) (effort : Effort) (p q : Pass)
+      → (bare : Arranges b None deadline most effort p q) → (wide : Arranges b cutoff deadline most effort p q)
+      × (wide.calls ≡ bare.calls)
   arranges_wider most effort p q bare = (
-    record { calls = bare.calls; makes = makes_within b (room_plan None deadline) (room_plan cutoff deadline) (bare_within deadline cutoff) bare.calls p q bare.makes; few = bare.few; comes = bare.comes },
+    record { calls = bare.calls; makes = makes_within b (room_plan None deadline) (room_plan cutoff deadline)
+        (bare_within deadline cutoff) bare.calls p q bare.makes; few = bare.few; comes = bare.comes },
     refl,
   )

@@ -42,7 +42,9 @@ stays_then shape p q r one then = λ source cleared. then source (one source cle
 
 module _ (b : Board) (p q : Pass) (quiet : IsQuiet b p) (on : GoesOn b p q) where
   -- the source that is cleared isn't among what is refilled
-  pub source_stays : (source : Option Source) (added : List Entry) → mine q ≡ added ++ mine p → ((one : Source) → source ≡ Some one → NoneFills one.segment added) → IsCleared b.shape source p → IsCleared b.shape source q
+  pub source_stays : (source : Option Source) (added : List Entry) → mine q ≡ added ++ mine p
+      → ((one : Source) → source ≡ Some one → NoneFills one.segment added) → IsCleared b.shape source p
+      → IsCleared b.shape source q
   source_stays None added is none cleared = tt
   source_stays (Some source) added is none cleared = (cleared.0 ∙ sym on.same, unnamed_stay b p q source.segment source.row added quiet on is (none source refl) cleared.1)
 
@@ -91,7 +93,9 @@ module _ (b : Board) (p q : Pass) (quiet : IsQuiet b p) where
   hold_stays key now hold_answer.AlreadyHolding holds = stays_same b.shape p q holds.answer
 
   -- a refill of another segment
-  pub refill_stays : (segment deadline : ℕ) (told : RefillAnswer) (source : Option Source) → ((one : Source) → source ≡ Some one → one.segment ≢ segment) → RefillsSegment b segment deadline told p q → IsCleared b.shape source p → IsCleared b.shape source q
+  pub refill_stays : (segment deadline : ℕ) (told : RefillAnswer) (source : Option Source)
+      → ((one : Source) → source ≡ Some one → one.segment ≢ segment) → RefillsSegment b segment deadline told p q
+      → IsCleared b.shape source p → IsCleared b.shape source q
   refill_stays segment deadline refill.Refilled source other filled =
       source_stays b p q quiet filled.on source (Refilled (number p) segment deadline ∷ []) filled.answer.entry
       (λ one is. ((λ pass late same. other one is (sym (refilled_in (number p) pass segment one.segment deadline late same))), tt))

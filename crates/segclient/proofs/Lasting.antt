@@ -38,7 +38,9 @@ set_for b plan p q quiet (key, value, now, is, within, set, writes) =
       within has.0 (segment, uses.current, has.1),
     )
 
-pub put_for : (b : Board) (plan : Plan) (pass : ℕ) (told : PutAnswer) (calls : List PutCall) (p q : Pass) → IsQuiet b p → IsPutAnswer b.shape pass told calls → Makes b plan calls p q → told ≡ put.Stored → StoredFor plan.span q
+pub put_for : (b : Board) (plan : Plan) (pass : ℕ) (told : PutAnswer) (calls : List PutCall) (p q : Pass)
+    → IsQuiet b p → IsPutAnswer b.shape pass told calls → Makes b plan calls p q → told ≡ put.Stored
+    → StoredFor plan.span q
 put_for b plan pass told calls p q quiet answer makes stored =
     let last = subst (λ t. IsPutAnswer b.shape pass t calls) stored answer in
     let made = last_of b plan (sets write.Stored) last.0 p q (subst (λ l. Makes b plan l p q) last.1 makes) in

@@ -53,7 +53,9 @@ both_none effort =
     let one : effort.refilled ≡ 0 + effort.refilled = omega arith in
     let two : effort.kept ≡ 0 + effort.kept = omega arith in
     let three : effort.keys ≡ 0 + effort.keys = omega arith in
-    ap (λ (n : ℕ). effort_from n effort.kept effort.keys) one ∙ ap (λ (n : ℕ). effort_from (0 + effort.refilled) n effort.keys) two ∙ ap (λ (n : ℕ). effort_from (0 + effort.refilled) (0 + effort.kept) n) three
+    ap (λ (n : ℕ). effort_from n effort.kept effort.keys) one
+        ∙ ap (λ (n : ℕ). effort_from (0 + effort.refilled) n effort.keys) two
+        ∙ ap (λ (n : ℕ). effort_from (0 + effort.refilled) (0 + effort.kept) n) three
 
 pub aside_refilled : (segment : ℕ) (told : RefillAnswer) → refilled_by told ≡ came_to_step refilled_segments (refills_aside segment told)
 aside_refilled segment refill.Refilled = refl
@@ -76,7 +78,8 @@ module _ (b : Board) (cutoff : Option ℕ) (deadline : ℕ) where
   none_clears p = record { steps = []; clears = none_cleared b cutoff deadline p; few = omega arith; comes = no_steps }
 
   -- by other names, and within more steps
-  pub clears_as : (most total : ℕ) (first effort : Effort) (p q : Pass) → most ≤ total → effort ≡ first → ClearsAtMost b cutoff deadline most first p q → ClearsAtMost b cutoff deadline total effort p q
+  pub clears_as : (most total : ℕ) (first effort : Effort) (p q : Pass) → most ≤ total → effort ≡ first
+      → ClearsAtMost b cutoff deadline most first p q → ClearsAtMost b cutoff deadline total effort p q
   clears_as most total first effort p q enough same clears = subst (λ e. ClearsAtMost b cutoff deadline total e p q) (sym same) (record {
     steps = clears.steps;
     clears = clears.clears;
@@ -84,7 +87,9 @@ module _ (b : Board) (cutoff : Option ℕ) (deadline : ℕ) where
     comes = clears.comes;
   })
 
-  pub clears_then : (most more total : ℕ) (first last sum : Effort) (p q r : Pass) → most + more ≤ total → sum ≡ both first last → ClearsAtMost b cutoff deadline most first p q → ClearsAtMost b cutoff deadline more last q r
+  pub clears_then : (most more total : ℕ) (first last sum : Effort) (p q r : Pass) → most + more ≤ total
+      → sum ≡ both first last → ClearsAtMost b cutoff deadline most first p q
+      → ClearsAtMost b cutoff deadline more last q r
       → ClearsAtMost b cutoff deadline total sum p r
   clears_then most more total first last sum p q r enough same one two = subst (λ e. ClearsAtMost b cutoff deadline total e p r) (sym same) (record {
     steps = two.steps ++ one.steps;
@@ -94,7 +99,9 @@ module _ (b : Board) (cutoff : Option ℕ) (deadline : ℕ) where
   })
 
   -- by the same numbers one by one
-  pub some_clears : (step : Step) (effort : Effort) (p q : Pass) → effort.refilled ≡ came_to_step refilled_segments step → effort.kept ≡ came_to_step kept_items step → effort.keys ≡ came_to_step evicted_keys step
+  pub some_clears : (step : Step) (effort : Effort) (p q : Pass)
+      → effort.refilled ≡ came_to_step refilled_segments step → effort.kept ≡ came_to_step kept_items step
+      → effort.keys ≡ came_to_step evicted_keys step
       → IsStep b cutoff deadline step p q → ClearsAtMost b cutoff deadline 1 effort p q
   some_clears step effort p q one two three is = record {
     steps = step ∷ [];
@@ -104,7 +111,8 @@ module _ (b : Board) (cutoff : Option ℕ) (deadline : ℕ) where
   }
 
   -- a step that came to nothing, and then others
-  pub clears_after : (most more total : ℕ) (last : Effort) (p q r : Pass) → most + more ≤ total → ClearsAtMost b cutoff deadline most (effort_from 0 0 0) p q → ClearsAtMost b cutoff deadline more last q r
+  pub clears_after : (most more total : ℕ) (last : Effort) (p q r : Pass) → most + more ≤ total
+      → ClearsAtMost b cutoff deadline most (effort_from 0 0 0) p q → ClearsAtMost b cutoff deadline more last q r
       → ClearsAtMost b cutoff deadline total last p r
   clears_after most more total last p q r enough one two = clears_then most more total (effort_from 0 0 0) last last p q r enough (both_none last) one two
 
@@ -142,21 +150,33 @@ module _ (b : Board) (source : Source) (p q : Pass) (quiet : IsQuiet b p) (is : 
 
   -- ---- what became of its row
 
-  pub evicted_clears : (cutoff : Option ℕ) (deadline n : ℕ) (told : EvictRowAnswer) (effort : Effort) → effort ≡ effort_from 0 0 n → n ≡ came_to_step evicted_keys (evicts_row source.segment source.row told) → EvictsItem b source.segment source.row told p q
+  pub evicted_clears : (cutoff : Option ℕ) (deadline n : ℕ) (told : EvictRowAnswer) (effort : Effort)
+      → effort ≡ effort_from 0 0 n → n ≡ came_to_step evicted_keys (evicts_row source.segment source.row told)
+      → EvictsItem b source.segment source.row told p q
       → ClearsAtMost b cutoff deadline 1 effort p q
   evicted_clears cutoff deadline n told effort same value evicts = some_clears b cutoff deadline (evicts_row source.segment source.row told) effort p q
       (ap (λ (e : Effort). e.refilled) same) (ap (λ (e : Effort). e.kept) same) (ap (λ (e : Effort). e.keys) same ∙ value)
       ((is.0.0, is.1), evicts)
 
-  kept_once : (least deadline n by into : ℕ) (told : KeepRowAnswer) (effort : Effort) → effort ≡ effort_from 0 n 0 → n ≡ came_to_step kept_items (keeps_into source.segment source.row by into told) → least ≤ by → KeepsItemInto b source.segment source.row by into told p q
+  kept_once : (least deadline n by into : ℕ) (told : KeepRowAnswer) (effort : Effort) → effort ≡ effort_from 0 n 0
+      → n ≡ came_to_step kept_items (keeps_into source.segment source.row by into told) → least ≤ by
+      → KeepsItemInto b source.segment source.row by into told p q
       → ClearsAtMost b (Some least) deadline 1 effort p q
   kept_once least deadline n by into told effort same value enough keeps = some_clears b (Some least) deadline (keeps_into source.segment source.row by into told) effort p q
       (ap (λ (e : Effort). e.refilled) same) (ap (λ (e : Effort). e.kept) same ∙ value) (ap (λ (e : Effort). e.keys) same)
       ((is.0.0, is.1), (least, refl, enough), keeps)
 
-  pub kept_clears : (least deadline n by into : ℕ) (told : KeepRowAnswer) (effort : Effort) → effort ≡ effort_from 0 n 0 → n ≡ came_to_step kept_items (keeps_into source.segment source.row by into told) → least ≤ by → KeepsItemInto b source.segment source.row by into told p q
+  pub kept_clears : (least deadline n by into : ℕ) (told : KeepRowAnswer) (effort : Effort)
+      → effort ≡ effort_from 0 n 0 → n ≡ came_to_step kept_items (keeps_into source.segment source.row by into told)
+      → least ≤ by → KeepsItemInto b source.segment source.row by into told p q
       → ClearsAtMost b (Some least) deadline 2 effort p q
-  kept_clears least deadline n by into told effort same value enough keeps = clears_as b (Some least) deadline 1 2 effort effort p q (omega arith) refl (kept_once least deadline n by into told effort same value enough keeps)
+  kept_clears least deadline n by into told effort same value enough keeps =
+      clears_as b (Some least) deadline 1 2 effort effort p q (omega arith) refl
+      (kept_once least deadline n by into told effort same value enough keeps)
 
-  pub left_clears : (least deadline by into : ℕ) (told : KeepRowAnswer) → told ≡ kept.Left → least ≤ by → KeepsItemInto b source.segment source.row by into told p q → ClearsAtMost b (Some least) deadline 1 (effort_from 0 0 0) p q
-  left_clears least deadline by into told left enough keeps = kept_once least deadline 0 by into told (effort_from 0 0 0) refl (sym (ap (λ t. came_to_step kept_items (keeps_into source.segment source.row by into t)) left)) enough keeps
+  pub left_clears : (least deadline by into : ℕ) (told : KeepRowAnswer) → told ≡ kept.Left → least ≤ by
+      → KeepsItemInto b source.segment source.row by into told p q
+      → ClearsAtMost b (Some least) deadline 1 (effort_from 0 0 0) p q
+  left_clears least deadline by into told left enough keeps =
+      kept_once least deadline 0 by into told (effort_from 0 0 0) refl
+      (sym (ap (λ t. came_to_step kept_items (keeps_into source.segment source.row by into t)) left)) enough keeps

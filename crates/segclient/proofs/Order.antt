@@ -61,11 +61,16 @@ room_open b cutoff deadline [] p q makes = open_none
 room_open b cutoff deadline (sets told ∷ earlier) p q makes =
     let last = last_of b (room_plan cutoff deadline) (sets told) earlier p q makes in absurd (none-some (Set last.2.0 last.2.1 last.2.2) last.2.3)
 room_open b cutoff deadline (evicts segment told ∷ earlier) p q makes =
-    let last = last_of b (room_plan cutoff deadline) (evicts segment told) earlier p q makes in open_more (evicts segment told) earlier (evict_apart segment told) (room_open b cutoff deadline earlier p last.0 last.1)
+    let last = last_of b (room_plan cutoff deadline) (evicts segment told) earlier p q makes in
+        open_more (evicts segment told) earlier (evict_apart segment told)
+        (room_open b cutoff deadline earlier p last.0 last.1)
 room_open b cutoff deadline (keeps segment row by told ∷ earlier) p q makes =
-    let last = last_of b (room_plan cutoff deadline) (keeps segment row by told) earlier p q makes in open_more (keeps segment row by told) earlier (λ e. cc) (room_open b cutoff deadline earlier p last.0 last.1)
+    let last = last_of b (room_plan cutoff deadline) (keeps segment row by told) earlier p q makes in
+        open_more (keeps segment row by told) earlier (λ e. cc)
+        (room_open b cutoff deadline earlier p last.0 last.1)
 room_open b cutoff deadline (refills segment told ∷ earlier) p q makes =
-    let last = last_of b (room_plan cutoff deadline) (refills segment told) earlier p q makes in open_more (refills segment told) earlier (λ e. cc) (room_open b cutoff deadline earlier p last.0 last.1)
+    let last = last_of b (room_plan cutoff deadline) (refills segment told) earlier p q makes in
+        open_more (refills segment told) earlier (λ e. cc) (room_open b cutoff deadline earlier p last.0 last.1)
 
 -- ---- sets in a row
 
@@ -139,7 +144,8 @@ until_then (refills segment told ∷ later) earlier full are = (Contains-append_
 -- ---- efforts
 
 -- the same with other numbers
-pub as_many : (b : Board) (plan : Plan) (most total : ℕ) (told : PutAnswer) (first effort : Effort) (p q : Pass) → most ≤ total → first ≡ effort → MakesPut b plan most told first p q → MakesPut b plan total told effort p q
+pub as_many : (b : Board) (plan : Plan) (most total : ℕ) (told : PutAnswer) (first effort : Effort) (p q : Pass)
+    → most ≤ total → first ≡ effort → MakesPut b plan most told first p q → MakesPut b plan total told effort p q
 as_many b plan most total told first effort p q enough same puts = record {
   calls = puts.calls;
   makes = puts.makes;
@@ -277,8 +283,13 @@ module _ (b : Board) (plan : Plan) where
       let answer = empties.told in
       let own = empties.own ∙ makes_same b plan full.calls p q full.makes in
       let makes = one_more b plan (evicts segment answer) full.calls p q r full.makes (empties.own, empties.evicts) in
-      let was_full = subst (λ l. Contains l (sets write.BucketFull)) (sym full.ends.0.1) (Contains-append_left (sets write.BucketFull ∷ []) full.ends.0.0 (sets write.BucketFull) (Contains-push [] (sets write.BucketFull))) in
-      let alone : IsEffort (evicts segment answer ∷ []) out = effort_one (evicts segment answer) out (ap (λ (e : Effort). e.refilled) empties.comes) (ap (λ (e : Effort). e.kept) empties.comes) (ap (λ (e : Effort). e.keys) empties.comes ∙ evicted_came segment answer) in (
+      let was_full = subst (λ l. Contains l (sets write.BucketFull)) (sym full.ends.0.1)
+          (Contains-append_left (sets write.BucketFull ∷ []) full.ends.0.0 (sets write.BucketFull)
+          (Contains-push [] (sets write.BucketFull))) in
+      let alone : IsEffort (evicts segment answer ∷ []) out =
+          effort_one (evicts segment answer) out (ap (λ (e : Effort). e.refilled) empties.comes)
+          (ap (λ (e : Effort). e.kept) empties.comes) (ap (λ (e : Effort). e.keys) empties.comes
+          ∙ evicted_came segment answer) in (
         record {
           calls = then.calls ++ evicts segment answer ∷ full.calls;
           makes = makes_then b plan then.calls (evicts segment answer ∷ full.calls) p r t makes then.makes;

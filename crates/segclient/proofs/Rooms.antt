@@ -143,7 +143,9 @@ no_room b p none = ap (λ (o : Option ℕ). is_below b.shape.rows (option_and_th
 abbrev pub PassesOver : Board → ℕ → ℕ → ℕ → Pass → Pass → Type 0
 PassesOver b deadline most keys p q = Arranges b None deadline most (effort_from 0 0 keys) p q
 
-module _ (b : Board) (deadline most keys : ℕ) (p q r : Pass) (over : PassesOver b deadline most keys p q) (segment more : ℕ) (own : owner b.shape segment ≡ number q) (total sum : ℕ) (enough : most + 2 ≤ total) (all : sum ≡ keys + more) where
+module _ (b : Board) (deadline most keys : ℕ) (p q r : Pass) (over : PassesOver b deadline most keys p q)
+    (segment more : ℕ) (own : owner b.shape segment ≡ number q) (total sum : ℕ) (enough : most + 2 ≤ total)
+    (all : sum ≡ keys + more) where
   -- one more was refused
   pub record IsRefusedToo : Type 0 where
     pub next : PassesOver b deadline total sum p r
@@ -157,7 +159,8 @@ module _ (b : Board) (deadline most keys : ℕ) (p q r : Pass) (over : PassesOve
       calls = evicts segment (evict.Busy more) ∷ over.calls;
       makes = one_more b (room_plan None deadline) (evicts segment (evict.Busy more)) over.calls p q r over.makes (own, busy);
       few = let few = over.few in omega (arith, few, enough);
-      comes = same_effort _ (effort_from (0 + 0) (0 + 0) (keys + more)) (effort_from 0 0 sum) refl refl all (effort_more (evicts segment (evict.Busy more)) over.calls (effort_from 0 0 keys) over.comes);
+      comes = same_effort _ (effort_from (0 + 0) (0 + 0) (keys + more)) (effort_from 0 0 sum) refl refl all
+          (effort_more (evicts segment (evict.Busy more)) over.calls (effort_from 0 0 keys) over.comes);
     };
     here = inl refl;
     before = λ other was. inr was;
@@ -170,7 +173,9 @@ module _ (b : Board) (deadline most keys : ℕ) (p q r : Pass) (over : PassesOve
           calls = refills segment refill.Held ∷ evicts segment (evict.Evicted more) ∷ over.calls;
           makes = one_more b (room_plan None deadline) (refills segment refill.Held) (evicts segment (evict.Evicted more) ∷ over.calls) p between r first (own ∙ sym out.on.same, held);
           few = let few = over.few in omega (arith, few, enough);
-          comes = same_effort _ (effort_from (0 + 0 + 0) (0 + 0 + 0) (keys + more + 0)) (effort_from 0 0 sum) refl refl (omega (arith, all)) (effort_more (refills segment refill.Held) (evicts segment (evict.Evicted more) ∷ over.calls) (effort_from (0 + 0) (0 + 0) (keys + more)) one);
+          comes = same_effort _ (effort_from (0 + 0 + 0) (0 + 0 + 0) (keys + more + 0)) (effort_from 0 0 sum) refl
+              refl (omega (arith, all)) (effort_more (refills segment refill.Held)
+              (evicts segment (evict.Evicted more) ∷ over.calls) (effort_from (0 + 0) (0 + 0) (keys + more)) one);
         };
         here = inl refl;
         before = λ other was. inr was;
@@ -186,7 +191,9 @@ module _ (b : Board) (deadline most keys : ℕ) (p q r : Pass) (over : PassesOve
           calls = refills segment refill.Refilled ∷ evicts segment (evict.Evicted more) ∷ over.calls;
           makes = one_more b (room_plan None deadline) (refills segment refill.Refilled) (evicts segment (evict.Evicted more) ∷ over.calls) p between r first (own ∙ sym out.on.same, filled);
           few = let few = over.few in omega (arith, few, enough);
-          comes = same_effort _ (effort_from (0 + 0 + 1) (0 + 0 + 0) (keys + more + 0)) (effort_from 1 0 sum) refl refl (omega (arith, all)) (effort_more (refills segment refill.Refilled) (evicts segment (evict.Evicted more) ∷ over.calls) (effort_from (0 + 0) (0 + 0) (keys + more)) one);
+          comes = same_effort _ (effort_from (0 + 0 + 1) (0 + 0 + 0) (keys + more + 0)) (effort_from 1 0 sum) refl
+              refl (omega (arith, all)) (effort_more (refills segment refill.Refilled)
+              (evicts segment (evict.Evicted more) ∷ over.calls) (effort_from (0 + 0) (0 + 0) (keys + more)) one);
         };
         room = refilled_room b segment deadline between r filled;
         until = λ made. refilled_until b segment deadline between r filled;
@@ -208,7 +215,9 @@ module _ (b : Board) (cutoff : Option ℕ) (deadline : ℕ) where
       }
 
   -- calls, after which a row is left in a segment with the deadline
-  pub room_left : (most total : ℕ) (effort : Effort) (p q : Pass) → most ≤ total → Arranges b cutoff deadline most effort p q → has_room b.shape q ≡ true → StoresUntil deadline q → MakesRoom b cutoff deadline total true effort p q
+  pub room_left : (most total : ℕ) (effort : Effort) (p q : Pass) → most ≤ total
+      → Arranges b cutoff deadline most effort p q → has_room b.shape q ≡ true → StoresUntil deadline q
+      → MakesRoom b cutoff deadline total true effort p q
   room_left most total effort p q enough arranges left stores = record {
     arranges = arranges_as b cutoff deadline most total effort effort p q enough refl refl refl arranges;
     room = left;
@@ -217,21 +226,31 @@ module _ (b : Board) (cutoff : Option ℕ) (deadline : ℕ) where
   }
 
   -- calls, and then room was made, or not, by the same policy
-  pub room_later : (most more total : ℕ) (made : Bool) (first effort all : Effort) (p q r : Pass) → most + more ≤ total → all ≡ both first effort → number q ≡ number p → Arranges b cutoff deadline most first p q → MakesRoom b cutoff deadline more made effort q r → MakesRoom b cutoff deadline total made all p r
+  pub room_later : (most more total : ℕ) (made : Bool) (first effort all : Effort) (p q r : Pass)
+      → most + more ≤ total → all ≡ both first effort → number q ≡ number p
+      → Arranges b cutoff deadline most first p q → MakesRoom b cutoff deadline more made effort q r
+      → MakesRoom b cutoff deadline total made all p r
   room_later most more total made first effort all p q r enough sum same one last = record {
-    arranges = arranges_as b cutoff deadline (most + more) total (both first effort) all p r enough (ap (λ (e : Effort). e.refilled) sum) (ap (λ (e : Effort). e.kept) sum) (ap (λ (e : Effort). e.keys) sum) (arranges_then b cutoff deadline most more first effort p q r one last.arranges);
+    arranges = arranges_as b cutoff deadline (most + more) total (both first effort) all p r enough
+        (ap (λ (e : Effort). e.refilled) sum) (ap (λ (e : Effort). e.kept) sum) (ap (λ (e : Effort). e.keys) sum)
+        (arranges_then b cutoff deadline most more first effort p q r one last.arranges);
     room = last.room;
     until = last.until;
     refused = λ none segment own. refused_then segment last.arranges.calls one.calls (last.refused none segment (own ∙ sym same));
   }
 
   -- or by one that keeps nothing
-  pub room_again : (most more total : ℕ) (made : Bool) (first effort all : Effort) (p q r : Pass) → most + more ≤ total → all ≡ both first effort → number q ≡ number p → Arranges b cutoff deadline most first p q → MakesRoom b None deadline more made effort q r → MakesRoom b cutoff deadline total made all p r
+  pub room_again : (most more total : ℕ) (made : Bool) (first effort all : Effort) (p q r : Pass)
+      → most + more ≤ total → all ≡ both first effort → number q ≡ number p
+      → Arranges b cutoff deadline most first p q → MakesRoom b None deadline more made effort q r
+      → MakesRoom b cutoff deadline total made all p r
   room_again most more total made first effort all p q r enough sum same one last =
       room_later most more total made first effort all p q r enough sum same one (room_wider more more made effort q r (omega arith) last)
 
 -- a free segment was refilled
-pub took_free : (b : Board) (deadline segment : ℕ) (p q : Pass) → owner b.shape segment ≡ number p → RefillsSegment b segment deadline refill.Refilled p q → MakesRoom b None deadline 1 true (effort_from 1 0 0) p q
+pub took_free : (b : Board) (deadline segment : ℕ) (p q : Pass) → owner b.shape segment ≡ number p
+    → RefillsSegment b segment deadline refill.Refilled p q
+    → MakesRoom b None deadline 1 true (effort_from 1 0 0) p q
 took_free b deadline segment p q own filled = record {
   arranges = refill_arranges b None deadline segment refill.Refilled (effort_from 1 0 0) p q refl refl refl own filled;
   room = refilled_room b segment deadline p q filled;
@@ -246,5 +265,7 @@ none_by refill.NotEvicted other = refl
 none_by refill.Held other = refl
 
 -- or it wasn't
-pub left_free : (b : Board) (deadline segment : ℕ) (told : RefillAnswer) (p q : Pass) → told ≢ refill.Refilled → owner b.shape segment ≡ number p → RefillsSegment b segment deadline told p q → Arranges b None deadline 1 (effort_from 0 0 0) p q
+pub left_free : (b : Board) (deadline segment : ℕ) (told : RefillAnswer) (p q : Pass) → told ≢ refill.Refilled
+    → owner b.shape segment ≡ number p → RefillsSegment b segment deadline told p q
+    → Arranges b None deadline 1 (effort_from 0 0 0) p q
 left_free b deadline segment told p q other own out = refill_arranges b None deadline segment told (effort_from 0 0 0) p q (sym (none_by told other)) refl refl own out

@@ -70,7 +70,9 @@ module _ (b : Board) (cutoff : Option ℕ) (deadline : ℕ) where
   room_then (refills segment told ∷ later) earlier p q makes first = let was = before (refills segment told) later p q makes in (omega arith, room_then later earlier p was.0 was.1 first)
 
   -- that made some where there was none come after the last set
-  pub apart_then : (later earlier : List PutCall) (p q : Pass) → Makes b (room_plan cutoff deadline) later p q → (last_sets earlier ≡ 0) ⊎ (has_room b.shape p ≡ false) → has_room b.shape q ≡ true → last_sets (later ++ earlier) ≡ 0
+  pub apart_then : (later earlier : List PutCall) (p q : Pass) → Makes b (room_plan cutoff deadline) later p q
+      → (last_sets earlier ≡ 0) ⊎ (has_room b.shape p ≡ false) → has_room b.shape q ≡ true
+      → last_sets (later ++ earlier) ≡ 0
   unfolding last_sets Makes
   apart_then [] earlier p q same (inl none) left = none
   apart_then [] earlier p q same (inr full) left = absurd (false≢true (sym full ∙ ap (has_room b.shape) (sym same) ∙ left))

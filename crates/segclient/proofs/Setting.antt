@@ -52,14 +52,17 @@ module _ (b : Board) (order : Order) where
   no_sets p = none_made b (plan_of order) p
 
   -- one more
-  pub set_more : (told : WriteAnswer) (busy : ℕ) (p q r : Pass) → IsTimely p → Makes b (plan_of order) (busy_sets busy) p q → q.plain ≡ p.plain → IsSetAnswer told → Writes b (Set order.key.now order.value.now order.policy.moment) told q r
+  pub set_more : (told : WriteAnswer) (busy : ℕ) (p q r : Pass) → IsTimely p
+      → Makes b (plan_of order) (busy_sets busy) p q → q.plain ≡ p.plain → IsSetAnswer told
+      → Writes b (Set order.key.now order.value.now order.policy.moment) told q r
       → Makes b (plan_of order) (sets told ∷ busy_sets busy) p r
   set_more told busy p q r timely were same set writes =
       let until = same_until p q same in
       one_more b (plan_of order) (sets told) (busy_sets busy) p q r were
       (order.key.now, order.value.now, order.policy.moment, refl, timely_until q (ap (misses order.policy.span) until ∙ timely), set, writes)
 
-  pub busy_more : (busy : ℕ) (p q r : Pass) → IsTimely p → Makes b (plan_of order) (busy_sets busy) p q → q.plain ≡ p.plain → Writes b (Set order.key.now order.value.now order.policy.moment) write.Busy q r
+  pub busy_more : (busy : ℕ) (p q r : Pass) → IsTimely p → Makes b (plan_of order) (busy_sets busy) p q
+      → q.plain ≡ p.plain → Writes b (Set order.key.now order.value.now order.policy.moment) write.Busy q r
       → Makes b (plan_of order) (busy_sets (busy + 1)) p r
   unfolding busy_sets
   busy_more busy p q r timely were same writes =

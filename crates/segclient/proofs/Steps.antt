@@ -69,13 +69,17 @@ module _ (b : Board) (cutoff : Option ℕ) (deadline : ℕ) where
   abbrev Came : ℕ → ℕ → ℕ → Pass → Pass → Type 0
   Came = Comes b cutoff IsAny
 
-  step_comes : (step : Step) (p q : Pass) → IsQuiet b p → IsStep b cutoff deadline step p q → Came (came_to_step refilled_segments step) (came_to_step kept_items step) (came_to_step evicted_keys step) p q
+  step_comes : (step : Step) (p q : Pass) → IsQuiet b p → IsStep b cutoff deadline step p q
+      → Came (came_to_step refilled_segments step) (came_to_step kept_items step) (came_to_step evicted_keys step) p
+      q
   step_comes (keeps_into segment row by into told) p q quiet is = row_kept_into b cutoff IsAny segment row by into told p q is.0.0 (ap is_some is.1.1) quiet is.2
   step_comes (evicts_row segment row told) p q quiet is = row_evicted b cutoff IsAny segment row told p q is.0.0 quiet is.1
   step_comes (evicts_rest segment from told) p q quiet is = subst (λ n. Came 0 0 n p q) (rest_came segment from told) (evicted_some b cutoff IsAny segment from told p q quiet is.1)
   step_comes (refills_aside segment told) p q quiet is = subst (λ n. Came n 0 0 p q) (aside_came segment told) (some_refilled b cutoff IsAny segment is.1.0 _ told p q tt quiet is.1.2)
 
-  pub clears_come : (steps : List Step) (p q : Pass) → IsQuiet b p → Clears b cutoff deadline steps p q → Came (sum_by (came_to_step refilled_segments) steps) (sum_by (came_to_step kept_items) steps) (sum_by (came_to_step evicted_keys) steps) p q
+  pub clears_come : (steps : List Step) (p q : Pass) → IsQuiet b p → Clears b cutoff deadline steps p q
+      → Came (sum_by (came_to_step refilled_segments) steps) (sum_by (came_to_step kept_items) steps)
+      (sum_by (came_to_step evicted_keys) steps) p q
   unfolding Clears
   clears_come [] p q quiet same = same_none b cutoff IsAny p q quiet same
   clears_come (step ∷ earlier) p q quiet (between, rest, last) =
@@ -84,9 +88,16 @@ module _ (b : Board) (cutoff : Option ℕ) (deadline : ℕ) where
       let one = sum_by-cons (came_to_step refilled_segments) step earlier in
       let two = sum_by-cons (came_to_step kept_items) step earlier in
       let three = sum_by-cons (came_to_step evicted_keys) step earlier in
-      so_many b cutoff IsAny (sum_by (came_to_step refilled_segments) earlier + came_to_step refilled_segments step) (sum_by (came_to_step kept_items) earlier + came_to_step kept_items step) (sum_by (came_to_step evicted_keys) earlier + came_to_step evicted_keys step)
-      (sum_by (came_to_step refilled_segments) (step ∷ earlier)) (sum_by (came_to_step kept_items) (step ∷ earlier)) (sum_by (came_to_step evicted_keys) (step ∷ earlier)) p q (omega (arith, one)) (omega (arith, two)) (omega (arith, three))
-      (comes_then b cutoff IsAny (sum_by (came_to_step refilled_segments) earlier) (sum_by (came_to_step kept_items) earlier) (sum_by (came_to_step evicted_keys) earlier) (came_to_step refilled_segments step) (came_to_step kept_items step) (came_to_step evicted_keys step) p between q first then)
+      so_many b cutoff IsAny (sum_by (came_to_step refilled_segments) earlier + came_to_step refilled_segments step)
+          (sum_by (came_to_step kept_items) earlier + came_to_step kept_items step)
+          (sum_by (came_to_step evicted_keys) earlier + came_to_step evicted_keys step)
+      (sum_by (came_to_step refilled_segments) (step ∷ earlier)) (sum_by (came_to_step kept_items) (step ∷ earlier))
+          (sum_by (came_to_step evicted_keys) (step ∷ earlier)) p q (omega (arith, one)) (omega (arith, two))
+          (omega (arith, three))
+      (comes_then b cutoff IsAny (sum_by (came_to_step refilled_segments) earlier)
+          (sum_by (came_to_step kept_items) earlier) (sum_by (came_to_step evicted_keys) earlier)
+          (came_to_step refilled_segments step) (came_to_step kept_items step) (came_to_step evicted_keys step) p
+          between q first then)
 
 -- what they came to is counted
 pub steps_counted : (steps : List Step) (effort : Effort) (stats : Stats) → IsEffortOf steps effort → with_effort effort stats ≡ cleared_too steps stats

@@ -27,7 +27,10 @@ all_clients shape i passes clients new zip = record {
     long = zip_long (Starts i (Some 0)) passes clients zip ∙ new.made.dealt.long ∙ sym (ap (λ (s : Shape). s.passes) new.made.of)
 
 -- they stay so while each stays the same
-pub still_all : (i : Index) (old new : List Client) → length new ≡ length old → ((n : ℕ) (client : Client) → n < length old → IsSame (slice_index_or old n client) (slice_index_or new n client)) → AreAllClients i old → AreAllClients i new
+pub still_all : (i : Index) (old new : List Client) → length new ≡ length old
+    → ((n : ℕ) (client : Client) → n < length old
+    → IsSame (slice_index_or old n client) (slice_index_or new n client)) → AreAllClients i old
+    → AreAllClients i new
 still_all i old new long same all = record {
   of = λ place client at.
       let below : place < length old = subst (λ count. place < count) long (slice_get_within new place client at) in

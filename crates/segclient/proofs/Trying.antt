@@ -40,7 +40,9 @@ module _ (b : Board) (deadline : ℕ) (current : Option ℕ) (ring : Cycle) (p :
     )
 
     -- the next one was refused
-    pub refused_next : (r : Pass) (segment more total sum : ℕ) → segment ≡ next_of ring → owner b.shape segment ≡ number q → current_of q ≡ current → current ≢ Some segment → most + 2 ≤ total → sum ≡ keys + more → GivesUp b segment deadline false more q r
+    pub refused_next : (r : Pass) (segment more total sum : ℕ) → segment ≡ next_of ring
+        → owner b.shape segment ≡ number q → current_of q ≡ current → current ≢ Some segment → most + 2 ≤ total
+        → sum ≡ keys + more → GivesUp b segment deadline false more q r
         → Tried b deadline current (turned ring) left total sum p r
     refused_next r segment more total sum at mine is apart enough all gives =
         let to = passes_on b deadline most keys p q r over.0 segment more mine total sum enough all gives in (
@@ -74,7 +76,8 @@ module _ (b : Board) (deadline : ℕ) (current : Option ℕ) (ring : Cycle) (p :
 
     -- and then the current one is given up, or not
     module _ (last : ℕ) (is : current ≡ Some last) (now : current_of q ≡ current) (on : GoesOn b p q) where
-      pub at_last : (r : Pass) (made : Bool) (more total refilled sum : ℕ) → owner b.shape last ≡ number q → most + 2 ≤ total → sum ≡ keys + more → refilled ≡ bool_byte made → GivesUp b last deadline made more q r
+      pub at_last : (r : Pass) (made : Bool) (more total refilled sum : ℕ) → owner b.shape last ≡ number q
+          → most + 2 ≤ total → sum ≡ keys + more → refilled ≡ bool_byte made → GivesUp b last deadline made more q r
           → MakesRoom b None deadline total made (effort_from refilled 0 sum) p r
       at_last r true more total refilled sum mine enough all one gives =
           subst (λ n. MakesRoom b None deadline total true (effort_from n 0 sum) p r) (sym one) (gives_up b deadline most keys p q r over.0 last more mine total sum enough all gives)

@@ -29,7 +29,9 @@ own_in_ring b pass ring segment own from below =
     ap (owner b.shape) at ∙ own_at b pass (segment - ring.first) (omega (arith, count))
 
 -- and the segments of the pass are in the ring
-in_ring : (shape : Shape) (pass : ℕ) (ring : Cycle) (segment : ℕ) → 0 < shape.segments_each → IsOwnRing shape pass ring → owner shape segment ≡ pass → (ring.first ≤ segment) × (segment < ring.first + ring.count)
+in_ring : (shape : Shape) (pass : ℕ) (ring : Cycle) (segment : ℕ) → 0 < shape.segments_each
+    → IsOwnRing shape pass ring → owner shape segment ≡ pass → (ring.first ≤ segment)
+    × (segment < ring.first + ring.count)
 in_ring shape pass ring segment some own is =
     let each = shape.segments_each in
     let whole : segment / each * each + segment % each ≡ segment = div-add-mod' segment each in

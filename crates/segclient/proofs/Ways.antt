@@ -49,7 +49,9 @@ added_then shape pass cutoff Due r m k s n l old between new first then = record
 }
 
 -- one refilling
-refilling_added : (shape : Shape) (pass : ℕ) (cutoff : Option ℕ) (Due : ℕ → Type 0) (until segment : ℕ) (old : List Entry) → owner shape segment ≡ pass → Due until → AddsRoom shape pass cutoff Due 1 0 0 old (Refilled pass segment until ∷ old)
+refilling_added : (shape : Shape) (pass : ℕ) (cutoff : Option ℕ) (Due : ℕ
+    → Type 0) (until segment : ℕ) (old : List Entry) → owner shape segment ≡ pass → Due until
+    → AddsRoom shape pass cutoff Due 1 0 0 old (Refilled pass segment until ∷ old)
 refilling_added shape pass cutoff Due until segment old own due = record {
   more = Refilled pass segment until ∷ [];
   of_room = All-cons (IsOfRoom shape pass cutoff Due) (Refilled pass segment until) [] (inr (inl (segment, until, own, due, refl))) (All-nil (IsOfRoom shape pass cutoff Due));
@@ -60,7 +62,8 @@ refilling_added shape pass cutoff Due until segment old own due = record {
 }
 
 -- evictions alone
-are_of_room : (shape : Shape) (pass : ℕ) (cutoff : Option ℕ) (Due : ℕ → Type 0) (segment : ℕ) (more : List Entry) → owner shape segment ≡ pass → AreEvictions pass segment more → All (IsOfRoom shape pass cutoff Due) more
+are_of_room : (shape : Shape) (pass : ℕ) (cutoff : Option ℕ) (Due : ℕ → Type 0) (segment : ℕ) (more : List Entry)
+    → owner shape segment ≡ pass → AreEvictions pass segment more → All (IsOfRoom shape pass cutoff Due) more
 are_of_room shape pass cutoff Due segment [] own are = All-nil (IsOfRoom shape pass cutoff Due)
 are_of_room shape pass cutoff Due segment (entry ∷ more) own are =
     All-cons (IsOfRoom shape pass cutoff Due) entry more (inl (are.0.0, segment, own, are.0.1)) (are_of_room shape pass cutoff Due segment more own are.1)
@@ -73,9 +76,13 @@ none_evicted is pass segment (entry ∷ more) other are =
 
 all_evictions : (pass segment : ℕ) (more : List Entry) → AreEvictions pass segment more → count_by is_eviction more ≡ length more
 all_evictions pass segment [] are = refl
-all_evictions pass segment (entry ∷ more) are = count_by-cons is_eviction entry more ∙ ap (λ e. cond (is_eviction e) 1 0 + count_by is_eviction more) are.0.1 ∙ (let rest = all_evictions pass segment more are.1 in omega (arith, rest))
+all_evictions pass segment (entry ∷ more) are = count_by-cons is_eviction entry more
+    ∙ ap (λ e. cond (is_eviction e) 1 0 + count_by is_eviction more) are.0.1
+    ∙ (let rest = all_evictions pass segment more are.1 in omega (arith, rest))
 
-evictions_added : (shape : Shape) (pass : ℕ) (cutoff : Option ℕ) (Due : ℕ → Type 0) (segment keys : ℕ) (more old new : List Entry) → owner shape segment ≡ pass → AreEvictions pass segment more → length more ≡ keys → new ≡ more ++ old
+evictions_added : (shape : Shape) (pass : ℕ) (cutoff : Option ℕ) (Due : ℕ
+    → Type 0) (segment keys : ℕ) (more old new : List Entry) → owner shape segment ≡ pass
+    → AreEvictions pass segment more → length more ≡ keys → new ≡ more ++ old
     → AddsRoom shape pass cutoff Due 0 0 keys old new
 evictions_added shape pass cutoff Due segment keys more old new own are long is = record {
   more = more;
@@ -87,7 +94,9 @@ evictions_added shape pass cutoff Due segment keys more old new own are long is 
 }
 
 -- one move
-move_added : (shape : Shape) (pass : ℕ) (cutoff : Option ℕ) (Due : ℕ → Type 0) (key : List ℕ) (segment into : ℕ) (old new : List Entry) → IsSome cutoff → owner shape segment ≡ pass → owner shape into ≡ pass → new ≡ Moved pass key segment into ∷ old → AddsRoom shape pass cutoff Due 0 1 0 old new
+move_added : (shape : Shape) (pass : ℕ) (cutoff : Option ℕ) (Due : ℕ → Type 0) (key : List ℕ) (segment into : ℕ)
+    (old new : List Entry) → IsSome cutoff → owner shape segment ≡ pass → owner shape into ≡ pass
+    → new ≡ Moved pass key segment into ∷ old → AddsRoom shape pass cutoff Due 0 1 0 old new
 move_added shape pass cutoff Due key segment into old new asked from to is = record {
   more = Moved pass key segment into ∷ [];
   of_room = All-cons (IsOfRoom shape pass cutoff Due) (Moved pass key segment into) [] (inr (inr (asked, (key, segment, into, from, to, refl)))) (All-nil (IsOfRoom shape pass cutoff Due));
@@ -165,7 +174,9 @@ module _ (b : Board) (cutoff : Option ℕ) (Due : ℕ → Type 0) where
   evicted_some segment from evict.NotYours p q quiet out = same_none p q quiet out.answer
 
   -- one row
-  pub row_evicted : (segment row : ℕ) (told : EvictRowAnswer) (p q : Pass) → owner b.shape segment ≡ number p → IsQuiet b p → EvictsItem b segment row told p q → Comes 0 0 (came_to_step evicted_keys (evicts_row segment row told)) p q
+  pub row_evicted : (segment row : ℕ) (told : EvictRowAnswer) (p q : Pass) → owner b.shape segment ≡ number p
+      → IsQuiet b p → EvictsItem b segment row told p q
+      → Comes 0 0 (came_to_step evicted_keys (evicts_row segment row told)) p q
   row_evicted segment row evict_row.Evicted p q from quiet out = let went = out.answer.0 in record {
     on = out.on;
     memo = went.memo;
@@ -176,7 +187,9 @@ module _ (b : Board) (cutoff : Option ℕ) (Due : ℕ → Type 0) where
   row_evicted segment row evict_row.NotYours p q from quiet out = same_none p q quiet out.answer
   row_evicted segment row evict_row.NotUsed p q from quiet out = same_none p q quiet out.answer
 
-  row_kept : (segment row least : ℕ) (told : KeepRowAnswer) (p q : Pass) → owner b.shape segment ≡ number p → IsSome cutoff → IsQuiet b p → KeepsItem b segment row least told p q → Comes 0 (came_to kept_items (keeps segment row least told)) 0 p q
+  row_kept : (segment row least : ℕ) (told : KeepRowAnswer) (p q : Pass) → owner b.shape segment ≡ number p
+      → IsSome cutoff → IsQuiet b p → KeepsItem b segment row least told p q
+      → Comes 0 (came_to kept_items (keeps segment row least told)) 0 p q
   row_kept segment row least kept.Moved p q from asked quiet stayed = let out = stayed.answer in record {
     on = stayed.on;
     memo = out.2.memo;
@@ -193,11 +206,16 @@ module _ (b : Board) (cutoff : Option ℕ) (Due : ℕ → Type 0) where
   row_kept segment row least kept.NotUsed p q from asked quiet stayed = same_none p q quiet stayed.answer
 
   -- into a segment that is named
-  pub row_kept_into : (segment row least into : ℕ) (told : KeepRowAnswer) (p q : Pass) → owner b.shape segment ≡ number p → IsSome cutoff → IsQuiet b p → KeepsItemInto b segment row least into told p q → Comes 0 (came_to_step kept_items (keeps_into segment row least into told)) 0 p q
+  pub row_kept_into : (segment row least into : ℕ) (told : KeepRowAnswer) (p q : Pass)
+      → owner b.shape segment ≡ number p → IsSome cutoff → IsQuiet b p
+      → KeepsItemInto b segment row least into told p q
+      → Comes 0 (came_to_step kept_items (keeps_into segment row least into told)) 0 p q
   row_kept_into segment row least into kept.Moved p q from asked quiet stayed = let out = stayed.answer in record {
     on = stayed.on;
     memo = out.2.memo;
-    adds = move_added b.shape (number p) cutoff Due out.3.0 segment out.0 (mine p) (mine q) asked from (in_use_own p out.0 quiet (subst (λ s. state_of p s ≡ Some InUse) (sym out.1.0) (out.1.1.in_use))) out.3.1.entries;
+    adds = move_added b.shape (number p) cutoff Due out.3.0 segment out.0 (mine p) (mine q) asked from
+        (in_use_own p out.0 quiet (subst (λ s. state_of p s ≡ Some InUse) (sym out.1.0) (out.1.1.in_use)))
+        out.3.1.entries;
   }
   row_kept_into segment row least into kept.Left p q from asked quiet stayed = unchanged_none p q stayed.on stayed.answer.2
   row_kept_into segment row least into kept.NoRoom p q from asked quiet stayed = by stayed.answer
@@ -213,11 +231,15 @@ module _ (b : Board) (cutoff : Option ℕ) (Due : ℕ → Type 0) where
   refilled segment until current p q due quiet filled = record {
     on = filled.on;
     memo = filled.answer.memo;
-    adds = subst (AddsRoom b.shape (number p) cutoff Due 1 0 0 (mine p)) (sym filled.answer.entry) (refilling_added b.shape (number p) cutoff Due until segment (mine p) (own p segment quiet filled.answer.own) due);
+    adds = subst (AddsRoom b.shape (number p) cutoff Due 1 0 0 (mine p)) (sym filled.answer.entry)
+        (refilling_added b.shape (number p) cutoff Due until segment (mine p)
+        (own p segment quiet filled.answer.own) due);
   }
 
   -- whichever segment is current then
-  pub some_refilled : (segment until : ℕ) (current : Option ℕ) (told : RefillAnswer) (p q : Pass) → Due until → IsQuiet b p → RefillsSegmentWith b segment until current told p q → Comes (came_to refilled_segments (refills segment told)) 0 0 p q
+  pub some_refilled : (segment until : ℕ) (current : Option ℕ) (told : RefillAnswer) (p q : Pass) → Due until
+      → IsQuiet b p → RefillsSegmentWith b segment until current told p q
+      → Comes (came_to refilled_segments (refills segment told)) 0 0 p q
   some_refilled segment until current refill.Refilled p q due quiet out = refilled segment until current p q due quiet out
   some_refilled segment until current refill.NotYours p q due quiet out = same_none p q quiet out.answer
   some_refilled segment until current refill.NotEvicted p q due quiet out = same_none p q quiet out.answer
@@ -240,13 +262,16 @@ module _ (b : Board) (plan : Plan) where
   abbrev Came : ℕ → ℕ → ℕ → Pass → Pass → Type 0
   Came = Comes b plan.cutoff (IsOnly plan.deadline)
 
-  call_comes : (call : PutCall) (p q : Pass) → IsQuiet b p → call ≢ sets write.Stored → IsCall b plan call p q → Came (came_to refilled_segments call) (came_to kept_items call) (came_to evicted_keys call) p q
+  call_comes : (call : PutCall) (p q : Pass) → IsQuiet b p → call ≢ sets write.Stored → IsCall b plan call p q
+      → Came (came_to refilled_segments call) (came_to kept_items call) (came_to evicted_keys call) p q
   call_comes (sets told) p q quiet other (key, value, now, is, fresh, set, writes) = set_lacks b plan.cutoff (IsOnly plan.deadline) (Set key value now) told p q set other writes
   call_comes (evicts segment told) p q quiet other is = evicted_some b plan.cutoff (IsOnly plan.deadline) segment 0 told p q quiet is.1
   call_comes (keeps segment row least told) p q quiet other is = row_kept b plan.cutoff (IsOnly plan.deadline) segment row least told p q is.0 (ap is_some is.1.1) quiet is.2
   call_comes (refills segment told) p q quiet other is = some_refilled b plan.cutoff (IsOnly plan.deadline) segment plan.deadline (Some segment) told p q refl quiet is.1
 
-  pub calls_come : (calls : List PutCall) (p q : Pass) → IsQuiet b p → AreOpen calls → Makes b plan calls p q → Came (sum_by (came_to refilled_segments) calls) (sum_by (came_to kept_items) calls) (sum_by (came_to evicted_keys) calls) p q
+  pub calls_come : (calls : List PutCall) (p q : Pass) → IsQuiet b p → AreOpen calls → Makes b plan calls p q
+      → Came (sum_by (came_to refilled_segments) calls) (sum_by (came_to kept_items) calls)
+      (sum_by (came_to evicted_keys) calls) p q
   unfolding Makes
   calls_come [] p q quiet are same = same_none b plan.cutoff (IsOnly plan.deadline) p q quiet same
   calls_come (call ∷ earlier) p q quiet are (between, rest, last) =
@@ -255,6 +280,14 @@ module _ (b : Board) (plan : Plan) where
       let one = sum_by-cons (came_to refilled_segments) call earlier in
       let two = sum_by-cons (came_to kept_items) call earlier in
       let three = sum_by-cons (came_to evicted_keys) call earlier in
-      so_many b plan.cutoff (IsOnly plan.deadline) (sum_by (came_to refilled_segments) earlier + came_to refilled_segments call) (sum_by (came_to kept_items) earlier + came_to kept_items call) (sum_by (came_to evicted_keys) earlier + came_to evicted_keys call)
-      (sum_by (came_to refilled_segments) (call ∷ earlier)) (sum_by (came_to kept_items) (call ∷ earlier)) (sum_by (came_to evicted_keys) (call ∷ earlier)) p q (omega (arith, one)) (omega (arith, two)) (omega (arith, three))
-      (comes_then b plan.cutoff (IsOnly plan.deadline) (sum_by (came_to refilled_segments) earlier) (sum_by (came_to kept_items) earlier) (sum_by (came_to evicted_keys) earlier) (came_to refilled_segments call) (came_to kept_items call) (came_to evicted_keys call) p between q first then)
+      so_many b plan.cutoff (IsOnly plan.deadline)
+          (sum_by (came_to refilled_segments) earlier + came_to refilled_segments call)
+          (sum_by (came_to kept_items) earlier + came_to kept_items call)
+          (sum_by (came_to evicted_keys) earlier + came_to evicted_keys call)
+      (sum_by (came_to refilled_segments) (call ∷ earlier)) (sum_by (came_to kept_items) (call ∷ earlier))
+          (sum_by (came_to evicted_keys) (call ∷ earlier)) p q (omega (arith, one)) (omega (arith, two))
+          (omega (arith, three))
+      (comes_then b plan.cutoff (IsOnly plan.deadline) (sum_by (came_to refilled_segments) earlier)
+          (sum_by (came_to kept_items) earlier) (sum_by (came_to evicted_keys) earlier)
+          (came_to refilled_segments call) (came_to kept_items call) (came_to evicted_keys call) p between q first
+          then)

@@ -47,7 +47,8 @@ open_of shape pass put.NoRoom calls other ends = ends.1
 open_of shape pass put.BucketFull calls other ends = ends.1
 open_of shape pass put.Busy calls other ends = ends.1
 
-pub whole_put : (b : Board) (plan : Plan) (most total : ℕ) (told : PutAnswer) (effort : Effort) (p q : Pass) → most ≤ total → PutsAtLast b plan most told effort p q → PutsWhole b plan total told effort p q
+pub whole_put : (b : Board) (plan : Plan) (most total : ℕ) (told : PutAnswer) (effort : Effort) (p q : Pass)
+    → most ≤ total → PutsAtLast b plan most told effort p q → PutsWhole b plan total told effort p q
 whole_put b plan most total told effort p q enough (puts, emptied) = record {
   calls = puts.calls;
   makes = puts.makes;

@@ -31,7 +31,8 @@ bit_small None = omega arith
 bit_small (Some p) = omega arith
 
 -- the version of the cache is that of the bucket, and one more where a write waits to be counted
-pub version_of : (z : Shape) (h : List Event) (b : ℕ) → z.first_version < 2 ^ 32 → IsLawful z h → (after z (seen h)).version b ≡ (z.first_version + ((bucket_after z h b).version + behind z h b)) % 2 ^ 32
+pub version_of : (z : Shape) (h : List Event) (b : ℕ) → z.first_version < 2 ^ 32 → IsLawful z h
+    → (after z (seen h)).version b ≡ (z.first_version + ((bucket_after z h b).version + behind z h b)) % 2 ^ 32
 version_of z h b lt l = version-after z (seen h) b lt (legal z h l) ∙ ap (λ n. (z.first_version + n) % 2 ^ 32) (versions z h b l)
 
 unset : (o : Option ℕ) → bit_of o ≡ 0 → o ≡ None
@@ -61,13 +62,17 @@ drawn_or z h b None l sp = let a = drawn_marked z h b l in let c = chained_marke
 drawn_or z h b (Some m) l sp = let a = drawn_marked z h b l in let c = chained_marked z h b in let e = ap one_if sp in
     inr (omega arith, info_bit z h b ∙ ap bit_of (spare_held z h b m l sp).1)
 
-pub joined : (z : Shape) (h : List Event) (b d : ℕ) → IsLawful z h → d < (bucket_after z h b).chained → (m : ℕ) × (home_of h m ≡ Some (home b (d + 1))) × ((c : Cell) → IsAt h b (8 * d + 7) c → word z h c ≡ chain_word m) × (m < z.overflow)
+pub joined : (z : Shape) (h : List Event) (b d : ℕ) → IsLawful z h → d < (bucket_after z h b).chained → (m : ℕ)
+    × (home_of h m ≡ Some (home b (d + 1))) × ((c : Cell) → IsAt h b (8 * d + 7) c → word z h c ≡ chain_word m)
+    × (m < z.overflow)
 joined z h b d l lt =
     let u = bucket_after z h b in
     let j = joins z h b d l lt in
     let i : IsContent h b u (8 * d + 7) (next j.0) = subst (IsContent h b u (8 * d + 7)) j.1 ((chain_of z h l b).contents (8 * d + 7)) in
     let p = i.2 in let same : i.0 ≡ d = omega arith in
-    (j.0, i.3 ∙ ap (λ n. Some (home b (n + 1))) same, λ c at. at_word z h b (8 * d + 7) c at ∙ (word_content z h u (8 * d + 7) (omega arith) ∙ ap (content_word h) j.1), home_in z h j.0 (home b (i.0 + 1)) l i.3)
+    (j.0, i.3 ∙ ap (λ n. Some (home b (n + 1))) same, λ c at. at_word z h b (8 * d + 7) c at
+        ∙ (word_content z h u (8 * d + 7) (omega arith) ∙ ap (content_word h) j.1),
+        home_in z h j.0 (home b (i.0 + 1)) l i.3)
 
 says_of_chain : (z : Shape) (h : List Event) (b : ℕ) → IsLawful z h → ChainFacts z h b
 says_of_chain z h b l = let e = chained_marked z h b in let s = (chain_of z h l b).short in record {
@@ -87,7 +92,9 @@ bare h b u n (item a) far ne i = let lt = i.0 in let m = i.1 in ⊎_elim (λ le.
 bare h b u n (next m) far ne i = let lt = i.1 in let e = i.2 in ⊎_elim (λ le. absurd (omega arith)) (λ e'. absurd (omega arith)) far
 bare h b u n (copy w) far ne i = absurd (ne i.0)
 
-bare_word : (z : Shape) (h : List Event) (b n : ℕ) → IsLawful z h → 0 < n → (8 * (bucket_after z h b).chained + 8 ≤ n) ⊎ (n % 8 ≡ 0) → n ≢ 8 * (bucket_after z h b).chained + 9 → word_in z h (bucket_after z h b) n ≡ 0
+bare_word : (z : Shape) (h : List Event) (b n : ℕ) → IsLawful z h → 0 < n
+    → (8 * (bucket_after z h b).chained + 8 ≤ n) ⊎ (n % 8 ≡ 0) → n ≢ 8 * (bucket_after z h b).chained + 9
+    → word_in z h (bucket_after z h b) n ≡ 0
 bare_word z h b n l lt far ne = let u = bucket_after z h b in word_content z h u n lt ∙ bare h b u n (u.items n) far ne ((chain_of z h l b).contents n)
 
 empty_at : (z : Shape) (h : List Event) (m w : ℕ) (o : Option Home) → IsLawful z h → IsUnchained h m → w < 8 → w ≢ 1 → home_of h m ≡ o → overflow_word z h w o ≡ 0
@@ -114,11 +121,15 @@ says_of_buckets z h l = let e = all_drawn_marked h in let few = drawn_few z h l 
 
 -- ---- the version that an information word has
 
-pub unwritten_version : (z : Shape) (h : List Event) (b : ℕ) → z.first_version < 2 ^ 32 → IsLawful z h → (bucket_after z h b).written ≡ false → word z h (OfBucket b 0) / 2 ^ 32 ≡ (after z (seen h)).version b
+pub unwritten_version : (z : Shape) (h : List Event) (b : ℕ) → z.first_version < 2 ^ 32 → IsLawful z h
+    → (bucket_after z h b).written ≡ false → word z h (OfBucket b 0) / 2 ^ 32 ≡ (after z (seen h)).version b
 unwritten_version z h b few l w = let u = bucket_after z h b in let lt = bit_small u.holder in let v = version_of z h b few l in let none : behind z h b ≡ 0 = ap (λ t. cond t 1 0) w in
-    let x : word z h (OfBucket b 0) / 2 ^ 32 ≡ (z.first_version + u.version) % 2 ^ 32 = omega arith in x ∙ (ap (λ n. (z.first_version + n) % 2 ^ 32) (let e : u.version ≡ u.version + behind z h b = omega arith in e) ∙ sym v)
+    let x : word z h (OfBucket b 0) / 2 ^ 32 ≡ (z.first_version + u.version) % 2 ^ 32 = omega arith in x
+        ∙ (ap (λ n. (z.first_version + n) % 2 ^ 32) (let e : u.version ≡ u.version + behind z h b = omega arith in
+        e) ∙ sym v)
 
-pub free_version : (z : Shape) (h : List Event) (b : ℕ) → z.first_version < 2 ^ 32 → IsLawful z h → word z h (OfBucket b 0) % 2 ^ 32 ≡ 0 → word z h (OfBucket b 0) / 2 ^ 32 ≡ (after z (seen h)).version b
+pub free_version : (z : Shape) (h : List Event) (b : ℕ) → z.first_version < 2 ^ 32 → IsLawful z h
+    → word z h (OfBucket b 0) % 2 ^ 32 ≡ 0 → word z h (OfBucket b 0) / 2 ^ 32 ≡ (after z (seen h)).version b
 free_version z h b few l clear = unwritten_version z h b few l (free z h b l (unset (bucket_after z h b).holder (sym (info_bit z h b) ∙ clear)))
 
 pub version_writes : (z : Shape) (h : List Event) (b : ℕ) → z.first_version < 2 ^ 32 → IsLawful z h → (after z (seen h)).version b ≡ (z.first_version + writes z (seen h) b) % 2 ^ 32

@@ -55,7 +55,9 @@ pub stands_wrote : (z : Shape) (p : ℕ) (q : Request) (y : Reply) (s : Option �
     → stands z (Wrote p q y s ∷ h) k ≡ cond (same_key (key_of q) k) (put q y s (stands z h k)) (stands z h k)
 stands_wrote z p q Stored (Some s) h k = model.standing-put z (key_of q) (value_of q) s (after z h) k ∙ ap (λ t. cond t (Some (cached (value_of q) s)) (stands z h k)) (at_key (key_of q) k)
 stands_wrote z p q Stored None h k = sym (same_either (same_key (key_of q) k) (stands z h k))
-stands_wrote z p q Deleted s h k = model.standing-without (key_of q) (after z h) k ∙ (unless (is_at (key_cmp (key_of q)) k) (stands z h k) None ∙ ap (λ t. cond t None (stands z h k)) (at_key_back (key_of q) k))
+stands_wrote z p q Deleted s h k = model.standing-without (key_of q) (after z h) k
+    ∙ (unless (is_at (key_cmp (key_of q)) k) (stands z h k) None
+    ∙ ap (λ t. cond t None (stands z h k)) (at_key_back (key_of q) k))
 stands_wrote z p q NotStored s h k = sym (same_either (same_key (key_of q) k) (stands z h k))
 stands_wrote z p q Exists s h k = sym (same_either (same_key (key_of q) k) (stands z h k))
 stands_wrote z p q NotFound s h k = sym (same_either (same_key (key_of q) k) (stands z h k))

@@ -35,11 +35,13 @@ module _ (z : Shape) (h : List Event) (v : IsValid z) (l : IsLawful z h) where
 
 -- a word with another tag isn't the key's
 pub other_tag : (z : Shape) (k : List ℕ) (h : List Event) (n : ℕ) (c : Cell) → IsValid z → IsLawful z h → IsAt h (bucket_of z k) n c → word z h c / 2 ^ 52 ≢ tag_of k → ¬ (KeyAt z k h n)
-other_tag z k h n c v l at ne i = let x = sought_word z (key_item k) h n c (bucket_in z k v) l at i in ne (names_tag z h v l (bucket_of z k) n c (tag_of x.0.key) x.0.segment x.0.row x.2 ∙ ap tag_of x.1)
+other_tag z k h n c v l at ne i = let x = sought_word z (key_item k) h n c (bucket_in z k v) l at i in
+    ne (names_tag z h v l (bucket_of z k) n c (tag_of x.0.key) x.0.segment x.0.row x.2 ∙ ap tag_of x.1)
 
 -- a word that names another row isn't the row's
 pub other_place : (z : Shape) (b s r : ℕ) (h : List Event) (n : ℕ) (c : Cell) → IsValid z → b < z.buckets → IsLawful z h → IsAt h b n c → word z h c % 2 ^ 44 ≢ s * 2 ^ 20 + r → ¬ (RowAt z b s r h n)
-other_place z b s r h n c v lt l at ne i = let x = sought_word z (row_item b s r) h n c lt l at i in ne (names_place z h v l b n c (tag_of x.0.key) x.0.segment x.0.row x.2 ∙ (λ j. x.1.0 j * 2 ^ 20 + x.1.1 j))
+other_place z b s r h n c v lt l at ne i = let x = sought_word z (row_item b s r) h n c lt l at i in
+    ne (names_place z h v l b n c (tag_of x.0.key) x.0.segment x.0.row x.2 ∙ (λ j. x.1.0 j * 2 ^ 20 + x.1.1 j))
 
 -- the last word of a bucket that is neither empty nor an item leads to the next bucket
 pub leads_on : (z : Shape) (h : List Event) (b d : ℕ) (c : Cell) → IsValid z → IsLawful z h → b < z.buckets → IsItemAt z h b (8 * d + 7) c → 0 < word z h c → word z h c < 2 ^ 52

@@ -36,7 +36,9 @@ copy_item w a e = none-some a (ap slot_of e)
 
 -- ---- homes
 
-home_back : (z : Shape) (e : Event) (h : List Event) (b m d : ℕ) → is (bucket_at z e) b ≡ false → home_of (e ∷ h) m ≡ Some (record { bucket = b; depth = d }) → home_of h m ≡ Some (record { bucket = b; depth = d })
+home_back : (z : Shape) (e : Event) (h : List Event) (b m d : ℕ) → is (bucket_at z e) b ≡ false
+    → home_of (e ∷ h) m ≡ Some (record { bucket = b; depth = d })
+    → home_of h m ≡ Some (record { bucket = b; depth = d })
 home_back z (Drew p a d' n) h b m d f is' = ⊎_elim
     (λ t. let e : Some (record { bucket = a; depth = d' }) ≡ Some (record { bucket = b; depth = d }) = sym (cond-true (eqb n m) (Some (record { bucket = a; depth = d' })) (home_of h m) t) ∙ is' in
     absurd (eqb-false a b f (ap (λ (x : Home). x.bucket) (same_Some _ _ e))))
@@ -72,7 +74,9 @@ pub record Like (u v : Bucket) : Type 0 where
   pub chained : v.chained ≡ u.chained
   pub spare : v.spare ≡ u.spare
 
-chain_like : (z : Shape) (e : Event) (h : List Event) (b : ℕ) (u v : Bucket) → IsLawful z (e ∷ h) → ((m : ℕ) → home_of (e ∷ h) m ≡ home_of h m) → Like u v → ((n : ℕ) → IsContent h b u n (v.items n)) → IsChain h b u → IsChain (e ∷ h) b v
+chain_like : (z : Shape) (e : Event) (h : List Event) (b : ℕ) (u v : Bucket) → IsLawful z (e ∷ h)
+    → ((m : ℕ) → home_of (e ∷ h) m ≡ home_of h m) → Like u v → ((n : ℕ) → IsContent h b u n (v.items n))
+    → IsChain h b u → IsChain (e ∷ h) b v
 chain_like z e h b u v l same k items c = let ec = k.chained in record {
   short = (let s = c.short in omega arith);
   contents = λ n. content_on z e h b v n (v.items n) l (content_same h b u v k.chained k.spare n (v.items n) (items n));
@@ -83,7 +87,8 @@ chain_like z e h b u v l same k items c = let ec = k.chained in record {
 content_at : (h : List Event) (b n : ℕ) (x : Content) (u : Bucket) → IsContent h b u n x → ((m : ℕ) → IsContent h b u m (u.items m)) → (m : ℕ) → IsContent h b u m (cond (eqb n m) x (u.items m))
 content_at h b n x u i is' m = ⊎_elim (λ t. rw t (rw (← eqb-true n m t) i)) (λ f. rw f (is' m)) (cases_Bool (eqb n m))
 
-drew : (z : Shape) (h : List Event) (p b d m : ℕ) → let u = bucket_after z h b in Suits z h (Drew p b d m) → IsLawful z (Drew p b d m ∷ h) → IsChain h b u → IsChain (Drew p b d m ∷ h) b (acts (Drew p b d m) u)
+drew : (z : Shape) (h : List Event) (p b d m : ℕ) → let u = bucket_after z h b in Suits z h (Drew p b d m)
+    → IsLawful z (Drew p b d m ∷ h) → IsChain h b u → IsChain (Drew p b d m ∷ h) b (acts (Drew p b d m) u)
 drew z h p b d m s l c = let u = bucket_after z h b in let v = acts (Drew p b d m) u in let ed = s.3 in let lt = s.4 in record {
   short = c.short;
   contents = λ n. content_on z (Drew p b d m) h b v n (u.items n) l (spared n (u.items n) (c.contents n));
@@ -92,7 +97,9 @@ drew z h p b d m s l c = let u = bucket_after z h b in let v = acts (Drew p b d 
       inr (ap (λ (x : Home). x.depth) (sym (same_Some _ _ q)) ∙ ed, ap Some (eqb-true m k t)))
       (λ f. ⊎_elim (λ w. inl w) (λ w. absurd (none-some k (sym s.2 ∙ w.1))) (c.homes k e (sym (cond-false (eqb m k) (Some _) (home_of h k) f) ∙ is')))
       (cases_Bool (eqb m k));
-  spare = λ k is'. let q : m ≡ k = same_Some m k is' in (omega arith, cond-true (eqb m k) (Some (record { bucket = b; depth = d })) (home_of h k) (eq-eqb m k q) ∙ ap (λ x. Some (record { bucket = b; depth = x })) ed);
+  spare = λ k is'. let q : m ≡ k = same_Some m k is' in
+      (omega arith, cond-true (eqb m k) (Some (record { bucket = b; depth = d })) (home_of h k) (eq-eqb m k q)
+      ∙ ap (λ x. Some (record { bucket = b; depth = x })) ed);
 }
   where
     spared : (n : ℕ) (x : Content) → IsContent h b (bucket_after z h b) n x → IsContent h b (acts (Drew p b d m) (bucket_after z h b)) n x
@@ -101,7 +108,8 @@ drew z h p b d m s l c = let u = bucket_after z h b in let v = acts (Drew p b d 
     spared n (next k) i = i
     spared n (copy w) i = (i.0, (m, refl))
 
-chained : (z : Shape) (h : List Event) (p b m : ℕ) → let u = bucket_after z h b in Suits z h (Chained p b m) → IsLawful z (Chained p b m ∷ h) → IsChain h b u → IsChain (Chained p b m ∷ h) b (acts (Chained p b m) u)
+chained : (z : Shape) (h : List Event) (p b m : ℕ) → let u = bucket_after z h b in Suits z h (Chained p b m)
+    → IsLawful z (Chained p b m ∷ h) → IsChain h b u → IsChain (Chained p b m ∷ h) b (acts (Chained p b m) u)
 chained z h p b m s l c = let u = bucket_after z h b in let v = acts (Chained p b m) u in let sp = c.spare m s.0 in let few = sp.0 in record {
   short = omega arith;
   contents = λ n. content_on z (Chained p b m) h b v n (v.items n) l (on n);
@@ -128,7 +136,9 @@ like : (u : Bucket) → Like u u
 like u = record { chained = refl; spare = refl }
 
 -- where an item is, is a position of an item
-moved_position : (z : Shape) (h : List Event) (b : ℕ) (k : List ℕ) (n : ℕ) (a : Slot) → bucket_of z k ≡ b → (bucket_after z h (bucket_of z k)).items n ≡ item a → IsChain h b (bucket_after z h b) → IsPosition (bucket_after z h b) n
+moved_position : (z : Shape) (h : List Event) (b : ℕ) (k : List ℕ) (n : ℕ) (a : Slot) → bucket_of z k ≡ b
+    → (bucket_after z h (bucket_of z k)).items n ≡ item a → IsChain h b (bucket_after z h b)
+    → IsPosition (bucket_after z h b) n
 moved_position z h b k n a e is' c = subst (IsContent h b (bucket_after z h b) n) (subst (λ x. (bucket_after z h x).items n ≡ item a) e is') (c.contents n)
 
 -- an event of the bucket

@@ -13,11 +13,21 @@ use Rattle.segcore.proofs.Quiet.{at_unlinked, quiet_inside}
 use Rattle.segcore.proofs.Readers.{is_counted}
 
 -- an event that doesn't refill the segment leaves a linked row alone
-pub row_stays : (z : Shape) (e : Event) (h : List Event) (s r : ℕ) (k : List ℕ) → IsLawful z (e ∷ h) → ((p d : ℕ) → e ≢ Refilled p s d) → (row_after h s r).linked ≡ Some k → row_after (e ∷ h) s r ≡ row_after h s r
+pub row_stays : (z : Shape) (e : Event) (h : List Event) (s r : ℕ) (k : List ℕ) → IsLawful z (e ∷ h)
+    → ((p d : ℕ) → e ≢ Refilled p s d) → (row_after h s r).linked ≡ Some k → row_after (e ∷ h) s r ≡ row_after h s r
 row_stays z (Refilled p t d) h s r k l ne on = cond-false (eqb t s) (writes_row (Refilled p t d) (row_after h s r)) (row_after h s r) (ne_eqb t s (λ e. ne p d (ap (λ x. Refilled p x d) e)))
-row_stays z (Filled p t i j w) h s r k l ne on = cond-false (row_at (Filled p t i j w) s r) (writes_row (Filled p t i j w) (row_after h s r)) (row_after h s r) (false_from_ne_true (row_at (Filled p t i j w) s r) (λ y. none-some k (sym (at_unlinked z h (Filled p t i j w) s r l.1.suits (λ p' t' d' same. cc) y) ∙ on)))
-row_stays z (Linked p q t i n) h s r k l ne on = cond-false (row_at (Linked p q t i n) s r) (writes_row (Linked p q t i n) (row_after h s r)) (row_after h s r) (false_from_ne_true (row_at (Linked p q t i n) s r) (λ y. none-some k (sym (at_unlinked z h (Linked p q t i n) s r l.1.suits (λ p' t' d' same. cc) y) ∙ on)))
-row_stays z (Relinked p q a b t i n) h s r k l ne on = cond-false (row_at (Relinked p q a b t i n) s r) (writes_row (Relinked p q a b t i n) (row_after h s r)) (row_after h s r) (false_from_ne_true (row_at (Relinked p q a b t i n) s r) (λ y. none-some k (sym (at_unlinked z h (Relinked p q a b t i n) s r l.1.suits (λ p' t' d' same. cc) y) ∙ on)))
+row_stays z (Filled p t i j w) h s r k l ne on =
+    cond-false (row_at (Filled p t i j w) s r) (writes_row (Filled p t i j w) (row_after h s r)) (row_after h s r)
+    (false_from_ne_true (row_at (Filled p t i j w) s r)
+    (λ y. none-some k (sym (at_unlinked z h (Filled p t i j w) s r l.1.suits (λ p' t' d' same. cc) y) ∙ on)))
+row_stays z (Linked p q t i n) h s r k l ne on =
+    cond-false (row_at (Linked p q t i n) s r) (writes_row (Linked p q t i n) (row_after h s r)) (row_after h s r)
+    (false_from_ne_true (row_at (Linked p q t i n) s r)
+    (λ y. none-some k (sym (at_unlinked z h (Linked p q t i n) s r l.1.suits (λ p' t' d' same. cc) y) ∙ on)))
+row_stays z (Relinked p q a b t i n) h s r k l ne on =
+    cond-false (row_at (Relinked p q a b t i n) s r) (writes_row (Relinked p q a b t i n) (row_after h s r))
+    (row_after h s r) (false_from_ne_true (row_at (Relinked p q a b t i n) s r)
+    (λ y. none-some k (sym (at_unlinked z h (Relinked p q a b t i n) s r l.1.suits (λ p' t' d' same. cc) y) ∙ on)))
 row_stays z e h s r k l ne on = refl
 
 pub not_refilled : (z : Shape) (e : Event) (h : List Event) (p s : ℕ) → p < z.passes → IsLawful z (e ∷ h) → 0 < inside h p s → (q d : ℕ) → e ≢ Refilled q s d
@@ -29,7 +39,9 @@ no_refill z [] h p s few l n in' = tt
 no_refill z (e ∷ more) h p s few l n in' = (not_refilled z e (more ++ h) p s few l (subst (λ x. 0 < x) (sym (quiet_inside more h p s n.1)) in'), no_refill z more h p s few l.0 n.1 in')
 
 -- what a pass has read in a segment that it is in stays so
-pub entered_row : (z : Shape) (more h : List Event) (p s r : ℕ) (k : List ℕ) → p < z.passes → IsLawful z (more ++ h) → NoneBy p more → 0 < inside h p s → (row_after h s r).linked ≡ Some k → row_after (more ++ h) s r ≡ row_after h s r
+pub entered_row : (z : Shape) (more h : List Event) (p s r : ℕ) (k : List ℕ) → p < z.passes → IsLawful z (more ++ h)
+    → NoneBy p more → 0 < inside h p s → (row_after h s r).linked ≡ Some k
+    → row_after (more ++ h) s r ≡ row_after h s r
 entered_row z [] h p s r k few l n in' on = refl
 entered_row z (e ∷ more) h p s r k few l n in' on = let i = entered_row z more h p s r k few l.0 n.1 in' on in
     row_stays z e (more ++ h) s r k l (not_refilled z e (more ++ h) p s few l (subst (λ x. 0 < x) (sym (quiet_inside more h p s n.1)) in')) (ap (λ u. u.linked) i ∙ on) ∙ i

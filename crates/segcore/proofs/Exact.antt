@@ -60,7 +60,8 @@ pub content_at : (z : Shape) (h : List Event) (b n : ℕ) (c : Cell) → IsItemA
 content_at z h b n c i = at_word z h b n c i.1 ∙ word_content z h (bucket_after z h b) n (above (bucket_after z h b) n i.0)
 
 -- the word of an item names its row
-pub item_names : (z : Shape) (h : List Event) (b n : ℕ) (c : Cell) (a : Slot) → IsLawful z h → IsCell z c → IsItemAt z h b n c → (bucket_after z h b).items n ≡ item a → Names z h b n c (tag_of a.key) a.segment a.row
+pub item_names : (z : Shape) (h : List Event) (b n : ℕ) (c : Cell) (a : Slot) → IsLawful z h → IsCell z c
+    → IsItemAt z h b n c → (bucket_after z h b).items n ≡ item a → Names z h b n c (tag_of a.key) a.segment a.row
 item_names z h b n c a l lt i is' = record {
   here = i;
   in_table = lt;
@@ -94,7 +95,9 @@ stands_at z h k v s valid l is' =
       last = ap (last_at (marked h)) (sym w.3) ∙ (i.last ∙ (λ j. Some (slot (w.3 j) (es j) a.row)));
       names = (subst (λ x. Names z h b n d.0 x s a.row) (ap tag_of w.3) (subst (λ x. Names z h b n d.0 (tag_of a.key) x a.row) es
           (item_names z h b n d.0 a l (cell_in z h b n d.0 l (bucket_in z k valid) d.1) (i.position, d.1) w.2)));
-      holds = (let f : Holds (row_after h a.segment a.row) a.key i.value = i.holds in λ j lt. ap (λ x. (row_after h x a.row).words j) (sym es) ∙ (f j lt ∙ (λ t. slice_index (row_of (w.3 t) (ev t)) j)));
+      holds = (let f : Holds (row_after h a.segment a.row) a.key i.value = i.holds in
+          λ j lt. ap (λ x. (row_after h x a.row).words j) (sym es)
+          ∙ (f j lt ∙ (λ t. slice_index (row_of (w.3 t) (ev t)) j)));
     }
 
 pub stands_there : (z : Shape) (h : List Event) (k v : List ℕ) (s : ℕ) → IsValid z → IsLawful z h → StandsAt z h k v s → stands z (seen h) k ≡ Some (cached v s)
@@ -109,7 +112,9 @@ stands_there z h k v s valid l t =
 
 -- ---- the readings of a chain's words
 
-readings_of : (z : Shape) (h : List Event) (b n : ℕ) (c : Cell) → b < z.buckets → IsLawful z h → IsItemAt z h b n c → (o : Content) → (bucket_after z h b).items n ≡ o → IsContent h b (bucket_after z h b) n o → HasOneReading z h b n c
+readings_of : (z : Shape) (h : List Event) (b n : ℕ) (c : Cell) → b < z.buckets → IsLawful z h → IsItemAt z h b n c
+    → (o : Content) → (bucket_after z h b).items n ≡ o → IsContent h b (bucket_after z h b) n o
+    → HasOneReading z h b n c
 readings_of z h b n c lt l i nothing is' w = inl (content_at z h b n c i ∙ ap (content_word h) is')
 readings_of z h b n c lt l i (item a) is' w = let co = coherent z h l in let x = co.items b n a is' in inr (inr (record {
   key = a.key;

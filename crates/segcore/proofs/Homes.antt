@@ -58,7 +58,9 @@ not_room z h k n m room e = ⊎_elim (λ r. no_next m (sym r.0 ∙ e)) (λ r. ne
 put_off : (u : Bucket) (n d : ℕ) (o : Content) → Joins u d → n ≢ 8 * d + 7 → (m : ℕ) × (cond (eqb n (8 * d + 7)) o (u.items (8 * d + 7)) ≡ next m)
 put_off u n d o j ne = (j.0, cond-false (eqb n (8 * d + 7)) o (u.items (8 * d + 7)) (ne_eqb n (8 * d + 7) ne) ∙ j.1)
 
-act_joins : (z : Shape) (e : Event) (h : List Event) (b d : ℕ) → is (bucket_at z e) b ≡ true → IsLawful z (e ∷ h) → d < (acts e (bucket_after z h b)).chained → (d < (bucket_after z h b).chained → Joins (bucket_after z h b) d) → Joins (acts e (bucket_after z h b)) d
+act_joins : (z : Shape) (e : Event) (h : List Event) (b d : ℕ) → is (bucket_at z e) b ≡ true → IsLawful z (e ∷ h)
+    → d < (acts e (bucket_after z h b)).chained → (d < (bucket_after z h b).chained → Joins (bucket_after z h b) d)
+    → Joins (acts e (bucket_after z h b)) d
 act_joins z (Linked p q s r n) h b d t l lt ih = let j = ih lt in
     put_off (bucket_after z h b) n d (item (slot (key_of q) s r)) j
     (λ e. not_room z h (key_of q) n j.0 l.1.suits.4 (subst (λ x. (bucket_after z h x).items n ≡ next j.0) (sym (eqb-true (bucket_of z (key_of q)) b t)) (ap (bucket_after z h b).items e ∙ j.1)))
@@ -88,7 +90,8 @@ joins z (e ∷ h) b d l lt = let u = bucket_after z h b in ⊎_elim
 
 -- ---- a bucket that is drawn and not yet chained waits under the bit
 
-act_held : (z : Shape) (e : Event) (h : List Event) (b m : ℕ) → is (bucket_at z e) b ≡ true → IsLawful z (e ∷ h) → (acts e (bucket_after z h b)).spare ≡ Some m → (p : ℕ) × ((acts e (bucket_after z h b)).holder ≡ Some p)
+act_held : (z : Shape) (e : Event) (h : List Event) (b m : ℕ) → is (bucket_at z e) b ≡ true → IsLawful z (e ∷ h)
+    → (acts e (bucket_after z h b)).spare ≡ Some m → (p : ℕ) × ((acts e (bucket_after z h b)).holder ≡ Some p)
 act_held z (Took p a) h b m t l sp = (p, refl)
 act_held z (Freed p a c) h b m t l sp = absurd (none-some m (sym (subst (λ x. (bucket_after z h x).spare ≡ None) (eqb-true a b t) l.1.suits.1) ∙ sp))
 act_held z (Replied p q y) h b m t l sp = (p, guard_at z h (Replied p q y) b (bucket_at z (Replied p q y)) l.1.guarded t)

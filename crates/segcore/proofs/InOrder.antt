@@ -21,7 +21,8 @@ use Rattle.segcore.proofs.Schedules.{kept_at, lawful}
 abbrev view_after : ℕ → View → Step → Shape → World → View
 view_after p v st z w = record v { trace = adds st p (get_or w.words (address z (cell st)) 0) ++ w.trace; looks = w.trace ∷ v.looks; turn = suc (steps_of w.views) }
 
-pub sees_all : (z : Shape) (ss : List (ℕ × Step)) (s : ℕ × Step) (w : World) (r : Reaches z (s ∷ ss) w) → (v : View) × (get_elem? w.views s.0 ≡ some v) × (v.trace ≡ w.trace) × (v.looks ≡ r.0.trace ∷ r.1.looks)
+pub sees_all : (z : Shape) (ss : List (ℕ × Step)) (s : ℕ × Step) (w : World) (r : Reaches z (s ∷ ss) w) → (v : View)
+    × (get_elem? w.views s.0 ≡ some v) × (v.trace ≡ w.trace) × (v.looks ≡ r.0.trace ∷ r.1.looks)
 sees_all z ss s w r = let b = r.0 in let v = view_after s.0 r.1 s.1 z b in
     (v, ap (λ x. get_elem? x.views s.0) r.5 ∙ set_here b.views s.0 v (inside_list b.views s.0 r.1 r.3), sym (ap (λ (x : World). x.trace) r.5), refl)
 
@@ -59,8 +60,12 @@ record LooksSince (h : List Event) (from to : View) : Type 0 where
   pub looks : to.looks ≡ news ++ from.looks
   pub all : AllBegin h news
 
-looks_since : (z : Shape) (start : World) (ss : List (ℕ × Step)) (w : World) (q : ℕ) (from to : View) → ReachesOn z start ss w → get_elem? start.views q ≡ some from → get_elem? w.views q ≡ some to → LooksSince start.trace from to
-looks_since z start [] w q from to r at on = record { news = []; looks = ap (λ (v : View). v.looks) (sym (some-injective from to (sym at ∙ (ap (λ (x : World). get_elem? x.views q) (sym r) ∙ on)))); all = tt }
+looks_since : (z : Shape) (start : World) (ss : List (ℕ × Step)) (w : World) (q : ℕ) (from to : View)
+    → ReachesOn z start ss w → get_elem? start.views q ≡ some from → get_elem? w.views q ≡ some to
+    → LooksSince start.trace from to
+looks_since z start [] w q from to r at on =
+    record { news = []; looks = ap (λ (v : View). v.looks)
+    (sym (some-injective from to (sym at ∙ (ap (λ (x : World). get_elem? x.views q) (sym r) ∙ on)))); all = tt }
 looks_since z start (s ∷ ss) w q from to r at on = let b = r.0 in let v = view_after s.0 r.1 s.1 z b in ⊎_elim
     (λ t. let old = looks_since z start ss b q from r.1 r.2 at (subst (λ n. get_elem? b.views n ≡ some r.1) (sym t.0) r.3) in
     record { news = b.trace ∷ old.news; looks = ap (λ (x : View). x.looks) (sym t.1) ∙ ap (λ l. b.trace ∷ l) old.looks; all = (trace_on z start ss b r.2, old.all) })
@@ -71,7 +76,8 @@ last_begins : (h t : List Event) (ts : List (List Event)) → AllBegin h (ts ++ 
 last_begins h t [] a = a.0
 last_begins h t (x ∷ ts) a = last_begins h t ts a.1
 
-pub in_order : (z : Shape) (before after : List (ℕ × Step)) (between w : World) (p q : ℕ) (had from to : View) (later : List (List Event)) (first : List Event) → Reaches z before between → ReachesOn z between after w
+pub in_order : (z : Shape) (before after : List (ℕ × Step)) (between w : World) (p q : ℕ) (had from to : View)
+    (later : List (List Event)) (first : List Event) → Reaches z before between → ReachesOn z between after w
     → get_elem? between.views p ≡ some had → get_elem? between.views q ≡ some from → get_elem? w.views q ≡ some to → to.looks ≡ later ++ first ∷ from.looks → Begins had.trace first
 in_order z before after between w p q had from to later first r on at there now is =
     let since = looks_since z between after w q from to on there now in

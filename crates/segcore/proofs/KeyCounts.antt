@@ -1,6 +1,7 @@
 -- How many keys of a bucket stand: as many as positions of its chain have an item.
 pub mod Filled
-use Rattle.std.proofs.Common.{◌≡◌, ◌≢◌, ℕ, ◌+◌, ◌*◌, ◌<◌, ◌≤◌, ◌==◌, Bool, true, false, cond, eqb, not, List, [], ◌∷◌, Some, None, Option, is_some, filter, count_by, sym, refl, ap, ◌∙◌, subst, ⊎_elim, inl, inr, arith}
+use Rattle.std.proofs.Common.{◌≡◌, ◌≢◌, ℕ, ◌+◌, ◌*◌, ◌<◌, ◌≤◌, ◌==◌, Bool, true, false, cond, eqb, not, List, [],
+    ◌∷◌, Some, None, Option, is_some, filter, count_by, sym, refl, ap, ◌∙◌, subst, ⊎_elim, inl, inr, arith}
 use Rattle.std.specs.declared.cmp.Ordering.{Ordering}
 use Rattle.std.specs.declared.cmp.Ordering.TheVariants.{Less, Equal, Greater}
 use Rattle.std.specs.Ordering.{match_ordering, is_eq}
@@ -193,7 +194,9 @@ counts z (Unlinked p k n why ∷ h) b m le l =
     none true = omega arith
     none false = omega arith
 
-    removed : (why : Leaving) → keys_in z (after z (removal p k why ∷ seen h)) b + if_there (is_some (standing (after z (seen h)) k)) (cond (eqb (bucket_of z k) b) 1 0) ≡ keys_in z (after z (seen h)) b
+    removed : (why : Leaving) → keys_in z (after z (removal p k why ∷ seen h)) b + if_there
+        (is_some (standing (after z (seen h)) k)) (cond (eqb (bucket_of z k) b) 1 0) ≡ keys_in z (after z (seen h))
+        b
     removed (Deletes m) = count_without (λ key. bucket_of z key == b) k (after z (seen h)).items (sorted-after z (seen h))
     removed (Evicts s) = count_without (λ key. bucket_of z key == b) k (after z (seen h)).items (sorted-after z (seen h))
 counts z (Chained p a j ∷ h) b m le l =

@@ -35,8 +35,12 @@ chained_kept z e h b f = kept (λ u. u.chained) (is (bucket_at z e) b) (bucket_a
 pub chained_marked : (z : Shape) (h : List Event) (b : ℕ) → chained_to (marked h) b ≡ (bucket_after z h b).chained
 chained_marked z [] b = refl
 chained_marked z (Chained p a m ∷ h) b = let i = chained_marked z h b in ⊎_elim
-    (λ t. cond-true (eqb a b) (chained_to (marked h) b + 1) (chained_to (marked h) b) t ∙ (ap (λ n. n + 1) i ∙ sym (ap (λ u. u.chained) (cond-true (eqb a b) (acts (Chained p a m) (bucket_after z h b)) (bucket_after z h b) t))))
-    (λ f. cond-false (eqb a b) (chained_to (marked h) b + 1) (chained_to (marked h) b) f ∙ (i ∙ sym (ap (λ u. u.chained) (cond-false (eqb a b) (acts (Chained p a m) (bucket_after z h b)) (bucket_after z h b) f))))
+    (λ t. cond-true (eqb a b) (chained_to (marked h) b + 1) (chained_to (marked h) b) t
+        ∙ (ap (λ n. n + 1) i ∙ sym (ap (λ u. u.chained)
+        (cond-true (eqb a b) (acts (Chained p a m) (bucket_after z h b)) (bucket_after z h b) t))))
+    (λ f. cond-false (eqb a b) (chained_to (marked h) b + 1) (chained_to (marked h) b) f
+        ∙ (i ∙ sym (ap (λ u. u.chained) (cond-false (eqb a b) (acts (Chained p a m) (bucket_after z h b))
+        (bucket_after z h b) f))))
     (cases_Bool (eqb a b))
 chained_marked z (e ∷ h) b = chained_marked z h b ∙ sym (chained_kept z e h b (λ u. refl))
 
@@ -56,7 +60,9 @@ drawn_marked z (Drew p a d m ∷ h) b l = let i = drawn_marked z h b l.0 in ⊎_
     (λ t. let no_spare : (bucket_after z h b).spare ≡ None = rw (← eqb-true a b t) l.1.suits.2 in
     cond-true (eqb a b) (drawn_for (marked h) b + 1) (drawn_for (marked h) b) t ∙ (ap (λ n. n + 1) (i ∙ ap (λ o. (bucket_after z h b).chained + one_if o) no_spare)
     ∙ (omega arith ∙ sym (ap drawn_of (cond-true (eqb a b) (acts (Drew p a d m) (bucket_after z h b)) (bucket_after z h b) t)))))
-    (λ f. cond-false (eqb a b) (drawn_for (marked h) b + 1) (drawn_for (marked h) b) f ∙ (i ∙ sym (ap drawn_of (cond-false (eqb a b) (acts (Drew p a d m) (bucket_after z h b)) (bucket_after z h b) f))))
+    (λ f. cond-false (eqb a b) (drawn_for (marked h) b + 1) (drawn_for (marked h) b) f
+        ∙ (i ∙ sym (ap drawn_of (cond-false (eqb a b) (acts (Drew p a d m) (bucket_after z h b))
+        (bucket_after z h b) f))))
     (cases_Bool (eqb a b))
 drawn_marked z (Chained p a m ∷ h) b l = let i = drawn_marked z h b l.0 in ⊎_elim
     (λ t. let had : (bucket_after z h b).spare ≡ Some m = rw (← eqb-true a b t) l.1.suits.0 in
@@ -73,7 +79,9 @@ pub place_marked : (z : Shape) (h : List Event) (k : List ℕ) → place z (mark
 place_marked z [] k = refl
 place_marked z (Linked p q s r n ∷ h) k = ap (cond (same_key (key_of q) k) (Some n)) (place_marked z h k)
 place_marked z (Relinked p k' f i s r n ∷ h) k = ap (cond (same_key k' k) (Some n)) (place_marked z h k)
-place_marked z (Chained p b m ∷ h) k = let e : onward (chained_to (marked h) b) (place z (marked h) k) ≡ moved (bucket_after z h b) (trace.place z h k) = (λ j. onward (chained_marked z h b j) (place_marked z h k j)) ∙ moved_on (bucket_after z h b) (trace.place z h k) in
+place_marked z (Chained p b m ∷ h) k = let e : onward (chained_to (marked h) b) (place z (marked h) k) ≡ moved
+    (bucket_after z h b) (trace.place z h k) = (λ j. onward (chained_marked z h b j) (place_marked z h k j))
+    ∙ moved_on (bucket_after z h b) (trace.place z h k) in
     (λ j. cond (eqb b (bucket_of z k)) (e j) (place_marked z h k j))
 place_marked z (e ∷ h) k = place_marked z h k
 

@@ -61,14 +61,17 @@ one_rise z (Bumped p t i f) h s r k l on = ⊎_elim
     (cases_Bool (eqb t s && eqb i r))
 one_rise z e h s r k l on = omega arith
 
-rise : (z : Shape) (more h : List Event) (p b n : ℕ) (a : Slot) → IsLawful z (more ++ h) → NoneBy p more → (bucket_after z h b).holder ≡ Some p → (bucket_after z h b).items n ≡ item a → frequency_of h a.segment a.row ≤ frequency_of (more ++ h) a.segment a.row
+rise : (z : Shape) (more h : List Event) (p b n : ℕ) (a : Slot) → IsLawful z (more ++ h) → NoneBy p more
+    → (bucket_after z h b).holder ≡ Some p → (bucket_after z h b).items n ≡ item a
+    → frequency_of h a.segment a.row ≤ frequency_of (more ++ h) a.segment a.row
 rise z [] h p b n a l none held is' = omega arith
 rise z (e ∷ more) h p b n a l none held is' =
     let before = rise z more h p b n a l.0 none.1 held is' in
     let there = (coherent z (more ++ h) l.0).items b n a (ap (λ u. u.items n) (quiet z more h p b l.0 none.1 held) ∙ is') in
     let one = one_rise z e (more ++ h) a.segment a.row a.key l there.linked in omega arith
 
-known_word : (z : Shape) (p : ℕ) (more h : List Event) → IsLawful z (more ++ h) → NoneBy p more → (step : Step) → FindsKnown step → May z h p step → word z (more ++ h) (cell step) ≡ word z h (cell step)
+known_word : (z : Shape) (p : ℕ) (more h : List Event) → IsLawful z (more ++ h) → NoneBy p more → (step : Step)
+    → FindsKnown step → May z h p step → word z (more ++ h) (cell step) ≡ word z h (cell step)
 known_word z p more h l n (info_look b) is may = ap (bucket_info_word z) (quiet z more h p b l n may.1)
 known_word z p more h l n (row_load s r j) is may = ap (λ u. u.words j) (read_row z more h p s r l n may.3)
 known_word z p more h l n _ is may = absurd is

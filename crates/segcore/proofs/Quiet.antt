@@ -26,7 +26,9 @@ needs_by : (e : Event) (q : ℕ) → needs e ≡ Some q → by e ≡ q
 needs_by (Took p b) q h = absurd (none-some q h)
 needs_by e q h = same_Some (by e) q h
 
-at_bucket : (z : Shape) (h : List Event) (e : Event) (b q : ℕ) (o : Option ℕ) → MatchOption o (Unit {0}) (λ b. (b < z.buckets) × ((bucket_after z h b).holder ≡ needs e)) → is o b ≡ true → (bucket_after z h b).holder ≡ Some q → by e ≡ q
+at_bucket : (z : Shape) (h : List Event) (e : Event) (b q : ℕ) (o : Option ℕ)
+    → MatchOption o (Unit {0}) (λ b. (b < z.buckets) × ((bucket_after z h b).holder ≡ needs e)) → is o b ≡ true
+    → (bucket_after z h b).holder ≡ Some q → by e ≡ q
 at_bucket z h e b q None g t held = absurd (false≢true t)
 at_bucket z h e b q (Some a) g t held = needs_by e q (sym g.1 ∙ (ap (λ x. (bucket_after z h x).holder) (eqb-true a b t) ∙ held))
 
@@ -57,7 +59,9 @@ same_at z (Refilled p s d) h k fits f = next_other z (after z (seen h)) (entry.R
 same_at z e h k fits f = record { stands = refl; finds = λ now. refl; version = refl }
 
 -- while a pass has the bit, others leave what stands under a key of its bucket, and the version
-pub quiet_at : (z : Shape) (more h : List Event) (p : ℕ) (k : List ℕ) → IsLawful z (more ++ h) → NoneBy p more → (bucket_after z h (bucket_of z k)).holder ≡ Some p → IsSameAt z (after z (seen h)) (after z (seen (more ++ h))) k
+pub quiet_at : (z : Shape) (more h : List Event) (p : ℕ) (k : List ℕ) → IsLawful z (more ++ h) → NoneBy p more
+    → (bucket_after z h (bucket_of z k)).holder ≡ Some p
+    → IsSameAt z (after z (seen h)) (after z (seen (more ++ h))) k
 quiet_at z [] h p k l n held = record { stands = refl; finds = λ now. refl; version = refl }
 quiet_at z (e ∷ more) h p k l n held =
     let b = bucket_of z k in
@@ -65,7 +69,8 @@ quiet_at z (e ∷ more) h p k l n held =
     let rest = quiet_at z more h p k l.0 n.1 held in
     record { stands = last.stands ∙ rest.stands; finds = λ now. last.finds now ∙ rest.finds now; version = last.version ∙ rest.version }
 
-pub quiet_stands : (z : Shape) (more h : List Event) (p : ℕ) (k : List ℕ) → IsLawful z (more ++ h) → NoneBy p more → (bucket_after z h (bucket_of z k)).holder ≡ Some p → stands z (seen (more ++ h)) k ≡ stands z (seen h) k
+pub quiet_stands : (z : Shape) (more h : List Event) (p : ℕ) (k : List ℕ) → IsLawful z (more ++ h) → NoneBy p more
+    → (bucket_after z h (bucket_of z k)).holder ≡ Some p → stands z (seen (more ++ h)) k ≡ stands z (seen h) k
 quiet_stands z more h p k l n held = (quiet_at z more h p k l n held).stands
 
 -- ---- rows
@@ -189,12 +194,17 @@ same_own_deadline z more h s l n = deadline_seen z (more ++ h) s ∙ (own_deadli
 
 -- ---- an event that fits after what a pass has seen fits also after what others did since
 
-later_follows : (z : Shape) (more h : List Event) (p : ℕ) (q : Request) (y : Reply) (s : Option ℕ) → IsLawful z (more ++ h) → NoneBy p more → (bucket_after z h (bucket_of z (key_of q))).holder ≡ Some p → Follows z (after z (seen h)) (entry.Wrote p q y s) → Follows z (after z (seen (more ++ h))) (entry.Wrote p q y s)
+later_follows : (z : Shape) (more h : List Event) (p : ℕ) (q : Request) (y : Reply) (s : Option ℕ)
+    → IsLawful z (more ++ h) → NoneBy p more → (bucket_after z h (bucket_of z (key_of q))).holder ≡ Some p
+    → Follows z (after z (seen h)) (entry.Wrote p q y s)
+    → Follows z (after z (seen (more ++ h))) (entry.Wrote p q y s)
 later_follows z more h p q y s l n held f =
     let same = quiet_at z more h p (key_of q) l n held in
     (f.0 ∙ (λ i. reply_to q (is_some ((sym (same.finds (moment_of q))) i)) ((sym same.version) i)), f.1)
 
-later_left : (z : Shape) (more h : List Event) (p : ℕ) (k : List ℕ) (why : Leaving) → IsLawful z (more ++ h) → NoneBy p more → (bucket_after z h (bucket_of z k)).holder ≡ Some p → Follows z (after z (seen h)) (removal p k why) → Follows z (after z (seen (more ++ h))) (removal p k why)
+later_left : (z : Shape) (more h : List Event) (p : ℕ) (k : List ℕ) (why : Leaving) → IsLawful z (more ++ h)
+    → NoneBy p more → (bucket_after z h (bucket_of z k)).holder ≡ Some p
+    → Follows z (after z (seen h)) (removal p k why) → Follows z (after z (seen (more ++ h))) (removal p k why)
 later_left z more h p k (Deletes m) l n held f = later_follows z more h p (Delete k m) Deleted None l n held f
 later_left z more h p k (Evicts s) l n held f = (subst (λ o. IsSomeAnd o (λ item. item.segment ≡ s)) (sym (quiet_stands z more h p k l n held)) f.0, f.1)
 

@@ -15,7 +15,8 @@ use Rattle.segcore.proofs.Segments.{is_pass}
 use Rattle.segcore.proofs.Standing.{coherent}
 
 -- the row that an item names stays as it is for one event more: its segment isn't refilled while the key stands there
-named_once : (z : Shape) (e : Event) (h : List Event) (b n : ℕ) (a : Slot) → IsLawful z (e ∷ h) → (bucket_after z h b).items n ≡ item a → row_after (e ∷ h) a.segment a.row ≡ row_after h a.segment a.row
+named_once : (z : Shape) (e : Event) (h : List Event) (b n : ℕ) (a : Slot) → IsLawful z (e ∷ h)
+    → (bucket_after z h b).items n ≡ item a → row_after (e ∷ h) a.segment a.row ≡ row_after h a.segment a.row
 named_once z e h b n a l is =
     let i = (coherent z h l.0).items b n a is in
     row_stays z e h a.segment a.row a.key l
@@ -23,7 +24,9 @@ named_once z e h b n a l is =
     i.linked
 
 -- and under the bucket's bit for any number
-named_row : (z : Shape) (more h : List Event) (p b n : ℕ) (a : Slot) → IsLawful z (more ++ h) → NoneBy p more → (bucket_after z h b).holder ≡ Some p → (bucket_after z h b).items n ≡ item a → row_after (more ++ h) a.segment a.row ≡ row_after h a.segment a.row
+named_row : (z : Shape) (more h : List Event) (p b n : ℕ) (a : Slot) → IsLawful z (more ++ h) → NoneBy p more
+    → (bucket_after z h b).holder ≡ Some p → (bucket_after z h b).items n ≡ item a
+    → row_after (more ++ h) a.segment a.row ≡ row_after h a.segment a.row
 named_row z [] h p b n a l none held is = refl
 named_row z (e ∷ more) h p b n a l none held is =
     named_once z e (more ++ h) b n a l (ap (λ u. u.items n) (quiet z more h p b l.0 none.1 held) ∙ is) ∙ named_row z more h p b n a l.0 none.1 held is

@@ -25,10 +25,13 @@ pub record StandsFrom (z : Shape) (k : List ℕ) (m : ℕ) (h : List Mark) : Typ
   pub late : m ≤ at
   pub within : IsIn z h k at
 
-still_in : (z : Shape) (k : List ℕ) (m : ℕ) (h g : List Mark) (s : StandsFrom z k m h) → (x : Cached) → stands z (entries g) k ≡ Some x → (n : ℕ) → place z g k ≡ Some n → s.at ≤ n → IsIn z g k n → StandsFrom z k m g
+still_in : (z : Shape) (k : List ℕ) (m : ℕ) (h g : List Mark) (s : StandsFrom z k m h) → (x : Cached)
+    → stands z (entries g) k ≡ Some x → (n : ℕ) → place z g k ≡ Some n → s.at ≤ n → IsIn z g k n
+    → StandsFrom z k m g
 still_in z k m h g s x t n p le i = let a = s.late in record { item = x; stands = t; at = n; place = p; late = omega arith; within = i }
 
-by_entry : (z : Shape) (k : List ℕ) (m : ℕ) (h : List Mark) (e : Entry) → StandsFrom z k m h → (o : Option Cached) → stands z (e ∷ entries h) k ≡ o → IsAbsent z (enters e ∷ h) k ⊎ StandsFrom z k m (enters e ∷ h)
+by_entry : (z : Shape) (k : List ℕ) (m : ℕ) (h : List Mark) (e : Entry) → StandsFrom z k m h → (o : Option Cached)
+    → stands z (e ∷ entries h) k ≡ o → IsAbsent z (enters e ∷ h) k ⊎ StandsFrom z k m (enters e ∷ h)
 by_entry z k m h e s None t = inl t
 by_entry z k m h e s (Some x) t = inr (still_in z k m h (enters e ∷ h) s x t s.at s.place (omega arith) s.within)
 
@@ -43,17 +46,24 @@ one z k m h (at k' t r n f) p s = inr (⊎_elim
     (cases_Bool (same_key k' k)))
 one z k m h (chained b) p s = inr (⊎_elim
     (λ y. let c = chained_to h b in let eb = eqb-true b (bucket_of z k) y in
-    let more : chained_to (chained b ∷ h) (bucket_of z k) ≡ c + 1 = cond-true (eqb b (bucket_of z k)) (chained_to h (bucket_of z k) + 1) (chained_to h (bucket_of z k)) y ∙ ap (λ x. chained_to h x + 1) (sym eb) in
+    let more : chained_to (chained b ∷ h) (bucket_of z k) ≡ c + 1 =
+        cond-true (eqb b (bucket_of z k)) (chained_to h (bucket_of z k) + 1) (chained_to h (bucket_of z k)) y
+        ∙ ap (λ x. chained_to h x + 1) (sym eb) in
     let ec : chained_to h (bucket_of z k) ≡ c = ap (chained_to h) (sym eb) in
     let now : place z (chained b ∷ h) k ≡ Some (cond (eqb (8 * c + 7) s.at) (8 * c + 9) s.at) = cond-true (eqb b (bucket_of z k)) (onward c (place z h k)) (place z h k) y ∙ ap (onward c) s.place in
     let lt = s.within.0 in
     ⊎_elim
-    (λ t. let e = eqb-true (8 * c + 7) s.at t in still_in z k m h (chained b ∷ h) s s.item s.stands (8 * c + 9) (now ∙ ap Some (cond-true (eqb (8 * c + 7) s.at) (8 * c + 9) s.at t)) (omega arith) (omega arith, omega arith))
+    (λ t. let e = eqb-true (8 * c + 7) s.at t in
+        still_in z k m h (chained b ∷ h) s s.item s.stands (8 * c + 9) (now
+        ∙ ap Some (cond-true (eqb (8 * c + 7) s.at) (8 * c + 9) s.at t)) (omega arith) (omega arith, omega arith))
     (λ f. still_in z k m h (chained b ∷ h) s s.item s.stands s.at (now ∙ ap Some (cond-false (eqb (8 * c + 7) s.at) (8 * c + 9) s.at f)) (omega arith) (omega arith, s.within.1))
     (cases_Bool (eqb (8 * c + 7) s.at)))
-    (λ f. let same : chained_to (chained b ∷ h) (bucket_of z k) ≡ chained_to h (bucket_of z k) = cond-false (eqb b (bucket_of z k)) (chained_to h (bucket_of z k) + 1) (chained_to h (bucket_of z k)) f in
+    (λ f. let same : chained_to (chained b ∷ h) (bucket_of z k) ≡ chained_to h (bucket_of z k) =
+        cond-false (eqb b (bucket_of z k)) (chained_to h (bucket_of z k) + 1) (chained_to h (bucket_of z k)) f in
     let lt = s.within.0 in
-    still_in z k m h (chained b ∷ h) s s.item s.stands s.at (cond-false (eqb b (bucket_of z k)) (onward (chained_to h b) (place z h k)) (place z h k) f ∙ s.place) (omega arith) (omega arith, s.within.1))
+    still_in z k m h (chained b ∷ h) s s.item s.stands s.at
+        (cond-false (eqb b (bucket_of z k)) (onward (chained_to h b) (place z h k)) (place z h k) f
+        ∙ s.place) (omega arith) (omega arith, s.within.1))
     (cases_Bool (eqb b (bucket_of z k))))
 one z k m h (drawn b) p s = inr (still_in z k m h (drawn b ∷ h) s s.item s.stands s.at s.place (omega arith) s.within)
 one z k m h (bumped t r f) p s = inr (still_in z k m h (bumped t r f ∷ h) s s.item s.stands s.at s.place (omega arith) s.within)
@@ -91,7 +101,9 @@ after_at z k k' (entered x y ∷ h) e p a = absurd a
 after_at z k k' (left x y ∷ h) e p a = absurd a
 
 -- a write leaves the key standing where it was stored, or stood before
-wrote : (z : Shape) (k : List ℕ) (q : Request) (y : Reply) (s : Option ℕ) (h : List Mark) (x : Cached) → key_of q ≡ k → IsWellMarked z h → IsAfterAt y (key_of q) h → put q y s (stands z (entries h) k) ≡ Some x → HasPlace z k h ⊎ (stands z (entries h) k ≡ Some x)
+wrote : (z : Shape) (k : List ℕ) (q : Request) (y : Reply) (s : Option ℕ) (h : List Mark) (x : Cached)
+    → key_of q ≡ k → IsWellMarked z h → IsAfterAt y (key_of q) h → put q y s (stands z (entries h) k) ≡ Some x
+    → HasPlace z k h ⊎ (stands z (entries h) k ≡ Some x)
 wrote z k q Stored (Some s) h x e p a t = inl (after_at z k (key_of q) h e p a)
 wrote z k q Stored None h x e p a t = inr t
 wrote z k q Deleted s h x e p a t = absurd (none-some x t)
@@ -107,18 +119,25 @@ was_moved (Some y) s x e = (y, refl)
 pub has_place : (z : Shape) (k : List ℕ) (h : List Mark) (x : Cached) → IsWellMarked z h → stands z (entries h) k ≡ Some x → HasPlace z k h
 has_place z k [] x p t = absurd (none-some x t)
 has_place z k (enters (entry.Wrote q w y s) ∷ h) x p t = ⊎_elim
-    (λ e. let r = wrote z k w y s h x (key_true (key_of w) k e) p.0 p.1 (sym (stands_wrote z q w y s (entries h) k ∙ cond-true (same_key (key_of w) k) (put w y s (stands z (entries h) k)) (stands z (entries h) k) e) ∙ t) in
+    (λ e. let r = wrote z k w y s h x (key_true (key_of w) k e) p.0 p.1 (sym (stands_wrote z q w y s (entries h) k
+        ∙ cond-true (same_key (key_of w) k) (put w y s (stands z (entries h) k)) (stands z (entries h) k) e) ∙ t) in
     ⊎_elim (λ i. record { at = i.at; place = i.place; within = i.within }) (λ old. let i = has_place z k h x p.0 old in record { at = i.at; place = i.place; within = i.within }) r)
-    (λ f. let i = has_place z k h x p.0 (sym (stands_wrote z q w y s (entries h) k ∙ cond-false (same_key (key_of w) k) (put w y s (stands z (entries h) k)) (stands z (entries h) k) f) ∙ t) in record { at = i.at; place = i.place; within = i.within })
+    (λ f. let i = has_place z k h x p.0 (sym (stands_wrote z q w y s (entries h) k
+        ∙ cond-false (same_key (key_of w) k) (put w y s (stands z (entries h) k)) (stands z (entries h) k) f)
+        ∙ t) in record { at = i.at; place = i.place; within = i.within })
     (cases_Bool (same_key (key_of w) k))
 has_place z k (enters (entry.Evicted q k' s) ∷ h) x p t = ⊎_elim
     (λ e. absurd (none-some x (sym (stands_evicted z q k' s (entries h) k ∙ cond-true (same_key k' k) None (stands z (entries h) k) e) ∙ t)))
-    (λ f. let i = has_place z k h x p.0 (sym (stands_evicted z q k' s (entries h) k ∙ cond-false (same_key k' k) None (stands z (entries h) k) f) ∙ t) in record { at = i.at; place = i.place; within = i.within })
+    (λ f. let i = has_place z k h x p.0 (sym (stands_evicted z q k' s (entries h) k
+        ∙ cond-false (same_key k' k) None (stands z (entries h) k) f) ∙ t) in
+        record { at = i.at; place = i.place; within = i.within })
     (cases_Bool (same_key k' k))
 has_place z k (enters (entry.Moved q k' f s) ∷ h) x p t = let m = stands_moved z q k' f s (entries h) k in ⊎_elim
     (λ e. let y = was_moved (stands z (entries h) k) s x (sym (m ∙ cond-true (same_key k' k) (option_map (with_segment s) (stands z (entries h) k)) (stands z (entries h) k) e) ∙ t) in
     let i = has_place z k h y.0 p.0 y.1 in record { at = i.at; place = i.place; within = i.within })
-    (λ g. let i = has_place z k h x p.0 (sym (m ∙ cond-false (same_key k' k) (option_map (with_segment s) (stands z (entries h) k)) (stands z (entries h) k) g) ∙ t) in record { at = i.at; place = i.place; within = i.within })
+    (λ g. let i = has_place z k h x p.0 (sym (m
+        ∙ cond-false (same_key k' k) (option_map (with_segment s) (stands z (entries h) k)) (stands z (entries h) k)
+        g) ∙ t) in record { at = i.at; place = i.place; within = i.within })
     (cases_Bool (same_key k' k))
 has_place z k (enters (entry.Refilled q s d) ∷ h) x p t = let i = has_place z k h x p.0 t in record { at = i.at; place = i.place; within = i.within }
 has_place z k (at k' u r n f ∷ h) x p t = let i = has_place z k h x p.0 t in ⊎_elim

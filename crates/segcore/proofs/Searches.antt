@@ -49,7 +49,9 @@ pub record Removed (z : Shape) (h : List Event) (e : Event) (a : Slot) : Type 0 
 abbrev Fate : Shape → List Event → Event → ℕ → ℕ → Slot → Type 0
 Fate z h e b n a = Onward z h e b n a ⊎ (Replaced z h e b n a ⊎ Removed z h e a)
 
-linked_fate : (z : Shape) (h : List Event) (p : ℕ) (q : Request) (s r n' b n : ℕ) (a : Slot) → IsLawful z (Linked p q s r n' ∷ h) → (bucket_after z h b).items n ≡ item a → Fate z h (Linked p q s r n') b n a
+linked_fate : (z : Shape) (h : List Event) (p : ℕ) (q : Request) (s r n' b n : ℕ) (a : Slot)
+    → IsLawful z (Linked p q s r n' ∷ h) → (bucket_after z h b).items n ≡ item a
+    → Fate z h (Linked p q s r n') b n a
 linked_fate z h p q s r n' b n a l is' =
     let e = Linked p q s r n' in let k = key_of q in let b0 = bucket_of z k in let o = item (slot k s r) in
     let x = Some (cached (value_of q) s) in
@@ -66,7 +68,8 @@ linked_fate z h p q s r n' b n a l is' =
     inr (inl (record {
       segment = s;
       row = r;
-      here = subst (λ t. (bucket_after z (e ∷ h) t).items n ≡ item (slot a.key s r)) eb (here z h e k n' o x w n ∙ (cond-true (eqb n' n) o ((bucket_after z h b0).items n) hit ∙ ap (λ t. item (slot t s r)) (sym own)));
+      here = subst (λ t. (bucket_after z (e ∷ h) t).items n ≡ item (slot a.key s r)) eb (here z h e k n' o x w n
+          ∙ (cond-true (eqb n' n) o ((bucket_after z h b0).items n) hit ∙ ap (λ t. item (slot t s r)) (sym own)));
       last = cond-true (same_key k a.key) (Some (slot a.key s r)) (last_at (marked h) a.key) (same_true k a.key (sym own));
       fresh = l.1.suits.0.3;
       rows = rows_stay z h e l.1.suits (λ p' t' d' same. cc) a.segment a.row a.key ((c.items b n a is').value) (c.items b n a is').linked (c.items b n a is').stands;
@@ -79,7 +82,9 @@ linked_fate z h p q s r n' b n a l is' =
     nothing_item : (a : Slot) → nothing ≡ item a → None ≡ Some a
     nothing_item a e = cc
 
-relinked_fate : (z : Shape) (h : List Event) (p : ℕ) (k : List ℕ) (f i s r n' b n : ℕ) (a : Slot) → IsLawful z (Relinked p k f i s r n' ∷ h) → (bucket_after z h b).items n ≡ item a → Fate z h (Relinked p k f i s r n') b n a
+relinked_fate : (z : Shape) (h : List Event) (p : ℕ) (k : List ℕ) (f i s r n' b n : ℕ) (a : Slot)
+    → IsLawful z (Relinked p k f i s r n' ∷ h) → (bucket_after z h b).items n ≡ item a
+    → Fate z h (Relinked p k f i s r n') b n a
 relinked_fate z h p k f i s r n' b n a l is' =
     let e = Relinked p k f i s r n' in let b0 = bucket_of z k in let o = item (slot k s r) in
     let u = l.1.suits in
@@ -94,7 +99,8 @@ relinked_fate z h p k f i s r n' b n a l is' =
     inr (inl (record {
       segment = s;
       row = r;
-      here = subst (λ t. (bucket_after z (e ∷ h) t).items n ≡ item (slot a.key s r)) eb (here z h e k n' o x w n ∙ (cond-true (eqb n' n) o ((bucket_after z h b0).items n) hit ∙ ap (λ t. item (slot t s r)) (sym own)));
+      here = subst (λ t. (bucket_after z (e ∷ h) t).items n ≡ item (slot a.key s r)) eb (here z h e k n' o x w n
+          ∙ (cond-true (eqb n' n) o ((bucket_after z h b0).items n) hit ∙ ap (λ t. item (slot t s r)) (sym own)));
       last = cond-true (same_key k a.key) (Some (slot a.key s r)) (last_at (marked h) a.key) (same_true k a.key (sym own));
       fresh = u.0.3;
       rows = rows_stay z h e u (λ p' t' d' same. cc) a.segment a.row a.key ((c.items b n a is').value) (c.items b n a is').linked (c.items b n a is').stands;
@@ -104,7 +110,9 @@ relinked_fate z h p k f i s r n' b n a l is' =
     (λ no. inl (n, omega arith, there z h e k n' o x w b n no ∙ is'))
     (cases_Bool (eqb b0 b))
 
-unlinked_fate : (z : Shape) (h : List Event) (p : ℕ) (k : List ℕ) (n' : ℕ) (why : Leaving) (b n : ℕ) (a : Slot) → IsLawful z (Unlinked p k n' why ∷ h) → (bucket_after z h b).items n ≡ item a → Fate z h (Unlinked p k n' why) b n a
+unlinked_fate : (z : Shape) (h : List Event) (p : ℕ) (k : List ℕ) (n' : ℕ) (why : Leaving) (b n : ℕ) (a : Slot)
+    → IsLawful z (Unlinked p k n' why ∷ h) → (bucket_after z h b).items n ≡ item a
+    → Fate z h (Unlinked p k n' why) b n a
 unlinked_fate z h p k n' why b n a l is' =
     let e = Unlinked p k n' why in let b0 = bucket_of z k in let w = unlinks z h p k n' why in ⊎_elim
     (λ y. let eb = eqb-true b0 b y in
@@ -113,7 +121,9 @@ unlinked_fate z h p k n' why b n a l is' =
     (λ hit. let f = l.1.suits in
     let own : a.key ≡ k = sym (ap (λ t. t.key) (same_item f.0 a (sym f.1 ∙ (ap (bucket_after z h b0).items (eqb-true n' n hit) ∙ old)))) ∙ f.2 in
     inr (inr (record { absent = gone z p k why h a.key ∙ cond-true (same_key k a.key) None (stands z (seen h) a.key) (same_true k a.key (sym own)); rows = refl })))
-    (λ miss. inl (n, omega arith, subst (λ t. (bucket_after z (e ∷ h) t).items n ≡ item a) eb (here z h e k n' nothing None w n ∙ (cond-false (eqb n' n) nothing ((bucket_after z h b0).items n) miss ∙ old))))
+    (λ miss. inl (n, omega arith, subst (λ t. (bucket_after z (e ∷ h) t).items n ≡ item a) eb
+        (here z h e k n' nothing None w n ∙ (cond-false (eqb n' n) nothing ((bucket_after z h b0).items n) miss
+        ∙ old))))
     (cases_Bool (eqb n' n)))
     (λ no. inl (n, omega arith, there z h e k n' nothing None w b n no ∙ is'))
     (cases_Bool (eqb b0 b))
@@ -143,7 +153,9 @@ fate z e h b n a l is' = inl (n, omega arith, (is_calm z e h refl l (coherent z 
 
 -- after its item went, no word names a row
 row_gone : (z : Shape) (e : Event) (h : List Event) (b n : ℕ) (a : Slot) → IsLawful z (e ∷ h) → (bucket_after z h b).items n ≡ item a → row_after (e ∷ h) a.segment a.row ≡ row_after h a.segment a.row
-    → ((c : Slot) → c.key ≡ a.key → c.segment ≡ a.segment → c.row ≡ a.row → ((x : Cached) → stands z (seen (e ∷ h)) a.key ≡ Some x → ⊥) ⊎ (last_at (marked (e ∷ h)) a.key ≢ Some (slot a.key a.segment a.row)))
+    → ((c : Slot) → c.key ≡ a.key → c.segment ≡ a.segment → c.row ≡ a.row
+        → ((x : Cached) → stands z (seen (e ∷ h)) a.key ≡ Some x → ⊥)
+        ⊎ (last_at (marked (e ∷ h)) a.key ≢ Some (slot a.key a.segment a.row)))
     → RowGone z a.segment a.row (e ∷ h)
 row_gone z e h b n a l is' rows out b' n' c there' es er =
     let i = (coherent z (e ∷ h) l).items b' n' c there' in
@@ -183,7 +195,9 @@ start_key z k h None l e = gone_from_start z (key_item k) h e
 start_key z k h (Some x) l e = let c = coherent z h l in let w = c.all k x e in let i = (c.items (bucket_of z k) w.0 w.1 w.2).position in let low = i.1 in inr (w.0, omega arith, (w.1, w.2, w.3))
 
 -- a row is named in the chain of the key that was linked to it, or nowhere
-start_row : (z : Shape) (k : List ℕ) (s r : ℕ) (h : List Event) (o : Option Cached) → IsLawful z h → (row_after h s r).linked ≡ Some k → stands z (seen h) k ≡ o → SoughtAhead z (row_item (bucket_of z k) s r) 1 h h
+start_row : (z : Shape) (k : List ℕ) (s r : ℕ) (h : List Event) (o : Option Cached) → IsLawful z h
+    → (row_after h s r).linked ≡ Some k → stands z (seen h) k ≡ o
+    → SoughtAhead z (row_item (bucket_of z k) s r) 1 h h
 start_row z k s r h None l on e = gone_from_start z (row_item (bucket_of z k) s r) h
     (λ b n c at es er.
     let i = (coherent z h l).items b n c at in
@@ -228,7 +242,9 @@ search_passed z x n h g none a = ahead_passed (SoughtAt z x) (SoughtGone z x) n 
 pub search_skipped : (z : Shape) (x : Sought) (n : ℕ) (h g : List Event) → IsLawful z g → n % 8 ≡ 0 → SoughtAhead z x n h g → SoughtAhead z x (n + 1) h g
 search_skipped z x n h g l e a = search_passed z x n h g (λ i. let p = (sought_at z x g n l i).1 in absurd (omega arith)) a
 
-pub search_ended : (z : Shape) (x : Sought) (d : ℕ) (h g : List Event) → IsLawful z g → (bucket_after z g (chain_sought z x)).chained ≤ d → SoughtAhead z x (8 * d + 8) h g → WasGone (SoughtGone z x) h g
+pub search_ended : (z : Shape) (x : Sought) (d : ℕ) (h g : List Event) → IsLawful z g
+    → (bucket_after z g (chain_sought z x)).chained ≤ d → SoughtAhead z x (8 * d + 8) h g
+    → WasGone (SoughtGone z x) h g
 search_ended z x d h g l le a = ahead_end (SoughtAt z x) (SoughtGone z x) (8 * d + 8) h g (λ m i. let p = (sought_at z x g m l i).0 in omega arith) a
 
 -- what the word of a position says where it is there
@@ -241,7 +257,8 @@ sought_word z x h n c lt l at i =
 -- ---- a key alone
 
 -- a word that names a row that is linked to the key is in the key's chain, and has its item
-pub key_named : (z : Shape) (k : List ℕ) (h : List Event) (b n : ℕ) (c : Cell) (t s r : ℕ) → IsValid z → IsLawful z h → Names z h b n c t s r → (row_after h s r).linked ≡ Some k → (bucket_of z k ≡ b) × KeyAt z k h n
+pub key_named : (z : Shape) (k : List ℕ) (h : List Event) (b n : ℕ) (c : Cell) (t s r : ℕ) → IsValid z
+    → IsLawful z h → Names z h b n c t s r → (row_after h s r).linked ≡ Some k → (bucket_of z k ≡ b) × KeyAt z k h n
 key_named z k h b n c t s r v l x on =
     let i = named_at z h b n c t s r v l x in
     let st = (coherent z h l).items b n i.slot i.here in
@@ -253,7 +270,9 @@ key_named z k h b n c t s r v l x on =
 pub key_placed : (z : Shape) (k : List ℕ) (h : List Event) (n : ℕ) → IsLawful z h → KeyAt z k h n → marks.place z (marked h) k ≡ Some n
 key_placed z k h n l i = place_marked z h k ∙ (ap (place z h) (sym i.2) ∙ (coherent z h l).placed (bucket_of z k) n i.0 i.1)
 
-at_place : (z : Shape) (k : List ℕ) (h : List Event) (n : ℕ) (o : Option Cached) → IsLawful z h → stands z (seen h) k ≡ o → (stands z (seen h) k ≡ None → ⊥) → marks.place z (marked h) k ≡ Some n → KeyAt z k h n
+at_place : (z : Shape) (k : List ℕ) (h : List Event) (n : ℕ) (o : Option Cached) → IsLawful z h
+    → stands z (seen h) k ≡ o → (stands z (seen h) k ≡ None → ⊥) → marks.place z (marked h) k ≡ Some n
+    → KeyAt z k h n
 at_place z k h n None l e there' p = absurd (there' e)
 at_place z k h n (Some x) l e there' p =
     let w = (coherent z h l).all k x e in

@@ -26,8 +26,14 @@ use Rattle.segcore.proofs.Standing.{relinks, coherent}
 -- a pass that isn't there is in no segment
 pub strangers : (z : Shape) (h : List Event) (p s : ℕ) → IsLawful z h → z.passes ≤ p → inside h p s ≡ 0
 strangers z [] p s l le = refl
-strangers z (Entered q t ∷ h) p s l le = let lt = l.1.suits.0 in cond-false (eqb q p && eqb t s) _ (inside h p s) (false_from_ne_true (eqb q p && eqb t s) (λ y. let e = eqb-true q p (and_parts (eqb q p) (eqb t s) y).0 in omega arith)) ∙ strangers z h p s l.0 le
-strangers z (Left q t ∷ h) p s l le = let lt = l.1.suits.0 in cond-false (eqb q p && eqb t s) _ (inside h p s) (false_from_ne_true (eqb q p && eqb t s) (λ y. let e = eqb-true q p (and_parts (eqb q p) (eqb t s) y).0 in omega arith)) ∙ strangers z h p s l.0 le
+strangers z (Entered q t ∷ h) p s l le = let lt = l.1.suits.0 in
+    cond-false (eqb q p && eqb t s) _ (inside h p s)
+    (false_from_ne_true (eqb q p && eqb t s) (λ y. let e = eqb-true q p (and_parts (eqb q p) (eqb t s) y).0 in
+    omega arith)) ∙ strangers z h p s l.0 le
+strangers z (Left q t ∷ h) p s l le = let lt = l.1.suits.0 in
+    cond-false (eqb q p && eqb t s) _ (inside h p s)
+    (false_from_ne_true (eqb q p && eqb t s) (λ y. let e = eqb-true q p (and_parts (eqb q p) (eqb t s) y).0 in
+    omega arith)) ∙ strangers z h p s l.0 le
 strangers z (e ∷ h) p s l le = strangers z h p s l.0 le
 
 -- a pass that is in a segment is one of the passes
@@ -55,7 +61,9 @@ none_links z (e ∷ more) h s r k l n on = (
 at_link : (h : List Event) (p : ℕ) (q : Request) (s r n : ℕ) → row_after (Linked p q s r n ∷ h) s r ≡ writes_row (Linked p q s r n) (row_after h s r)
 at_link h p q s r n = cond-true (eqb s s && eqb r r) (writes_row (Linked p q s r n) (row_after h s r)) (row_after h s r) (and_from (eqb s s) (eqb r r) (eq-eqb s s refl) (eq-eqb r r refl))
 
-kept_row : (z : Shape) (more h : List Event) (p : ℕ) (q : Request) (s r n : ℕ) → IsLawful z (more ++ (Linked p q s r n ∷ h)) → NoneRefills s more → IsKeptRow z (more ++ (Linked p q s r n ∷ h)) more (Linked p q s r n ∷ h) (key_of q) (value_of q) s r
+kept_row : (z : Shape) (more h : List Event) (p : ℕ) (q : Request) (s r n : ℕ)
+    → IsLawful z (more ++ (Linked p q s r n ∷ h)) → NoneRefills s more
+    → IsKeptRow z (more ++ (Linked p q s r n ∷ h)) more (Linked p q s r n ∷ h) (key_of q) (value_of q) s r
 kept_row z more h p q s r n l none =
     let e = Linked p q s r n in let k = key_of q in
     let on : (row_after (e ∷ h) s r).linked ≡ Some k = ap (λ u. u.linked) (at_link h p q s r n) in

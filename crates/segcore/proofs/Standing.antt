@@ -23,7 +23,10 @@ use Rattle.segcore.proofs.Quiet.{at_unlinked}
 use Rattle.segcore.proofs.Chains.{same_item, no_item, next_item, copy_item, chain_of}
 
 -- an item stands after the event as before, at the position n'
-stood : (z : Shape) (h : List Event) (e : Event) (b n n' : ℕ) (a : Slot) → IsStanding z h b n a → IsPosition (bucket_after z (e ∷ h) b) n' → row_after (e ∷ h) a.segment a.row ≡ row_after h a.segment a.row → stands z (seen (e ∷ h)) a.key ≡ stands z (seen h) a.key → last_at (marked (e ∷ h)) a.key ≡ last_at (marked h) a.key → IsStanding z (e ∷ h) b n' a
+stood : (z : Shape) (h : List Event) (e : Event) (b n n' : ℕ) (a : Slot) → IsStanding z h b n a
+    → IsPosition (bucket_after z (e ∷ h) b) n' → row_after (e ∷ h) a.segment a.row ≡ row_after h a.segment a.row
+    → stands z (seen (e ∷ h)) a.key ≡ stands z (seen h) a.key
+    → last_at (marked (e ∷ h)) a.key ≡ last_at (marked h) a.key → IsStanding z (e ∷ h) b n' a
 stood z h e b n n' a s i w k m = record {
   here = s.here;
   position = i;
@@ -136,7 +139,9 @@ module _ (z : Shape) (h : List Event) (e : Event) (k0 : List ℕ) (n : ℕ) (o :
     all = λ k y is'. ⊎_elim
         (λ yes. let ek = key_true k0 k yes in
         let w = p.has y (sym (cond-true (same_key k0 k) x (stands z (seen h) k) yes) ∙ (sym (p.keys k) ∙ is')) in
-        (n, w.0, subst (λ (q : List ℕ). (bucket_after z (e ∷ h) (bucket_of z q)).items n ≡ item w.0) ek (here n ∙ (cond-true (eqb n n) o ((bucket_after z h (bucket_of z k0)).items n) (eq-eqb n n refl) ∙ w.1)), p.own w.0 w.1 ∙ ek))
+        (n, w.0, subst (λ (q : List ℕ). (bucket_after z (e ∷ h) (bucket_of z q)).items n ≡ item w.0) ek (here n
+            ∙ (cond-true (eqb n n) o ((bucket_after z h (bucket_of z k0)).items n) (eq-eqb n n refl) ∙ w.1)),
+            p.own w.0 w.1 ∙ ek))
         (λ no. let w = c.all k y (sym (cond-false (same_key k0 k) x (stands z (seen h) k) no) ∙ (sym (p.keys k) ∙ is')) in
         let ne = key_false k0 k no in (
           w.0,
@@ -155,9 +160,11 @@ module _ (z : Shape) (h : List Event) (e : Event) (k0 : List ℕ) (n : ℕ) (o :
 
 -- a linked row is no row that an event touches
 pub rows_stay : (z : Shape) (h : List Event) (e : Event) → Suits z h e → ((p t d : ℕ) → e ≢ Refilled p t d) → LinkedRowsStay z h e
-rows_stay z h e u other s r k v on _ = cond-false (row_at e s r) (writes_row e (row_after h s r)) (row_after h s r) (false_from_ne_true (row_at e s r) (λ t. none-some k (sym (at_unlinked z h e s r u other t) ∙ on)))
+rows_stay z h e u other s r k v on _ = cond-false (row_at e s r) (writes_row e (row_after h s r)) (row_after h s r)
+    (false_from_ne_true (row_at e s r) (λ t. none-some k (sym (at_unlinked z h e s r u other t) ∙ on)))
 
-pub links : (z : Shape) (h : List Event) (p : ℕ) (q : Request) (s r n : ℕ) → Suits z h (Linked p q s r n) → Puts z h (Linked p q s r n) (key_of q) n (item (slot (key_of q) s r)) (Some (cached (value_of q) s))
+pub links : (z : Shape) (h : List Event) (p : ℕ) (q : Request) (s r n : ℕ) → Suits z h (Linked p q s r n)
+    → Puts z h (Linked p q s r n) (key_of q) n (item (slot (key_of q) s r)) (Some (cached (value_of q) s))
 links z h p q s r n u = let e = Linked p q s r n in let k = key_of q in
     let same_row : row_after (e ∷ h) s r ≡ record (row_after h s r) { linked = Some k } = rw (eq-eqb s s refl, eq-eqb r r refl) refl in
     let b0 = bucket_of z k in
@@ -188,7 +195,9 @@ links z h p q s r n u = let e = Linked p q s r n in let k = key_of q in
     }
 
 -- what a move puts under its key: its value, in the other segment
-pub relinks : (z : Shape) (h : List Event) (p : ℕ) (k : List ℕ) (f i s r n : ℕ) → (u : Suits z h (Relinked p k f i s r n)) → Coherent z h → Puts z h (Relinked p k f i s r n) k n (item (slot k s r)) (Some (cached u.1.0 s))
+pub relinks : (z : Shape) (h : List Event) (p : ℕ) (k : List ℕ) (f i s r n : ℕ)
+    → (u : Suits z h (Relinked p k f i s r n)) → Coherent z h
+    → Puts z h (Relinked p k f i s r n) k n (item (slot k s r)) (Some (cached u.1.0 s))
 relinks z h p k f i s r n u c = let e = Relinked p k f i s r n in
     let old = c.items (bucket_of z k) n (slot k f i) u.2 in
     let same_row : row_after (e ∷ h) s r ≡ record (row_after h s r) { linked = Some k } = rw (eq-eqb s s refl, eq-eqb r r refl) refl in
@@ -291,7 +300,9 @@ module _ (z : Shape) (h : List Event) (p b m : ℕ) (l : IsLawful z (Chained p b
   chains_on = record {
     chains = chain_of z (e ∷ h) l;
     items = λ a n x is'. ⊎_elim
-        (λ t. let eb = eqb-true b a t in subst (λ (y : ℕ). IsStanding z (e ∷ h) y n x) eb (standing n x (ap (λ v. v.items n) (sym grown) ∙ subst (λ (y : ℕ). (bucket_after z (e ∷ h) y).items n ≡ item x) (sym eb) is')))
+        (λ t. let eb = eqb-true b a t in subst (λ (y : ℕ). IsStanding z (e ∷ h) y n x) eb
+            (standing n x (ap (λ v. v.items n) (sym grown)
+            ∙ subst (λ (y : ℕ). (bucket_after z (e ∷ h) y).items n ≡ item x) (sym eb) is')))
         (λ f. let s = others_same a f in let o = c.items a n x (ap (λ v. v.items n) (sym s) ∙ is') in
         stood z h e a n n x o (subst (λ v. IsPosition v n) (sym s) o.position) refl refl refl)
         (cases_Bool (eqb b a));
@@ -369,7 +380,9 @@ same_map : (z : Shape) (e : Event) (h : List Event) (k : List ℕ) → Turning e
 same_map z (Linked p q s r n) h k t u = absurd (false≢true (sym t))
 same_map z (Relinked p k' f i s r n) h k t u = absurd (false≢true (sym t))
 same_map z (Unlinked p k' n why) h k t u = absurd (false≢true (sym t))
-same_map z (Replied p q y) h k t u = stands_wrote z p q y None (seen h) k ∙ same_cond (same_key (key_of q) k) (put q y None (stands z (seen h) k)) (stands z (seen h) k) (refused q y None (stands z (seen h) k) u)
+same_map z (Replied p q y) h k t u = stands_wrote z p q y None (seen h) k
+    ∙ same_cond (same_key (key_of q) k) (put q y None (stands z (seen h) k)) (stands z (seen h) k)
+    (refused q y None (stands z (seen h) k) u)
 same_map z e h k t u = refl
 
 same_places : (z : Shape) (e : Event) (h : List Event) (k : List ℕ) → Turning e ≡ false → place z (e ∷ h) k ≡ place z h k
@@ -384,7 +397,9 @@ same_lasts (Relinked p k' f i s r n) h k t = absurd (false≢true (sym t))
 same_lasts e h k t = refl
 
 calm_rows : (z : Shape) (e : Event) (h : List Event) → IsLawful z (e ∷ h) → LinkedRowsStay z h e
-calm_rows z (Refilled p s d) h l t r k v on is' = cond-false (eqb s t) (writes_row (Refilled p s d) (row_after h t r)) (row_after h t r) (ne_eqb s t (λ e. l.1.follows.0 k (stands_in z (seen h) k s (v, is' ∙ ap (λ q. Some (cached v q)) (sym e)))))
+calm_rows z (Refilled p s d) h l t r k v on is' =
+    cond-false (eqb s t) (writes_row (Refilled p s d) (row_after h t r)) (row_after h t r)
+    (ne_eqb s t (λ e. l.1.follows.0 k (stands_in z (seen h) k s (v, is' ∙ ap (λ q. Some (cached v q)) (sym e)))))
 calm_rows z (Filled p s r j w) h l t i k v on is' = rows_stay z h (Filled p s r j w) l.1.suits (λ p' t' d' same. cc) t i k v on is'
 calm_rows z (Linked p q s r n) h l t i k v on is' = rows_stay z h (Linked p q s r n) l.1.suits (λ p' t' d' same. cc) t i k v on is'
 calm_rows z (Relinked p k' f j s r n) h l t i k v on is' = rows_stay z h (Relinked p k' f j s r n) l.1.suits (λ p' t' d' same. cc) t i k v on is'

@@ -41,13 +41,19 @@ keeps z (look c) p more h v l n may = nothing_new z (look c) p (more ++ h) refl 
 keeps z (row_load s r j) p more h v l n may = nothing_new z (row_load s r j) p (more ++ h) refl refl (may.0, may.1, may.2) l
 keeps z (row_store s r j w) p more h v l n may = store_at z p s r j w (more ++ h) (later z more h (Filled p s r j w) l n refl may) l
 keeps z (link q s r m c old) p more h v l n may = link_at z p q s r m c old (more ++ h) (later z more h (Linked p q s r m) l n refl may.0) (at_stays z more h (bucket_of z (key_of q)) m c l may.1.1) l
-keeps z (relink k a i f s r m c) p more h v l n may = relink_at z p k a i f s r m c (more ++ h) (later z more h (Relinked p k a i s r m) l n refl may.0) (at_stays z more h (bucket_of z k) m c l may.1.1) l
-keeps z (clear k m c old why) p more h v l n may = clear_at z p k m c old why (more ++ h) (later z more h (Unlinked p k m why) l n refl may.0) (above (bucket_after z h (bucket_of z k)) m may.1.0) (at_stays z more h (bucket_of z k) m c l may.1.1) l
+keeps z (relink k a i f s r m c) p more h v l n may =
+    relink_at z p k a i f s r m c (more ++ h) (later z more h (Relinked p k a i s r m) l n refl may.0)
+    (at_stays z more h (bucket_of z k) m c l may.1.1) l
+keeps z (clear k m c old why) p more h v l n may =
+    clear_at z p k m c old why (more ++ h) (later z more h (Unlinked p k m why) l n refl may.0)
+    (above (bucket_after z h (bucket_of z k)) m may.1.0) (at_stays z more h (bucket_of z k) m c l may.1.1) l
 keeps z (draw b d from) p more h v l n may = let same_b = quiet z more h p b l n may.0.1 in
     draw_at z p b d from (more ++ h) (may.0.0, ap (λ u. u.holder) same_b ∙ may.0.1) (ap (λ u. u.spare) same_b ∙ may.1) (may.2 ∙ ap (λ u. u.chained + 1) (sym same_b)) may.3 may.4 l
 keeps z (fill b m w) p more h v l n may = fill_at z p b m w (more ++ h) (later z more h (Put p b w) l n refl may.0) (ap (λ u. u.spare) (quiet z more h p b l n may.0.guarded.1) ∙ may.1) l
 keeps z (chain b c old m) p more h v l n may = let same_b = quiet z more h p b l n may.0.guarded.1 in
-    chain_at z p b c old m (more ++ h) (later z more h (Chained p b m) l n refl may.0) (at_stays z more h b _ c l (subst (λ u. IsAt h b (last u) c) (sym same_b) may.1)) (ap (λ u. u.items (fresh_position u)) same_b ∙ may.2) l
+    chain_at z p b c old m (more ++ h) (later z more h (Chained p b m) l n refl may.0)
+        (at_stays z more h b _ c l (subst (λ u. IsAt h b (last u) c) (sym same_b) may.1))
+        (ap (λ u. u.items (fresh_position u)) same_b ∙ may.2) l
 keeps z (bump b m c t s r f g) p more h v l n may = bump_at z p b m c t s r f g (more ++ h) v may.0 (position_stays z more h b m may.1.0, at_stays z more h b m c l may.1.1) may.2 may.3 may.4 l
 keeps z (enter s) p more h v l n may = enter_at z p s (more ++ h) v (later z more h (Entered p s) l n refl may) l
 keeps z (leave s) p more h v l n may = leave_at z p s (more ++ h) v (later z more h (Left p s) l n refl may) l

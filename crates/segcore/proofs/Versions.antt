@@ -29,18 +29,26 @@ freed : (u : Bucket) (n : ℕ) (c : Bool) → u.written ≡ c → n ≡ u.versio
 freed u n true w e = e ∙ ap (λ b. u.version + one_if b) w ∙ omega arith
 freed u n false w e = e ∙ ap (λ b. u.version + one_if b) w
 
-deleted : (z : Shape) (p : ℕ) (k : List ℕ) (why : Leaving) (h : List Event) (u : Bucket) (s : ℕ) (b : ℕ) → eqb (bucket_of z k) b ≡ true → MayLeave why u.written s → writes z (seen h) b ≡ u.version + one_if u.written
+deleted : (z : Shape) (p : ℕ) (k : List ℕ) (why : Leaving) (h : List Event) (u : Bucket) (s : ℕ) (b : ℕ)
+    → eqb (bucket_of z k) b ≡ true → MayLeave why u.written s → writes z (seen h) b ≡ u.version + one_if u.written
     → writes z (removal p k why ∷ seen h) b ≡ u.version + one_if (written_by why u.written)
-deleted z p k (Deletes m) h u s b t w e = writes_wrote z p (Delete k m) Deleted None (seen h) b ∙ cond-true (eqb (bucket_of z k) b) (writes z (seen h) b + 1) (writes z (seen h) b) t ∙ ap (λ n. n + 1) (e ∙ ap (λ c. u.version + one_if c) w) ∙ omega arith
+deleted z p k (Deletes m) h u s b t w e = writes_wrote z p (Delete k m) Deleted None (seen h) b
+    ∙ cond-true (eqb (bucket_of z k) b) (writes z (seen h) b + 1) (writes z (seen h) b) t
+    ∙ ap (λ n. n + 1) (e ∙ ap (λ c. u.version + one_if c) w) ∙ omega arith
 deleted z p k (Evicts t') h u s b t w e = writes_evicted z p k t' (seen h) b ∙ e
 
-at_event : (z : Shape) (e : Event) (h : List Event) (b : ℕ) → is (bucket_at z e) b ≡ true → IsLawful z (e ∷ h) → writes z (seen h) b ≡ (bucket_after z h b).version + one_if (bucket_after z h b).written
+at_event : (z : Shape) (e : Event) (h : List Event) (b : ℕ) → is (bucket_at z e) b ≡ true → IsLawful z (e ∷ h)
+    → writes z (seen h) b ≡ (bucket_after z h b).version + one_if (bucket_after z h b).written
     → writes z (seen (e ∷ h)) b ≡ (acts e (bucket_after z h b)).version + one_if (acts e (bucket_after z h b)).written
 at_event z (Freed p a c) h b t l i = freed (bucket_after z h b) (writes z (seen h) b) c (rw (← eqb-true a b t) l.1.suits.0) i
 at_event z (Refilled p s d) h b t l i = absurd (false≢true t)
-at_event z (Replied p q y) h b t l i = writes_wrote z p q y None (seen h) b ∙ cond-true (eqb (bucket_of z (key_of q)) b) (one_more y (writes z (seen h) b)) (writes z (seen h) b) t ∙ (same_more y (writes z (seen h) b) l.1.suits ∙ i)
+at_event z (Replied p q y) h b t l i = writes_wrote z p q y None (seen h) b
+    ∙ cond-true (eqb (bucket_of z (key_of q)) b) (one_more y (writes z (seen h) b)) (writes z (seen h) b) t
+    ∙ (same_more y (writes z (seen h) b) l.1.suits ∙ i)
 at_event z (Linked p q s r n) h b t l i = let w : (bucket_after z h b).written ≡ false = rw (← eqb-true (bucket_of z (key_of q)) b t) l.1.suits.2 in
-    writes_wrote z p q Stored (Some s) (seen h) b ∙ cond-true (eqb (bucket_of z (key_of q)) b) (writes z (seen h) b + 1) (writes z (seen h) b) t ∙ (ap (λ n. n + 1) (i ∙ ap (λ c. (bucket_after z h b).version + one_if c) w) ∙ omega arith)
+    writes_wrote z p q Stored (Some s) (seen h) b
+        ∙ cond-true (eqb (bucket_of z (key_of q)) b) (writes z (seen h) b + 1) (writes z (seen h) b) t
+        ∙ (ap (λ n. n + 1) (i ∙ ap (λ c. (bucket_after z h b).version + one_if c) w) ∙ omega arith)
 at_event z (Relinked p k f r s i n) h b t l e = writes_moved z p k f s (seen h) b ∙ e
 at_event z (Unlinked p k n why) h b t l i = deleted z p k why h (bucket_after z h b) l.1.suits.0.segment b t (rw (← eqb-true (bucket_of z k) b t) l.1.suits.3) i
 at_event z e h b t l i = i
@@ -65,11 +73,16 @@ versions z (e ∷ h) b l = let i = versions z h b l.0 in ⊎_elim
     (λ f. same_writes z e h b f ∙ (i ∙ ap (λ u. u.version + one_if u.written) (sym (cond-false (is (bucket_at z e) b) (acts e (bucket_after z h b)) (bucket_after z h b) f))))
     (cases_Bool (is (bucket_at z e) b))
 
-pub guard_at : (z : Shape) (h : List Event) (e : Event) (b : ℕ) (o : Option ℕ) → MatchOption o (Unit {0}) (λ b. (b < z.buckets) × ((bucket_after z h b).holder ≡ needs e)) → is o b ≡ true → (bucket_after z h b).holder ≡ needs e
+pub guard_at : (z : Shape) (h : List Event) (e : Event) (b : ℕ) (o : Option ℕ)
+    → MatchOption o (Unit {0}) (λ b. (b < z.buckets) × ((bucket_after z h b).holder ≡ needs e)) → is o b ≡ true
+    → (bucket_after z h b).holder ≡ needs e
 guard_at z h e b None g t = absurd (false≢true t)
 guard_at z h e b (Some a) g t = ap (λ x. (bucket_after z h x).holder) (sym (eqb-true a b t)) ∙ g.1
 
-free_at : (z : Shape) (e : Event) (h : List Event) (b : ℕ) → (bucket_after z h b).holder ≡ needs e → (acts e (bucket_after z h b)).holder ≡ None → ((bucket_after z h b).holder ≡ None → (bucket_after z h b).written ≡ false) → (acts e (bucket_after z h b)).written ≡ false
+free_at : (z : Shape) (e : Event) (h : List Event) (b : ℕ) → (bucket_after z h b).holder ≡ needs e
+    → (acts e (bucket_after z h b)).holder ≡ None
+    → ((bucket_after z h b).holder ≡ None → (bucket_after z h b).written ≡ false)
+    → (acts e (bucket_after z h b)).written ≡ false
 free_at z (Freed p a c) h b g none i = refl
 free_at z (Took p a) h b g none i = absurd (none-some p (sym none))
 free_at z e h b g none i = absurd (none-some (by e) (sym none ∙ g))

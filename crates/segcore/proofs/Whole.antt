@@ -54,7 +54,8 @@ is_there z w l front rest e is = ⊎_elim
     (cases_lt (by e) (length w.views))
 
 -- and has seen it
-has_seen : (z : Shape) (w : World) → IsLawfulWorld z w → (front rest : List Event) (e : Event) → w.trace ≡ front ++ (e ∷ rest) → (u : View) × (get_elem? w.views (by e) ≡ some u) × Begins (e ∷ rest) u.trace
+has_seen : (z : Shape) (w : World) → IsLawfulWorld z w → (front rest : List Event) (e : Event)
+    → w.trace ≡ front ++ (e ∷ rest) → (u : View) × (get_elem? w.views (by e) ≡ some u) × Begins (e ∷ rest) u.trace
 has_seen z w l front rest e is =
     let v = in_list w.views (by e) (is_there z w l front rest e is) in let k = l.knows (by e) v.0 v.1 in
     (v.0, v.1, from_newest front rest e k.more v.0.trace (sym is ∙ k.rest) k.others)

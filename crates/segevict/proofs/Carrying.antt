@@ -36,7 +36,8 @@ newest pass (first ∷ more) event rest is = at_first (eqb (by first) pass) is (
     tail_of : first ∷ own_of pass more ≡ event ∷ rest → own_of pass more ≡ rest
     tail_of e = cc
 
-    at_first : (own : Bool) → cond own (first ∷ own_of pass more) (own_of pass more) ≡ event ∷ rest → (own_of pass more ≡ event ∷ rest → Newest pass event rest more) → Newest pass event rest (first ∷ more)
+    at_first : (own : Bool) → cond own (first ∷ own_of pass more) (own_of pass more) ≡ event ∷ rest
+        → (own_of pass more ≡ event ∷ rest → Newest pass event rest more) → Newest pass event rest (first ∷ more)
     at_first true is deeper = record { newer = []; older = more; stands = ap (λ e. e ∷ more) (head_of is); left = tail_of is }
     at_first false is deeper = let n = deeper is in record { newer = first ∷ n.newer; older = n.older; stands = ap (λ l. first ∷ l) n.stands; left = n.left }
 
@@ -76,7 +77,9 @@ module _ (b : Board) (segment row into cutoff : ℕ) (p f q : Pass) (s : SeesRow
       (free ∷ [], refl)
       (subst (Begins (free ∷ (freed.older ++ trace f))) (sym adds.goes_on) (begins_there (number f) free (move ∷ earlier) adds.more (trace f) freed)))
 
-  pub carried : TakesSteps f q → used_of p into ≡ Some to → to < b.shape.rows → AddsEntry (Moved (number p) s.key segment into) p q → RowGone b.shape segment row (trace q) → CarriesItem b.shape segment row cutoff into p q s.key
+  pub carried : TakesSteps f q → used_of p into ≡ Some to → to < b.shape.rows
+      → AddsEntry (Moved (number p) s.key segment into) p q → RowGone b.shape segment row (trace q)
+      → CarriesItem b.shape segment row cutoff into p q s.key
   carried steps next fits entries gone = record {
     before = before;
     often = (

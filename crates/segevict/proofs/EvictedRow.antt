@@ -19,7 +19,9 @@ use Rattle.segevict.proofs.Naming.{unnamed}
 
 -- ---- a used row
 
-pub row_out : (b : Board) (segment row : ℕ) (told : EvictRowAnswer) (p q : Pass) → HasRow segment row p → EvictsRow b segment row told p q → TakesAtMost (most_steps_of_evict_row told) p q → EvictsItem b segment row told p q
+pub row_out : (b : Board) (segment row : ℕ) (told : EvictRowAnswer) (p q : Pass) → HasRow segment row p
+    → EvictsRow b segment row told p q → TakesAtMost (most_steps_of_evict_row told) p q
+    → EvictsItem b segment row told p q
 row_out b segment row told p q has one steps = record {
   on = one.on;
   answer = out told one.answer;

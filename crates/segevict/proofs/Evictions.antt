@@ -1,5 +1,6 @@
 -- The eviction of a segment, row by row: what was taken out so far, and that no key stands there when all its rows are gone.
-use Rattle.std.proofs.Common.{◌≡◌, ◌≢◌, ℕ, zero, suc, ◌+◌, ◌<◌, ◌≤◌, Bool, true, false, cond, eqb, is_some, List, [], ◌∷◌, ◌++◌, length, Option, Some, None, refl, sym, ap, ◌∙◌, subst, inl, inr, ⊎_elim, arith}
+use Rattle.std.proofs.Common.{◌≡◌, ◌≢◌, ℕ, zero, suc, ◌+◌, ◌<◌, ◌≤◌, Bool, true, false, cond, eqb, is_some, List,
+    [], ◌∷◌, ◌++◌, length, Option, Some, None, refl, sym, ap, ◌∙◌, subst, inl, inr, ⊎_elim, arith}
 use Rattle.std.proofs.lemmas.Bool.{cases_eq, cases_Bool, cond-true, cond-false, eq-eqb, ne_eqb, ltb-true, false≢true}
 use Rattle.std.proofs.lemmas.Option.{none-some, same_Some}
 use Rattle.segword.specs.Words.{Shape}
@@ -62,7 +63,9 @@ module _ (b : Board) (p : Pass) (x : PlainPart) (quiet : IsQuiet b p) (same : ow
 
 pub bounced_grows : (p q : Pass) (k : ℕ) → number q ≡ number p → Begins (trace p) (trace q) → count (bounced k) p ≤ count (bounced k) q
 bounced_grows p q k same grew =
-    subst (λ n. count (bounced k) p ≤ traces.count (bounced k) n (trace q)) (sym same) (subst (λ h. count (bounced k) p ≤ traces.count (bounced k) (number p) h) (sym grew.1) (let both = count_both (bounced k) (number p) grew.0 (trace p) in omega (arith, both)))
+    subst (λ n. count (bounced k) p ≤ traces.count (bounced k) n (trace q)) (sym same)
+        (subst (λ h. count (bounced k) p ≤ traces.count (bounced k) (number p) h) (sym grew.1) (let both =
+        count_both (bounced k) (number p) grew.0 (trace p) in omega (arith, both)))
 
 -- ---- row by row
 
@@ -114,7 +117,8 @@ unnamed_few shape segment (suc row) used p none is =
     let same : there.0 ≡ used = same_Some there.0 used (sym there.1 ∙ is) in let lt = there.2 in omega arith
 
 -- the row that is next is a used one
-pub row_there : (b : Board) (segment from row taken used : ℕ) (p q : Pass) → Evicting b segment from row taken p q → state_of p segment ≡ Some InUse → used_of p segment ≡ Some used → row < used → HasRow segment row q
+pub row_there : (b : Board) (segment from row taken used : ℕ) (p q : Pass) → Evicting b segment from row taken p q
+    → state_of p segment ≡ Some InUse → used_of p segment ≡ Some used → row < used → HasRow segment row q
 row_there b segment from row taken used p q e in_use is_used within = (same_states p q segment e.plain ∙ in_use, (used, same_used p q segment e.plain ∙ is_used, within))
 
 module _ (b : Board) (segment from row taken : ℕ) (p q r : Pass) (e : Evicting b segment from row taken p q) (has : HasRow segment row q) where
@@ -214,7 +218,9 @@ module _ (b : Board) (segment from row taken : ℕ) (p q : Pass) (in_use : state
         over_order taken e.order,
         item_out b segment from row taken p q r e (row_there b segment from row taken used p q e in_use is_used within) evict_row.Busy busy steps,
       );
-      tries = λ rows is. rows_tried_then b segment e.rows 1 rows p q r e.on busy.on (let same : used ≡ from + rows = same_Some used (from + rows) (sym is_used ∙ is) in let at = e.at in omega (arith, within)) e.tries (of_row b.shape segment row 1 q r busy.tries);
+      tries = λ rows is. rows_tried_then b segment e.rows 1 rows p q r e.on busy.on (let same : used ≡ from + rows =
+          same_Some used (from + rows) (sym is_used ∙ is) in let at = e.at in
+          omega (arith, within)) e.tries (of_row b.shape segment row 1 q r busy.tries);
       draws_nothing = draws_none_then p q r e.draws_nothing busy.draws_nothing;
       reads_nothing = busy.reads_nothing ∙ e.reads_nothing;
     }
@@ -330,7 +336,9 @@ module _ (b : Board) (segment : ℕ) (p : Pass) (quiet : IsQuiet b p) (in_use : 
 
   pub closes_on : GoesOn b p closed
   closes_on = let k = quiet.segments in
-      plain_goes_on b p closed.plain quiet refl refl refl (record { few = k.few; rows = k.rows; deadlines = k.deadlines; in_use = λ t is. k.in_use t (in_one (current_of p) t is).0; unused = k.unused })
+      plain_goes_on b p closed.plain quiet refl refl refl
+          (record { few = k.few; rows = k.rows; deadlines = k.deadlines;
+          in_use = λ t is. k.in_use t (in_one (current_of p) t is).0; unused = k.unused })
 
   from_closed : (n : ℕ) (q : Pass) → TakesOut segment n closed q → TakesOut segment n p q
   from_closed n q t = record {

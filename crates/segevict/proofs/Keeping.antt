@@ -36,7 +36,8 @@ use Rattle.segevict.proofs.RowsOut.{goes_then, keeps_gone_then}
 
 -- ---- what was moved
 
-moves_weaker : (pass segment into : ℕ) (First Both : List ℕ → Type 0) → ((key : List ℕ) → First key → Both key) → (entries : List Entry) → AreMoves pass segment into First entries → AreMoves pass segment into Both entries
+moves_weaker : (pass segment into : ℕ) (First Both : List ℕ → Type 0) → ((key : List ℕ) → First key → Both key)
+    → (entries : List Entry) → AreMoves pass segment into First entries → AreMoves pass segment into Both entries
 moves_weaker pass segment into First Both weaker [] all = tt
 moves_weaker pass segment into First Both weaker (e ∷ entries) all = ((all.0.0, all.0.1, weaker all.0.0 all.0.2), moves_weaker pass segment into First Both weaker entries all.1)
 
@@ -96,7 +97,9 @@ module _ (b : Board) (segment into cutoff row count : ℕ) (p q r : Pass) (own :
   often_now key often = (often.0, had_before b.shape segment often.0 (λ n. cutoff ≤ n) key p q r e.on.same e.on.steps often.1)
 
   tries_all : (most : ℕ) → TakesSteps q r → row + 1 ≤ most → TriesFor b.shape (WasOften b.shape segment cutoff q r) 1 q r → TriesFor b.shape (WasOften b.shape segment cutoff p r) most p r
-  tries_all most later within tries = tries_then b.shape (WasOften b.shape segment cutoff p q) (WasOften b.shape segment cutoff q r) (WasOften b.shape segment cutoff p r) row 1 most p q r (often_then later) often_now within e.tries tries
+  tries_all most later within tries = tries_then b.shape (WasOften b.shape segment cutoff p q)
+      (WasOften b.shape segment cutoff q r) (WasOften b.shape segment cutoff p r) row 1 most p q r
+      (often_then later) often_now within e.tries tries
 
   settled_below : KeepsGone b segment q r → TakesSteps q r → IsSettled b segment cutoff row p r → (n : ℕ) → n < row + 1 → IsSettled b segment cutoff n p r
   settled_below keeps later now n lt = ⊎_elim
@@ -132,7 +135,9 @@ module _ (b : Board) (segment into cutoff row count : ℕ) (p q r : Pass) (own :
   settled_left k = ⊎_elim
       (λ none. inl none.1)
       (λ some. ⊎_elim
-      (λ seldom. inr (seldom.key, seldom.linked, (row, had_before b.shape segment row (λ n. n < cutoff) seldom.key p q r e.on.same e.on.steps (had_seen b segment row (λ n. n < cutoff) q r r seldom (inr (refl, refl))))))
+      (λ seldom. inr (seldom.key, seldom.linked,
+          (row, had_before b.shape segment row (λ n. n < cutoff) seldom.key p q r e.on.same e.on.steps
+          (had_seen b segment row (λ n. n < cutoff) q r r seldom (inr (refl, refl))))))
       (λ went. inl went.5)
       some)
       k.answer
@@ -160,14 +165,17 @@ module _ (b : Board) (segment into cutoff row count : ℕ) (p q r : Pass) (own :
 
 -- ---- the answer
 
-module _ (b : Board) (segment into cutoff row count : ℕ) (p q : Pass) (quiet : IsQuiet b p) (in_use : state_of p segment ≡ Some InUse) (target : IsKeepTarget segment into p) (e : Keeping b segment into cutoff row count p q) where
+module _ (b : Board) (segment into cutoff row count : ℕ) (p q : Pass) (quiet : IsQuiet b p)
+    (in_use : state_of p segment ≡ Some InUse) (target : IsKeepTarget segment into p)
+    (e : Keeping b segment into cutoff row count p q) where
   -- the row is one of those that are used
   module _ (used : ℕ) (is_used : used_of p segment ≡ Some used) where
     own : owner b.shape segment ≡ number p
     own = owns_used b p segment used quiet.pass is_used
 
     -- the row is gone over as by a keep of one row
-    pub item_of : (r : Pass) → row < used → (told : KeepRowAnswer) → KeepsRow b segment row into cutoff told q r → TakesAtMost (most_steps_of_keep_row told) q r → KeepsItem b segment row cutoff told q r
+    pub item_of : (r : Pass) → row < used → (told : KeepRowAnswer) → KeepsRow b segment row into cutoff told q r
+        → TakesAtMost (most_steps_of_keep_row told) q r → KeepsItem b segment row cutoff told q r
     item_of r within told k steps = row_answered b segment row into cutoff q r e.on.quiet has_row target_still told k steps
       where
         has_row : HasRow segment row q
@@ -190,7 +198,9 @@ module _ (b : Board) (segment into cutoff row count : ℕ) (p q : Pass) (quiet :
           record {
             moves = e.moves;
             counted = e.counted;
-            all = moves_weaker (number p) segment into (WasOften b.shape segment cutoff p q) (WasOften b.shape segment cutoff p r) (often_then b segment into cutoff row count p q r own e later) e.moves e.all;
+            all = moves_weaker (number p) segment into (WasOften b.shape segment cutoff p q)
+                (WasOften b.shape segment cutoff p r) (often_then b segment into cutoff row count p q r own e later)
+                e.moves e.all;
             entries = none.entries ∙ e.entries;
             uses = uses_then into count 0 count p q r (omega arith) e.uses (uses_none into q r none.plain none.memo);
           },
@@ -201,7 +211,8 @@ module _ (b : Board) (segment into cutoff row count : ℕ) (p q : Pass) (quiet :
       tries_few rows is = let same : used ≡ rows = same_Some used rows (sym is_used ∙ is) in tries_all b segment into cutoff row count p q r own e rows later (omega arith) tries
 
     -- there was no row for its item
-    pub keep_stopped : (r : Pass) → row < used → KeepsRow b segment row into cutoff kept.NoRoom q r → TakesAtMost (most_steps_of_keep_row kept.NoRoom) q r → KeepsItems b segment cutoff (keep.NoRoom count) p r
+    pub keep_stopped : (r : Pass) → row < used → KeepsRow b segment row into cutoff kept.NoRoom q r
+        → TakesAtMost (most_steps_of_keep_row kept.NoRoom) q r → KeepsItems b segment cutoff (keep.NoRoom count) p r
     keep_stopped r within k steps =
         let s = k.answer.0 in
         let none = idle_changes b q r e.on.quiet s.idles in record {
@@ -224,7 +235,8 @@ module _ (b : Board) (segment into cutoff row count : ℕ) (p q : Pass) (quiet :
         not_so is = cc
 
     -- its bit couldn't be had
-    pub keep_barred : (r : Pass) → row < used → KeepsRow b segment row into cutoff kept.Busy q r → TakesAtMost (most_steps_of_keep_row kept.Busy) q r → KeepsItems b segment cutoff (keep.Busy count) p r
+    pub keep_barred : (r : Pass) → row < used → KeepsRow b segment row into cutoff kept.Busy q r
+        → TakesAtMost (most_steps_of_keep_row kept.Busy) q r → KeepsItems b segment cutoff (keep.Busy count) p r
     keep_barred r within k steps =
         let a = k.answer in let f = a.0 in let s = a.1 in let bucket = bucket_of b.shape s.key in
         let looked = idle_changes b q f e.on.quiet s.idles in

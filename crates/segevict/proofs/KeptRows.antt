@@ -78,7 +78,9 @@ module _ (b : Board) (bucket : ℕ) (sought : Item) (into cutoff : ℕ) (p f : P
   Kept told q = KeepsRow b sought.seg sought.row into cutoff told p q
 
   -- looks were enough
-  only_looked : (told : KeepRowAnswer) → (TakesNoBit p f → TriesForRow b sought.seg sought.row cutoff (has_room_in b.shape into p) told p f) → IsKeptRow b sought.seg sought.row into cutoff told p f → Kept told f
+  only_looked : (told : KeepRowAnswer) → (TakesNoBit p f
+      → TriesForRow b sought.seg sought.row cutoff (has_room_in b.shape into p) told p f)
+      → IsKeptRow b sought.seg sought.row into cutoff told p f → Kept told f
   only_looked told tried answer = record {
     on = goes_f;
     memo = i.memo;
@@ -152,7 +154,10 @@ module _ (b : Board) (bucket : ℕ) (sought : Item) (into cutoff : ℕ) (p f : P
       )
 
       -- the bit was tried for
-      tries_one : (q : Pass) → TakesSteps f q → count taken q ≤ count taken f + 1 → count (bounced bucket) q ≤ count (bounced bucket) f + 64 → ((other : ℕ) → other ≢ bucket → count (bounced other) q ≡ count (bounced other) f) → TriesFor b.shape (WasOften b.shape sought.seg cutoff p q) 1 p q
+      tries_one : (q : Pass) → TakesSteps f q → count taken q ≤ count taken f + 1
+          → count (bounced bucket) q ≤ count (bounced bucket) f + 64
+          → ((other : ℕ) → other ≢ bucket → count (bounced other) q ≡ count (bounced other) f)
+          → TriesFor b.shape (WasOften b.shape sought.seg cutoff p q) 1 p q
       tries_one q steps took met others = tries_after b (WasOften b.shape sought.seg cutoff p q) (WasOften b.shape sought.seg cutoff p q) 1 p f q i.moved (λ key s. s)
           (one_try b.shape (WasOften b.shape sought.seg cutoff p q) stored.key f q (had q steps) took (subst (λ k. count (bounced k) q ≤ count (bounced k) f + 64) stored.home met)
           (λ other apart. others other (λ same. apart (same ∙ stored.home))))
@@ -212,7 +217,9 @@ module _ (b : Board) (bucket : ℕ) (sought : Item) (into cutoff : ℕ) (p f : P
 
           goes_s : GoesOn b f s
           goes_s = write_goes_on b bucket f q goes_f.quiet begins r s own added false m elsewhere still adds freed free (same' ∙ (same ∙ took.memo))
-              (ap (λ (y : PlainPart). y.locked) plain' ∙ (locks ∙ ap (λ (y : PlainPart). y.locked) took.plain)) (ap (λ (y : PlainPart). y.is_holding) plain' ∙ (holds ∙ ap (λ (y : PlainPart). y.is_holding) took.plain)) segments_s
+              (ap (λ (y : PlainPart). y.locked) plain' ∙ (locks ∙ ap (λ (y : PlainPart). y.locked) took.plain))
+                  (ap (λ (y : PlainPart). y.is_holding) plain'
+                  ∙ (holds ∙ ap (λ (y : PlainPart). y.is_holding) took.plain)) segments_s
 
           events_f : AddsEvents b (under_bit (number f) bucket begins.tries own) f s
           events_f = moved_then b took_by (Freed (number f) bucket false ∷ own) f q s taking
@@ -233,19 +240,26 @@ module _ (b : Board) (bucket : ℕ) (sought : Item) (into cutoff : ℕ) (p f : P
               }
 
         -- no word named it any more
-        pub row_went : has_room_in b.shape into f ≡ true → (to : ℕ) (r s : Pass) → MovesRow b bucket sought into to false q r → AddsAtOnce b (Freed (number r) bucket false ∷ []) r s → (bucket_after b.shape (trace s) bucket).holder ≡ None → s.plain ≡ r.plain → memo s ≡ memo r → Kept kept.Left s
+        pub row_went : has_room_in b.shape into f ≡ true → (to : ℕ) (r s : Pass)
+            → MovesRow b bucket sought into to false q r → AddsAtOnce b (Freed (number r) bucket false ∷ []) r s
+            → (bucket_after b.shape (trace s) bucket).holder ≡ None → s.plain ≡ r.plain → memo s ≡ memo r
+            → Kept kept.Left s
         row_went room to r s t freed free plain' same' =
             let m = t.moves.0 in let plain = t.moves.1 in
             let gone = gone_over b (Freed (number r) bucket false ∷ []) r s sought.seg sought.row freed.moved (tt, tt) (stored_q.own ∙ sym m.same) t.gone in
             let room_p : has_room_in b.shape into p ≡ true = subst (λ (y : PlainPart). has_room_in b.shape into (record f { plain = y }) ≡ true) i.plain room in
-            done r s [] [] m (λ other apart. tt) tt (λ h. refl) tt tt t.segments t.memo (ap (λ (y : PlainPart). y.locked) plain) (ap (λ (y : PlainPart). y.is_holding) plain) freed free plain' same' kept.Left
+            done r s [] [] m (λ other apart. tt) tt (λ h. refl) tt tt t.segments t.memo
+                (ap (λ (y : PlainPart). y.locked) plain) (ap (λ (y : PlainPart). y.is_holding) plain) freed free
+                plain' same' kept.Left
             (λ bit. inr (bit, room_p, unnamed b.shape (trace s) sought.seg sought.row freed.moved.pass.lawful gone))
             (inr (inr (
               f,
               seen_often,
               begins.tries,
               subst (λ k. AddsEvents b (under_bit (number f) k begins.tries []) f s) stored.home
-                  (events_f r s [] [] m (λ other apart. tt) tt (λ h. refl) tt tt t.segments t.memo (ap (λ (y : PlainPart). y.locked) plain) (ap (λ (y : PlainPart). y.is_holding) plain) freed free plain' same'),
+                  (events_f r s [] [] m (λ other apart. tt) tt (λ h. refl) tt tt t.segments t.memo
+                      (ap (λ (y : PlainPart). y.locked) plain) (ap (λ (y : PlainPart). y.is_holding) plain) freed
+                      free plain' same'),
               record {
                 entries = write_adds b bucket f q goes_f.quiet begins r s [] [] false m (λ other apart. tt) tt (λ h. refl) freed free ∙ (does_nothing b p f quiet i.moved i.plain i.memo).entries;
                 plain = plain' ∙ (plain ∙ (took.plain ∙ i.plain));
@@ -307,7 +321,9 @@ module _ (b : Board) (bucket : ℕ) (sought : Item) (into cutoff : ℕ) (p f : P
                 written,
                 sym (same_used p f into i.plain) ∙ next.used,
                 next.fits,
-                subst (λ k. AddsEvents b (under_bit (number f) k begins.tries own) f s) stored.home (events_f r s own added m elsewhere still adds undrawn none t.segments t.memo locks holds freed free plain' same'),
+                subst (λ k. AddsEvents b (under_bit (number f) k begins.tries own) f s) stored.home
+                    (events_f r s own added m elsewhere still adds undrawn none t.segments t.memo locks holds freed
+                    free plain' same'),
                 write_adds b bucket f q goes_f.quiet begins r s own added false m elsewhere still adds freed free
                     ∙ (cond-true (eqb (number f) (number f)) (Moved (number f) stored.key sought.seg into ∷ mine f) (mine f) (eq-eqb (number f) (number f) refl)
                     ∙ (λ u. Moved (i.moved.same u) stored.key sought.seg into ∷ old u)),
@@ -318,7 +334,9 @@ module _ (b : Board) (bucket : ℕ) (sought : Item) (into cutoff : ℕ) (p f : P
 
 -- ---- in the terms of the call
 
-pub kept_place : (b : Board) (sought : Item) (segment row into cutoff : ℕ) (told : KeepRowAnswer) (p q : Pass) → (sought.seg ≡ segment) × (sought.row ≡ row) → KeepsRow b sought.seg sought.row into cutoff told p q → KeepsRow b segment row into cutoff told p q
+pub kept_place : (b : Board) (sought : Item) (segment row into cutoff : ℕ) (told : KeepRowAnswer) (p q : Pass)
+    → (sought.seg ≡ segment) × (sought.row ≡ row) → KeepsRow b sought.seg sought.row into cutoff told p q
+    → KeepsRow b segment row into cutoff told p q
 kept_place b sought segment row into cutoff told p q place k = subst (λ s. KeepsRow b s row into cutoff told p q) place.0 (subst (λ r. KeepsRow b sought.seg r into cutoff told p q) place.1 k)
 
 pub target_place : (sought : Item) (segment into : ℕ) (p : Pass) → sought.seg ≡ segment → IsMoveTarget segment into p → IsMoveTarget sought.seg into p

@@ -98,7 +98,9 @@ module _ (b : Board) (bucket : ℕ) (sought : Item) (into to : ℕ) (p f : Pass)
 
     -- with c the pass after the copy
     module _ (c : Pass) (words places : List ℕ) (m : AddsEvents b (fills (number f) into to words places) f c) (own : IsOwnRow b.shape (trace c) (number c) into to)
-        (holds : (key value : List ℕ) → Holds (row_after (trace f) sought.seg sought.row) key value → Holds (row_after (trace c) into to) key value) (plain : c.plain ≡ f.plain) (same : memo c ≡ memo f) where
+        (holds : (key value : List ℕ) → Holds (row_after (trace f) sought.seg sought.row) key value
+            → Holds (row_after (trace c) into to) key value) (plain : c.plain ≡ f.plain) (same : memo c ≡ memo f)
+            where
       abbrev written : List Event
       written = fills (number f) into to words places
 
@@ -178,7 +180,9 @@ module _ (b : Board) (bucket : ℕ) (sought : Item) (into to : ℕ) (p f : Pass)
           own.2,
           target.other,
           same_deadlines b c sought.seg into to segments_c used_c
-              (ap (λ (x : PlainPart). deadline_in (own_segment x sought.seg)) (plain ∙ i.plain) ∙ (target.deadlines ∙ sym (ap (λ (x : PlainPart). deadline_in (own_segment x into)) (plain ∙ i.plain)))),
+              (ap (λ (x : PlainPart). deadline_in (own_segment x sought.seg)) (plain ∙ i.plain)
+                  ∙ (target.deadlines ∙ sym (ap (λ (x : PlainPart). deadline_in (own_segment x into)) (plain
+                  ∙ i.plain)))),
         );
         suits = (own, (st.value, standing_c, copied), subst (λ k. (bucket_after b.shape (trace c) k).items at_c ≡ item named) stored_f.home here);
       }
@@ -206,7 +210,8 @@ module _ (b : Board) (bucket : ℕ) (sought : Item) (into to : ℕ) (p f : Pass)
         lawful = subst (IsLawful b.shape) done.did.now done.did.moved.pass.lawful
 
         linked_old : (row_after old sought.seg sought.row).linked ≡ Some key
-        linked_old = ap (λ u. u.linked) (quiet_row b.shape done.did.others (trace c) sought.seg sought.row done.did.before (subst (λ k. NoneBy k done.did.others) (sym stored_c.own) done.did.none)) ∙ linked_c
+        linked_old = ap (λ u. u.linked) (quiet_row b.shape done.did.others (trace c) sought.seg sought.row
+            done.did.before (subst (λ k. NoneBy k done.did.others) (sym stored_c.own) done.did.none)) ∙ linked_c
 
         gone_now : RowGone b.shape sought.seg sought.row (trace r)
         gone_now = subst (RowGone b.shape sought.seg sought.row) (sym done.did.now) (relinked_gone b.shape old (number c) named into to at_c lawful linked_old)
@@ -237,6 +242,8 @@ module _ (b : Board) (bucket : ℕ) (sought : Item) (into to : ℕ) (p f : Pass)
             unwritten = ap (λ u. u.written) bucket_now ∙ clean_c.unwritten;
             undrawn = ap (λ u. u.spare) bucket_now ∙ clean_c.undrawn;
           };
-          segments = keeps_named_in b e c r into to (refl, refl) done.did done.plain (ap (λ (x : PlainPart). state_in (own_segment x into)) (plain ∙ i.plain) ∙ target.in_use) used_c next.fits m.pass segments_c;
+          segments = keeps_named_in b e c r into to (refl, refl) done.did done.plain
+              (ap (λ (x : PlainPart). state_in (own_segment x into)) (plain ∙ i.plain)
+              ∙ target.in_use) used_c next.fits m.pass segments_c;
           memo = done.memo ∙ (same ∙ i.memo);
         }

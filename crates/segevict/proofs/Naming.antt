@@ -62,9 +62,13 @@ tells : (b : Board) (bucket : ℕ) (sought : Item) (o : Option Target) (f : Pass
 tells b bucket sought None f is finds = finds
 tells b bucket sought (Some target) f is finds = named_now b bucket sought f is target finds
 
-pub tells_at : (b : Board) (bucket : ℕ) (sought : Item) (segment row : ℕ) (o : Option Target) (told : Bool) (f : Pass) → (sought.seg ≡ segment) × (sought.row ≡ row) → told ≡ is_some o → IsPassOf b f → FindsRow b bucket sought o f → ReturnsNamed b.shape segment row told f
+pub tells_at : (b : Board) (bucket : ℕ) (sought : Item) (segment row : ℕ) (o : Option Target) (told : Bool)
+    (f : Pass) → (sought.seg ≡ segment) × (sought.row ≡ row) → told ≡ is_some o → IsPassOf b f
+    → FindsRow b bucket sought o f → ReturnsNamed b.shape segment row told f
 tells_at b bucket sought segment row o told f at same is finds =
-    subst (λ t. ReturnsNamed b.shape segment row t f) (sym same) (subst (λ s. ReturnsNamed b.shape s row (is_some o) f) at.0 (subst (λ r. ReturnsNamed b.shape sought.seg r (is_some o) f) at.1 (tells b bucket sought o f is finds)))
+    subst (λ t. ReturnsNamed b.shape segment row t f) (sym same)
+        (subst (λ s. ReturnsNamed b.shape s row (is_some o) f) at.0
+        (subst (λ r. ReturnsNamed b.shape sought.seg r (is_some o) f) at.1 (tells b bucket sought o f is finds)))
 
 was_before : (z : Shape) (s r : ℕ) (p f q : Pass) → number f ≡ number p → TakesSteps p f → WasNamedIn z s r f q → WasNamedIn z s r p q
 was_before z s r p f q same steps was = since_before p f q (λ start. WasNamed z s r (mark.marked start) (marked q)) same steps
@@ -169,7 +173,8 @@ pub record CountingAll (b : Board) (at used named : ℕ) (p q : Pass) : Type 0 w
 pub all_first : (b : Board) (p : Pass) → IsPassOf b p → CountingAll b 0 0 0 p p
 all_first b p is = record { idles = idle b p is; low = omega arith; few = omega arith; sum = refl; sums = refl }
 
-pub all_next : (b : Board) (at used named rows count : ℕ) (p q r : Pass) → IsQuiet b p → at < b.shape.segments_each → CountingAll b at used named p q → used_of q (own_at b.shape p at) ≡ Some rows → count ≤ rows → Idles b q r
+pub all_next : (b : Board) (at used named rows count : ℕ) (p q r : Pass) → IsQuiet b p → at < b.shape.segments_each
+    → CountingAll b at used named p q → used_of q (own_at b.shape p at) ≡ Some rows → count ≤ rows → Idles b q r
     → FindsNamed b.shape (own_at b.shape p at) rows count q r → CountingAll b (at + 1) (used + rows) (named + count) p r
 all_next b at used named rows count p q r quiet lt c is less i finds =
     let z = b.shape in let next : suc at ≡ at + 1 = omega arith in
@@ -184,7 +189,9 @@ all_next b at used named rows count p q r quiet lt c is less i finds =
         named,
         count,
         refl,
-        sums_map _ _ at (λ n one below is. finds_after b (own_at z p n) (used_at z p n) one p q r (own_here b p quiet n (omega (arith, below, lt)) ∙ sym c.idles.moved.same) i is) at named (omega arith) c.sums,
+        sums_map _ _ at (λ n one below is. finds_after b (own_at z p n) (used_at z p n) one p q r
+            (own_here b p quiet n (omega (arith, below, lt)) ∙ sym c.idles.moved.same) i is) at named (omega arith)
+            c.sums,
         subst (λ n. FindsNamed z (own_at z p at) n count p r) (sym here) (finds_before b (own_at z p at) rows count p q r c.idles finds),
       );
     }

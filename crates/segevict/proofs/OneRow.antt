@@ -32,7 +32,9 @@ room_now b into p current = ap (λ o. is_below b.shape.rows (option_and_then (us
 
 module _ (b : Board) (segment row into cutoff : ℕ) (p r : Pass) (quiet : IsQuiet b p) where
   -- with this segment to move into
-  kept_to : (IsTarget : ℕ → Type 0) → IsTarget into → (told : KeepRowAnswer) → KeepsRow b segment row into cutoff told p r → KeepsTo b.shape segment row cutoff IsTarget (has_room_in b.shape into r) told p r
+  kept_to : (IsTarget : ℕ → Type 0) → IsTarget into → (told : KeepRowAnswer)
+      → KeepsRow b segment row into cutoff told p r
+      → KeepsTo b.shape segment row cutoff IsTarget (has_room_in b.shape into r) told p r
   kept_to IsTarget target kept.Moved k = let a = k.answer in
       (into, target, uses_one into p r a.11 k.memo, (a.1.key, carried b segment row into cutoff p a.0 r a.1 a.3 a.4 a.5 a.6 a.9 a.2.steps a.7 a.8 a.10 a.12))
   kept_to IsTarget target kept.Left k = (
@@ -96,7 +98,9 @@ module _ (b : Board) (segment row into cutoff : ℕ) (p r : Pass) (quiet : IsQui
     IsHere n = IsKeepTarget segment n p
 
     -- the room of the segment is what the pass has
-    with_room : (told : KeepRowAnswer) → r.plain ≡ p.plain → KeepsTo b.shape segment row cutoff IsHere (has_room_in b.shape into r) told p r → KeepsTo b.shape segment row cutoff IsHere (has_room b.shape r) told p r
+    with_room : (told : KeepRowAnswer) → r.plain ≡ p.plain
+        → KeepsTo b.shape segment row cutoff IsHere (has_room_in b.shape into r) told p r
+        → KeepsTo b.shape segment row cutoff IsHere (has_room b.shape r) told p r
     with_room told same = subst (λ room. KeepsTo b.shape segment row cutoff IsHere room told p r) (room_now b into r (ap (λ (x : PlainPart). x.current) same ∙ target.current))
 
     answers : (told : KeepRowAnswer) → KeepsRow b segment row into cutoff told p r → IsKeepRowAnswer b.shape segment row cutoff told p r
@@ -147,7 +151,8 @@ module _ (b : Board) (segment row cutoff : ℕ) (p : Pass) (quiet : IsQuiet b p)
   costs_none room told tries = record { tries = tries; steps = omega arith; draws_nothing = λ bucket. refl; reads_nothing = refl }
 
   -- of these answers neither is the other, nor NoRoom
-  refused_not_yours : state_of p segment ≡ None → ((kept.NotYours ≡ kept.NotYours) ↔ (state_of p segment ≡ None)) × ((kept.NotYours ≡ kept.NotUsed) ↔ (IsSome (state_of p segment) × ¬ (HasRow segment row p)))
+  refused_not_yours : state_of p segment ≡ None → ((kept.NotYours ≡ kept.NotYours) ↔ (state_of p segment ≡ None))
+      × ((kept.NotYours ≡ kept.NotUsed) ↔ (IsSome (state_of p segment) × ¬ (HasRow segment row p)))
   refused_not_yours none = (
     ((λ is. none), (λ nobody. refl)),
     (
@@ -156,7 +161,9 @@ module _ (b : Board) (segment row cutoff : ℕ) (p : Pass) (quiet : IsQuiet b p)
     ),
   )
 
-  refused_not_used : IsSome (state_of p segment) → ¬ (HasRow segment row p) → ((kept.NotUsed ≡ kept.NotYours) ↔ (state_of p segment ≡ None)) × ((kept.NotUsed ≡ kept.NotUsed) ↔ (IsSome (state_of p segment) × ¬ (HasRow segment row p)))
+  refused_not_used : IsSome (state_of p segment) → ¬ (HasRow segment row p)
+      → ((kept.NotUsed ≡ kept.NotYours) ↔ (state_of p segment ≡ None))
+      × ((kept.NotUsed ≡ kept.NotUsed) ↔ (IsSome (state_of p segment) × ¬ (HasRow segment row p)))
   refused_not_used some without = (
     (
       (λ is. let no : kept.NotUsed ≡ kept.NotYours = is in cc),

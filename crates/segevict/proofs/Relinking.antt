@@ -64,7 +64,9 @@ module _ (b : Board) (named : Slot) (into to : ℕ) (place : Place) (w : ℕ) (p
   may_relink read = (r.fits, r.chain.at)
 
 pub tried : (b : Board) (named : Slot) (into to : ℕ) (place : Place) (w : ℕ) (p q : Pass) (told : Result (Unit {0}) ℕ) → IsEarlier b place w p
-    → OnOk told (AddsAtOnce b (relinked named into to (position_at b place p) (number p) ∷ []) p q) → IfErr told (λ found. Missed b place w found p q) → q.plain ≡ p.plain → memo q ≡ memo p → TriesToRelink b named into to place w told p q
+    → OnOk told (AddsAtOnce b (relinked named into to (position_at b place p) (number p) ∷ []) p q)
+        → IfErr told (λ found. Missed b place w found p q) → q.plain ≡ p.plain → memo q ≡ memo p
+        → TriesToRelink b named into to place w told p q
 tried b named into to place w p q (Ok done) earlier did missed plain same = record { did = did; plain = plain; memo = same }
 tried b named into to place w p q (Err found) earlier did missed plain same = (missed, (missed.higher earlier.0 earlier.1).1, plain, same)
 
@@ -90,7 +92,9 @@ in_moved : (o : Option Cached) (t : ℕ) (v : List ℕ) (s : ℕ) → option_map
 in_moved None t v s e = absurd (none-some (cached v s) e)
 in_moved (Some x) t v s e = ap (λ (y : Cached). y.segment) (same_Some (with_segment t x) (cached v s) e)
 
-pub relinked_gone : (z : Shape) (h : List Event) (p : ℕ) (named : Slot) (into to n : ℕ) → IsLawful z (relinked named into to n p ∷ h) → (row_after h named.segment named.row).linked ≡ Some named.key → RowGone z named.segment named.row (relinked named into to n p ∷ h)
+pub relinked_gone : (z : Shape) (h : List Event) (p : ℕ) (named : Slot) (into to n : ℕ)
+    → IsLawful z (relinked named into to n p ∷ h) → (row_after h named.segment named.row).linked ≡ Some named.key
+    → RowGone z named.segment named.row (relinked named into to n p ∷ h)
 relinked_gone z h p named into to n l on b m x here es er =
     let e = relinked named into to n p in
     let i = (coherent z (e ∷ h) l).items b m x here in

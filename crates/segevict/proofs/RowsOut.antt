@@ -100,7 +100,10 @@ module _ (b : Board) (bucket : ℕ) (sought : Item) (p f : Pass) (quiet : IsQuie
   )
 
   -- the bit was tried for, since the key stood then
-  tries_one : (target : Target) (q : Pass) → IsNamedAt b bucket sought target f → Begins (seen f) (seen q) → TakesSteps f q → count taken q ≤ count taken f + 1 → count (bounced bucket) q ≤ count (bounced bucket) f + 64 → ((other : ℕ) → other ≢ bucket → count (bounced other) q ≡ count (bounced other) f)
+  tries_one : (target : Target) (q : Pass) → IsNamedAt b bucket sought target f → Begins (seen f) (seen q)
+      → TakesSteps f q → count taken q ≤ count taken f + 1
+      → count (bounced bucket) q ≤ count (bounced bucket) f + 64
+      → ((other : ℕ) → other ≢ bucket → count (bounced other) q ≡ count (bounced other) f)
       → TriesFor b.shape (StoodAtRow b.shape sought.seg sought.row p q) 1 p q
   tries_one target q n later steps took met others =
       let IsSo = StoodAtRow b.shape sought.seg sought.row p q in
@@ -120,7 +123,9 @@ module _ (b : Board) (bucket : ℕ) (sought : Item) (p f : Pass) (quiet : IsQuie
   }
 
   -- the bit can't be had
-  pub row_is_barred : (q : Pass) (target : Target) → IsNamedAt b bucket sought target f → GoesOn b f q × ChangesNothing f q × IsBusy bucket f q × DrawsNothing f q × ReadsNothing f q → EvictsRow b sought.seg sought.row evict_row.Busy p q
+  pub row_is_barred : (q : Pass) (target : Target) → IsNamedAt b bucket sought target f → GoesOn b f q
+      × ChangesNothing f q × IsBusy bucket f q × DrawsNothing f q × ReadsNothing f q
+      → EvictsRow b sought.seg sought.row evict_row.Busy p q
   row_is_barred q target n busy = record {
     on = goes_then b p f q goes_looking busy.0;
     plain = busy.1.plain ∙ i.plain;
@@ -165,8 +170,11 @@ module _ (b : Board) (bucket : ℕ) (sought : Item) (p f : Pass) (quiet : IsQuie
     gone_taken = keeps_gone_then b sought.seg p f q gone_looking (keeps_gone b sought.seg took_by f q (took_moved b bucket f q quiet_looking begins) took_calm stored.own)
 
     -- what was done under it, and the release
-    module _ (r s : Pass) (own : List Event) (added : List Entry) (m : AddsEvents b own q r) (calm : AreCalm own) (elsewhere : (other : ℕ) → bucket ≢ other → NoneAt b.shape other own) (still : AreStill own)
-        (adds : (h : List Event) → event.seen (own ++ h) ≡ added ++ event.seen h) (freed : AddsAtOnce b (Freed (number r) bucket false ∷ []) r s) (free : (bucket_after b.shape (trace s) bucket).holder ≡ None)
+    module _ (r s : Pass) (own : List Event) (added : List Entry) (m : AddsEvents b own q r) (calm : AreCalm own)
+        (elsewhere : (other : ℕ) → bucket ≢ other → NoneAt b.shape other own) (still : AreStill own)
+        (adds : (h : List Event) → event.seen (own ++ h) ≡ added ++ event.seen h)
+            (freed : AddsAtOnce b (Freed (number r) bucket false ∷ []) r s)
+            (free : (bucket_after b.shape (trace s) bucket).holder ≡ None)
         (plain : r.plain ≡ q.plain) (same : memo r ≡ memo q) (plain' : s.plain ≡ r.plain) (same' : memo s ≡ memo r) where
       plain_all : s.plain ≡ p.plain
       plain_all = plain' ∙ (plain ∙ (took.plain ∙ i.plain))
@@ -199,7 +207,10 @@ module _ (b : Board) (bucket : ℕ) (sought : Item) (p f : Pass) (quiet : IsQuie
           (keeps_gone b sought.seg (Freed (number r) bucket false ∷ []) r s freed.moved (tt, tt) (stored_taken.own ∙ sym m.same)))
 
     -- the word was cleared
-    pub row_is_evicted : (target : Target) → IsNamedAt b bucket sought target f → (r s : Pass) → TakesRow b bucket sought true q r → AddsAtOnce b (Freed (number r) bucket false ∷ []) r s → (bucket_after b.shape (trace s) bucket).holder ≡ None → r.plain ≡ q.plain → memo r ≡ memo q → s.plain ≡ r.plain → memo s ≡ memo r
+    pub row_is_evicted : (target : Target) → IsNamedAt b bucket sought target f → (r s : Pass)
+        → TakesRow b bucket sought true q r → AddsAtOnce b (Freed (number r) bucket false ∷ []) r s
+        → (bucket_after b.shape (trace s) bucket).holder ≡ None → r.plain ≡ q.plain → memo r ≡ memo q
+        → s.plain ≡ r.plain → memo s ≡ memo r
         → EvictsRow b sought.seg sought.row evict_row.Evicted p s
     row_is_evicted target n r s t freed free plain same plain' same' =
         let key = t.takes.0 in let own : List Event = Unlinked (number q) key t.takes.1 (Evicts sought.seg) ∷ [] in let added : List Entry = Evicted (number q) key sought.seg ∷ [] in
@@ -227,7 +238,10 @@ module _ (b : Board) (bucket : ℕ) (sought : Item) (p f : Pass) (quiet : IsQuie
         }
 
     -- it was gone meanwhile
-    pub row_went : (target : Target) → IsNamedAt b bucket sought target f → (r s : Pass) → TakesRow b bucket sought false q r → AddsAtOnce b (Freed (number r) bucket false ∷ []) r s → (bucket_after b.shape (trace s) bucket).holder ≡ None → r.plain ≡ q.plain → memo r ≡ memo q → s.plain ≡ r.plain → memo s ≡ memo r
+    pub row_went : (target : Target) → IsNamedAt b bucket sought target f → (r s : Pass)
+        → TakesRow b bucket sought false q r → AddsAtOnce b (Freed (number r) bucket false ∷ []) r s
+        → (bucket_after b.shape (trace s) bucket).holder ≡ None → r.plain ≡ q.plain → memo r ≡ memo q
+        → s.plain ≡ r.plain → memo s ≡ memo r
         → EvictsRow b sought.seg sought.row evict_row.Left p s
     row_went target n r s t freed free plain same plain' same' = record {
       on = goes_all r s [] [] t.takes tt (λ other apart. tt) tt (λ h. refl) freed free plain same plain' same';
@@ -253,5 +267,7 @@ pub found_some : (b : Board) (bucket : ℕ) (sought : Item) (o : Option Target) 
 found_some b bucket sought None p finds t = absurd (false≢true t)
 found_some b bucket sought (Some target) p finds t = (target, finds)
 
-pub of_place : (b : Board) (sought : Item) (segment row : ℕ) (told : EvictRowAnswer) (p q : Pass) → (sought.seg ≡ segment) × (sought.row ≡ row) → EvictsRow b sought.seg sought.row told p q → EvictsRow b segment row told p q
+pub of_place : (b : Board) (sought : Item) (segment row : ℕ) (told : EvictRowAnswer) (p q : Pass)
+    → (sought.seg ≡ segment) × (sought.row ≡ row) → EvictsRow b sought.seg sought.row told p q
+    → EvictsRow b segment row told p q
 of_place b sought segment row told p q place e = subst (λ s. EvictsRow b s row told p q) place.0 (subst (λ r. EvictsRow b sought.seg r told p q) place.1 e)

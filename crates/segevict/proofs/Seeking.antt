@@ -28,18 +28,23 @@ use Rattle.segevict.proofs.Unnamed.{IsAhead, ahead_first, ahead_over, ahead_pass
 -- ---- a word and a row
 
 -- a word of the item names its row
-pub names_row : (z : Shape) (h : List Event) (b n word : ℕ) (sought : Item) → IsValid z → IsLawful z h → IsWordOfContent ((bucket_after z h b).items n) word → IsSameItem word (item_word sought) → RowAt z b sought.seg sought.row h n
+pub names_row : (z : Shape) (h : List Event) (b n word : ℕ) (sought : Item) → IsValid z → IsLawful z h
+    → IsWordOfContent ((bucket_after z h b).items n) word → IsSameItem word (item_word sought)
+    → RowAt z b sought.seg sought.row h n
 names_row z h b n word sought v l reads same =
     let found = item_here z h b n word ((bucket_after z h b).items n) v l ((chain_of z h l b).contents n) reads same.0 in
     let a = found.0 in let stands = (coherent z h l).items b n a found.1 in
     let ls = low_segment z a.segment v stands.within.0 in let lr = low_row z a.row v stands.within.1 in
     let place : a.segment * 2 ^ 20 + a.row ≡ sought.seg * 2 ^ 20 + sought.row =
-    sym (place_of_word (tag_of a.key) found.2.0 a.segment a.row ls lr) ∙ (ap (λ w. w % 2 ^ 44) (sym found.2.2) ∙ (same.2 ∙ place_of_word sought.tag sought.freq sought.seg sought.row sought.seg_in_range sought.row_in_range)) in
+    sym (place_of_word (tag_of a.key) found.2.0 a.segment a.row ls lr)
+        ∙ (ap (λ w. w % 2 ^ 44) (sym found.2.2) ∙ (same.2
+        ∙ place_of_word sought.tag sought.freq sought.seg sought.row sought.seg_in_range sought.row_in_range)) in
     let low = sought.row_in_range in
     (a, found.1, (omega (arith, place, lr, low), omega (arith, place, lr, low)))
 
 -- and no other does, where the key was linked to the row
-pub names_no_row : (z : Shape) (h : List Event) (b n word : ℕ) (sought : Item) (key : List ℕ) → IsValid z → IsLawful z h → (row_after h sought.seg sought.row).linked ≡ Some key → sought.tag ≡ tag_of key
+pub names_no_row : (z : Shape) (h : List Event) (b n word : ℕ) (sought : Item) (key : List ℕ) → IsValid z
+    → IsLawful z h → (row_after h sought.seg sought.row).linked ≡ Some key → sought.tag ≡ tag_of key
     → IsWordOfContent ((bucket_after z h b).items n) word → ¬ (IsSameItem word (item_word sought)) → ¬ (RowAt z b sought.seg sought.row h n)
 names_no_row z h b n word sought key v l on tag reads other at =
     let a = at.0 in let stands = (coherent z h l).items b n a at.1 in
@@ -49,8 +54,12 @@ names_no_row z h b n word sought key v l on tag reads other at =
     let is = here.0.2 in let few : here.0.0 < 2 ^ 8 = (let lt = here.0.1 in omega arith) in
     other (
       here.1,
-      ap (λ w. w / 2 ^ 52) is ∙ (tag_of_word (tag_of a.key) here.0.0 a.segment a.row few ls lr ∙ (ap tag_of same ∙ (sym tag ∙ sym (tag_of_word sought.tag sought.freq sought.seg sought.row sought.freq_in_range sought.seg_in_range sought.row_in_range)))),
-      ap (λ w. w % 2 ^ 44) is ∙ (place_of_word (tag_of a.key) here.0.0 a.segment a.row ls lr ∙ ((λ t. at.2.0 t * 2 ^ 20 + at.2.1 t) ∙ sym (place_of_word sought.tag sought.freq sought.seg sought.row sought.seg_in_range sought.row_in_range))),
+      ap (λ w. w / 2 ^ 52) is ∙ (tag_of_word (tag_of a.key) here.0.0 a.segment a.row few ls lr
+          ∙ (ap tag_of same ∙ (sym tag ∙ sym (tag_of_word sought.tag sought.freq sought.seg sought.row
+          sought.freq_in_range sought.seg_in_range sought.row_in_range)))),
+      ap (λ w. w % 2 ^ 44) is ∙ (place_of_word (tag_of a.key) here.0.0 a.segment a.row ls lr
+          ∙ ((λ t. at.2.0 t * 2 ^ 20 + at.2.1 t) ∙ sym
+          (place_of_word sought.tag sought.freq sought.seg sought.row sought.seg_in_range sought.row_in_range))),
     )
 
 -- ---- the search
@@ -77,7 +86,8 @@ seeking_first b bucket sought p is stored =
           (subst (λ k. IsAhead z k sought.seg sought.row 1 (trace p)) (sym stored.home) (ahead_first z stored.key sought.seg sought.row (trace p) is.lawful stored.linked));
     }
 
-pub stored_over : (b : Board) (bucket : ℕ) (sought : Item) (own : List Event) (p q : Pass) → AddsEvents b own p q → AreCalmIn sought.seg own → IsStoredIn b bucket sought p → IsStoredIn b bucket sought q
+pub stored_over : (b : Board) (bucket : ℕ) (sought : Item) (own : List Event) (p q : Pass) → AddsEvents b own p q
+    → AreCalmIn sought.seg own → IsStoredIn b bucket sought p → IsStoredIn b bucket sought q
 stored_over b bucket sought own p q m calm stored =
     let l : IsLawful b.shape (m.more ++ trace p) = subst (IsLawful b.shape) m.goes_on m.pass.lawful in
     let c : AreCalmIn sought.seg (own_of (number p) m.more) = subst (AreCalmIn sought.seg) (sym m.adds) calm in record {
@@ -132,7 +142,9 @@ module _ (b : Board) (bucket : ℕ) (sought : Item) (first p q : Pass) (place : 
   -- or it doesn't, and the chain goes on or ends
   module _ (following : Option Place) (other : ¬ (IsSameItem word (item_word sought))) (next : IsNext z place word following) where
     passed : IsAhead z bucket sought.seg sought.row (n + 1) h
-    passed = ahead_passed z bucket sought.seg sought.row n h (names_no_row z h bucket n word sought stored_looked.key is.valid is.lawful stored_looked.linked stored_looked.tag reads other) ahead_looked
+    passed = ahead_passed z bucket sought.seg sought.row n h
+        (names_no_row z h bucket n word sought stored_looked.key is.valid is.lawful stored_looked.linked
+        stored_looked.tag reads other) ahead_looked
 
     depth : (d : ℕ) × (n ≡ 8 * d + place.word)
     depth = depth_of_place z h bucket n place (ltb place.bucket z.buckets) chain_looked.at.1
@@ -140,7 +152,9 @@ module _ (b : Board) (bucket : ℕ) (sought : Item) (first p q : Pass) (place : 
     abbrev IsOn : Place → Type 0
     IsOn after = Seeking b bucket sought first q after × (n < position z h after) × (words_before (position z h after) ≡ words_before n + 1)
 
-    on_to : (after : Place) (m : ℕ) → IsPlace z after → IsPosition (bucket_after z h bucket) m → IsAt h bucket m (cell_at z after) → n < m → words_before m ≡ words_before n + 1 → IsAhead z bucket sought.seg sought.row m h → IsOn after
+    on_to : (after : Place) (m : ℕ) → IsPlace z after → IsPosition (bucket_after z h bucket) m
+        → IsAt h bucket m (cell_at z after) → n < m → words_before m ≡ words_before n + 1
+        → IsAhead z bucket sought.seg sought.row m h → IsOn after
     on_to after m within here at lt one ahead =
         let there : position z h after ≡ m = position_at z h bucket m after at in (
           record {
@@ -155,7 +169,8 @@ module _ (b : Board) (bucket : ℕ) (sought : Item) (first p q : Pass) (place : 
 
     inner : place.word < 7 → IsOn (next_word place)
     inner lt = let d = depth in let t = chain_looked.in_table in let here = chain_looked.at.0 in
-        on_to (next_word place) (n + 1) (t.0, omega arith, omega (arith, lt)) (omega (arith, here.0, d.1, lt), (let e : n + 1 ≡ 8 * d.0 + (place.word + 1) = omega (arith, d.1) in omega (arith, e, lt)))
+        on_to (next_word place) (n + 1) (t.0, omega arith, omega (arith, lt)) (omega (arith, here.0, d.1, lt),
+            (let e : n + 1 ≡ 8 * d.0 + (place.word + 1) = omega (arith, d.1) in omega (arith, e, lt)))
         (next_at z h bucket n place (ltb place.bucket z.buckets) lt chain_looked.at.1) (omega arith) (omega (arith, d.1, lt, t.1)) passed
 
     leads : (after : Place) → LeadsTo z word after → IsOn after
@@ -163,7 +178,9 @@ module _ (b : Board) (bucket : ℕ) (sought : Item) (first p q : Pass) (place : 
         let on = leads_to z h bucket n word to.0 ((bucket_after z h bucket).items n) is.lawful ((chain_of z h is.lawful bucket).contents n) reads to.1 to.2 in
         let in_table = home_in z h to.0 (home bucket (on.0 + 1)) is.lawful on.3 in
         let skipped : IsAhead z bucket sought.seg sought.row (n + 1 + 1) h = ahead_skipped z bucket sought.seg sought.row (n + 1) h is.lawful (omega (arith, on.2)) passed in
-        subst IsOn (sym to.3) (on_to (first_word z to.0) (8 * on.0 + 9) (omega (arith, in_table), omega arith, omega arith) (omega (arith, on.1), omega arith) (first_at z h bucket on.0 to.0 on.3) (omega (arith, on.2)) (omega (arith, on.2))
+        subst IsOn (sym to.3) (on_to (first_word z to.0) (8 * on.0 + 9) (omega (arith, in_table), omega arith,
+            omega arith) (omega (arith, on.1), omega arith) (first_at z h bucket on.0 to.0 on.3)
+            (omega (arith, on.2)) (omega (arith, on.2))
         (subst (λ m. IsAhead z bucket sought.seg sought.row m h) (let e : n + 1 + 1 ≡ 8 * on.0 + 9 = omega (arith, on.2) in e) skipped))
 
     onward : (after : Place) → following ≡ Some after → IsOn after
@@ -190,4 +207,7 @@ module _ (b : Board) (bucket : ℕ) (sought : Item) (first p q : Pass) (place : 
         let nowhere = subst (λ o. MatchOption o (LeadsNowhere word) (LeadsTo z word)) is' (next.last le) in
         let w = chain_looked.in_table in let d = depth in
         let e : n ≡ 8 * d.0 + 7 = omega (arith, d.1, le, w.2) in
-        ahead_ended z bucket sought.seg sought.row d.0 h is.lawful (chain_ends z h bucket n d.0 word is.valid is.lawful e reads nowhere) (subst (λ m. IsAhead z bucket sought.seg sought.row m h) (let f : n + 1 ≡ 8 * d.0 + 8 = omega (arith, e) in f) passed)
+        ahead_ended z bucket sought.seg sought.row d.0 h is.lawful
+            (chain_ends z h bucket n d.0 word is.valid is.lawful e reads nowhere)
+            (subst (λ m. IsAhead z bucket sought.seg sought.row m h) (let f : n + 1 ≡ 8 * d.0 + 8 =
+            omega (arith, e) in f) passed)

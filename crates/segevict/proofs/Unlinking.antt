@@ -38,7 +38,9 @@ abbrev pub left_at : Board → Place → Pass → List ℕ × Leaving
 left_at b place p = left_of ((bucket_after b.shape (trace p) (home_bucket b.shape (trace p) place)).items (position b.shape (trace p) place))
 
 -- an eviction leaves no word that names the row of its key
-evicted_gone : (z : Shape) (h : List Event) (p n s r : ℕ) (key : List ℕ) (why : Leaving) → IsLawful z (Unlinked p key n why ∷ h) → (row_after h s r).linked ≡ Some key → RowGone z s r (Unlinked p key n why ∷ h)
+evicted_gone : (z : Shape) (h : List Event) (p n s r : ℕ) (key : List ℕ) (why : Leaving)
+    → IsLawful z (Unlinked p key n why ∷ h) → (row_after h s r).linked ≡ Some key
+    → RowGone z s r (Unlinked p key n why ∷ h)
 evicted_gone z h p n s r key why l on b m a is es er =
     let i = (coherent z (Unlinked p key n why ∷ h) l).items b m a is in
     let same : a.key ≡ key = same_Some a.key key (sym i.linked ∙ ((λ t. (row_after h (es t) (er t)).linked) ∙ on)) in
@@ -66,12 +68,16 @@ module _ (b : Board) (bucket : ℕ) (sought : Item) (f : Pass) (is : IsPassOf b 
   -- it stands in the segment
   pub named_stands : StandsIn (after b.shape (event.seen (trace f))) stored.key sought.seg
   named_stands =
-      let stood : stands b.shape (event.seen (trace f)) stored.key ≡ Some (cached st.value sought.seg) = (λ t. stands b.shape (event.seen (trace f)) (sym named_key t)) ∙ (st.stands ∙ ap (λ s. Some (cached st.value s)) n.named.2.0) in
+      let stood : stands b.shape (event.seen (trace f)) stored.key ≡ Some (cached st.value sought.seg) =
+          (λ t. stands b.shape (event.seen (trace f)) (sym named_key t))
+          ∙ (st.stands ∙ ap (λ s. Some (cached st.value s)) n.named.2.0) in
       stands_in b.shape (event.seen (trace f)) stored.key sought.seg (st.value, stood)
 
   -- under the bit it may leave its word
   abbrev pub Clears : List ℕ × Leaving → Type 0
-  Clears left = Fits b.shape (trace f) (Unlinked (number f) left.0 at left.1) × IsInChain b (bucket_of b.shape left.0) target.place f × HasItemOf b left.0 target.place f × IsEarlier b target.place target.word f
+  Clears left = Fits b.shape (trace f) (Unlinked (number f) left.0 at left.1)
+      × IsInChain b (bucket_of b.shape left.0) target.place f × HasItemOf b left.0 target.place f
+      × IsEarlier b target.place target.word f
 
   clears : HasBit b.shape (trace f) (number f) bucket → Clears (stored.key, Evicts sought.seg)
   clears bit =
@@ -129,8 +135,13 @@ module _ (b : Board) (bucket : ℕ) (sought : Item) (p f : Pass) (stored : IsSto
 
       pub takes_one : TakesRow b bucket sought true p q
       takes_one = record {
-        takes = (k, there, stored_now.home, subst (λ m. AddsEvents b (Unlinked m k there (Evicts sought.seg) ∷ []) p q) i.moved.same (moved_then b [] (e ∷ []) p f q i.moved d.moved), ap (λ h. (row_after h sought.seg sought.row).linked) d.now ∙ linked_before);
-        gone = subst (RowGone b.shape sought.seg sought.row) (sym d.now) (evicted_gone b.shape (d.others ++ trace f) (number f) there sought.seg sought.row k (Evicts sought.seg) (subst (IsLawful b.shape) d.now d.moved.pass.lawful) linked_before);
+        takes = (k, there, stored_now.home, subst
+            (λ m. AddsEvents b (Unlinked m k there (Evicts sought.seg) ∷ []) p q) i.moved.same
+            (moved_then b [] (e ∷ []) p f q i.moved d.moved),
+            ap (λ h. (row_after h sought.seg sought.row).linked) d.now ∙ linked_before);
+        gone = subst (RowGone b.shape sought.seg sought.row) (sym d.now)
+            (evicted_gone b.shape (d.others ++ trace f) (number f) there sought.seg sought.row k (Evicts sought.seg)
+            (subst (IsLawful b.shape) d.now d.moved.pass.lawful) linked_before);
         bit = record {
           bit = (clean_now.bit.0, ap (λ u. u.holder) bucket_now ∙ (clean_now.bit.1 ∙ ap Some (sym d.moved.same)));
           unwritten = ap (λ u. u.written) bucket_now ∙ clean_now.unwritten;

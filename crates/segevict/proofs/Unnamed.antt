@@ -37,12 +37,16 @@ gone_lasts z (e ∷ more) h p s r l calm own gone =
     let c = calm_first s p e more calm in
     one_gone z e (more ++ h) s r l (own_linked z (e ∷ []) (more ++ h) p s r l c.0 own) (gone_lasts z more h p s r l.0 c.1 own gone)
 
-pub gone_over : (b : Board) (own : List Event) (p q : Pass) (s r : ℕ) → AddsEvents b own p q → AreCalmIn s own → owner b.shape s ≡ number p → RowGone b.shape s r (trace p) → RowGone b.shape s r (trace q)
+pub gone_over : (b : Board) (own : List Event) (p q : Pass) (s r : ℕ) → AddsEvents b own p q → AreCalmIn s own
+    → owner b.shape s ≡ number p → RowGone b.shape s r (trace p) → RowGone b.shape s r (trace q)
 gone_over b own p q s r m calm mine gone =
-    subst (RowGone b.shape s r) (sym m.goes_on) (gone_lasts b.shape m.more (trace p) (number p) s r (subst (IsLawful b.shape) m.goes_on m.pass.lawful) (subst (AreCalmIn s) (sym m.adds) calm) mine gone)
+    subst (RowGone b.shape s r) (sym m.goes_on)
+        (gone_lasts b.shape m.more (trace p) (number p) s r (subst (IsLawful b.shape) m.goes_on m.pass.lawful)
+        (subst (AreCalmIn s) (sym m.adds) calm) mine gone)
 
 -- a linked row that none names is named by none before a refilling
-pub gone_since : (z : Shape) (more h : List Event) (s r : ℕ) (k : List ℕ) → IsLawful z (more ++ h) → NoneRefills s more → (row_after h s r).linked ≡ Some k → RowGone z s r h → RowGone z s r (more ++ h)
+pub gone_since : (z : Shape) (more h : List Event) (s r : ℕ) (k : List ℕ) → IsLawful z (more ++ h)
+    → NoneRefills s more → (row_after h s r).linked ≡ Some k → RowGone z s r h → RowGone z s r (more ++ h)
 gone_since z [] h s r k l none on gone = gone
 gone_since z (e ∷ more) h s r k l none on gone =
     let now = row_since z (e ∷ more) h s r k l none on in let before = row_since z more h s r k l.0 none.1 on in
@@ -78,9 +82,12 @@ ahead_on z (e ∷ more) h p b s r n l calm own a =
     (row_moves z b s r e (more ++ h) there.0 l there.2))
     (ahead_on z more h p b s r n l.0 c.1 own a)
 
-pub ahead_over : (b : Board) (own : List Event) (p q : Pass) (k s r n : ℕ) → AddsEvents b own p q → AreCalmIn s own → owner b.shape s ≡ number p → IsAhead b.shape k s r n (trace p) → IsAhead b.shape k s r n (trace q)
+pub ahead_over : (b : Board) (own : List Event) (p q : Pass) (k s r n : ℕ) → AddsEvents b own p q → AreCalmIn s own
+    → owner b.shape s ≡ number p → IsAhead b.shape k s r n (trace p) → IsAhead b.shape k s r n (trace q)
 ahead_over b own p q k s r n m calm mine a =
-    subst (IsAhead b.shape k s r n) (sym m.goes_on) (ahead_on b.shape m.more (trace p) (number p) k s r n (subst (IsLawful b.shape) m.goes_on m.pass.lawful) (subst (AreCalmIn s) (sym m.adds) calm) mine a)
+    subst (IsAhead b.shape k s r n) (sym m.goes_on)
+        (ahead_on b.shape m.more (trace p) (number p) k s r n (subst (IsLawful b.shape) m.goes_on m.pass.lawful)
+        (subst (AreCalmIn s) (sym m.adds) calm) mine a)
 
 pub ahead_passed : (z : Shape) (b s r n : ℕ) (h : List Event) → ¬ (RowAt z b s r h n) → IsAhead z b s r n h → IsAhead z b s r (n + 1) h
 ahead_passed z b s r n h none a = ⊎_elim

@@ -18,7 +18,9 @@ some_used None t = absurd (false≢true t)
 some_used (Some used) t = (used, refl)
 
 -- a row of the pass's own that is linked is a used one
-used_if_linked : (b : Board) (segment row : ℕ) (key : List ℕ) (q : Pass) → IsQuiet b q → owner b.shape segment ≡ number q → row < b.shape.rows → (row_after (trace q) segment row).linked ≡ Some key → IsUsedRow segment row q
+used_if_linked : (b : Board) (segment row : ℕ) (key : List ℕ) (q : Pass) → IsQuiet b q
+    → owner b.shape segment ≡ number q → row < b.shape.rows → (row_after (trace q) segment row).linked ≡ Some key
+    → IsUsedRow segment row q
 used_if_linked b segment row key q quiet own within linked =
     let s = own_segment q.plain segment in
     let used = some_used (used_of q segment) (used_there s ∙ (sym (state_there s) ∙ state_owned b q segment quiet.pass own)) in (
@@ -28,7 +30,8 @@ used_if_linked b segment row key q quiet own within linked =
     )
 
 -- the segment isn't refilled meanwhile
-pub unnamed_last : (b : Board) (segment from : ℕ) (p q : Pass) (more : List Event) → IsQuiet b p → GoesOn b p q → trace q ≡ more ++ trace p → (owner b.shape segment ≡ number p → NoneRefills segment more)
+pub unnamed_last : (b : Board) (segment from : ℕ) (p q : Pass) (more : List Event) → IsQuiet b p → GoesOn b p q
+    → trace q ≡ more ++ trace p → (owner b.shape segment ≡ number p → NoneRefills segment more)
     → AreUnnamed b.shape segment from p → AreUnnamed b.shape segment from q
 unnamed_last b segment from p q more quiet on now none are row lt =
     let was = are row lt in let of = of_row b segment row p quiet was.0 in
@@ -40,7 +43,8 @@ unnamed_last b segment from p q more quiet on now none are row lt =
     )
 
 -- the next row was a used one, and no item names it now
-pub one_more_unnamed : (b : Board) (segment row : ℕ) (p q : Pass) (more : List Event) → IsQuiet b p → GoesOn b p q → trace q ≡ more ++ trace p → (owner b.shape segment ≡ number p → NoneRefills segment more)
+pub one_more_unnamed : (b : Board) (segment row : ℕ) (p q : Pass) (more : List Event) → IsQuiet b p → GoesOn b p q
+    → trace q ≡ more ++ trace p → (owner b.shape segment ≡ number p → NoneRefills segment more)
     → IsUsedRow segment row q → ¬ (IsNamed b.shape segment row (marked q)) → AreUnnamed b.shape segment row p → AreUnnamed b.shape segment (row + 1) q
 one_more_unnamed b segment row p q more quiet on now none used free are n lt = ⊎_elim
     (λ same. subst (λ m. IsUsedRow segment m q × ¬ (IsNamed b.shape segment m (marked q))) (sym same) (used, free))

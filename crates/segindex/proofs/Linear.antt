@@ -26,7 +26,9 @@ module _ (z : Shape) (world : ℕ → World) (n : ℕ) (run : IsRun z world n) w
     pub until : linear.place effect point ≤ 2 * to
     pub right : IsRightAt z pass effect (history_at world point) (history_at world (suc point))
 
-  pointed : (pass from to : ℕ) (effect : Effect) (old new : List Entry) → from ≤ to → to ≤ n → history_at world from ≡ old → history_at world to ≡ new → HasEffect z pass effect old new → HasPoint pass from to effect
+  pointed : (pass from to : ℕ) (effect : Effect) (old new : List Entry) → from ≤ to → to ≤ n
+      → history_at world from ≡ old → history_at world to ≡ new → HasEffect z pass effect old new
+      → HasPoint pass from to effect
   pointed pass from to (gets_value key now read) old new le in_run is is' e =
       let at = came z world n run from to e.0 e.1.1.0 le in_run (subst (λ h. Begins h e.0) (sym is) e.1.0) (is' ∙ e.1.1.1) in
       let low = at.1 in let high = at.2 in record { point = at.0; since = omega (arith, low); until = omega (arith, high); right = ap (λ h. reads (after z h) now key) at.3 ∙ e.2 }
@@ -52,7 +54,10 @@ module _ (z : Shape) (world : ℕ → World) (n : ℕ) (run : IsRun z world n) w
       let start = is.had.0 in let starts = is.had.1 in
       let steps = takes z world n run call.pass call.began call.returned (view is.before) (view is.after) starts.later start is.in_time.0 is.in_time.1 is.began is.returned starts.looked in
       let since = steps.since in let onward = steps.onward in let until = steps.until in let in_run = is.in_time.1 in
-      let at = pointed call.pass steps.first (suc steps.last) call.effect (event.seen start) (seen is.after) (omega (arith, onward)) (omega (arith, until, in_run)) (ap event.seen (sym steps.began)) (ap event.seen (sym steps.ended)) (subst (λ m. HasEffect z m call.effect (event.seen start) (seen is.after)) is.number is.had.2) in
+      let at = pointed call.pass steps.first (suc steps.last) call.effect (event.seen start) (seen is.after)
+          (omega (arith, onward)) (omega (arith, until, in_run)) (ap event.seen (sym steps.began))
+          (ap event.seen (sym steps.ended)) (subst (λ m. HasEffect z m call.effect (event.seen start)
+          (seen is.after)) is.number is.had.2) in
       let low = at.since in let high = at.until in
       (record { call = call; point = at.point }, refl, (record { since = omega (arith, low, since); until = omega (arith, high, until); right = at.right }, omega (arith, since, onward, until)))
 
@@ -68,7 +73,10 @@ module _ (z : Shape) (world : ℕ → World) (n : ℕ) (run : IsRun z world n) w
       record { placed = first.0 ∷ rest.placed; same = (λ j. first.1 j ∷ rest.same j); sound = All-cons IsSound first.0 rest.placed first.2 rest.sound }
 
   -- at one point two writes add one entry, so they are of one pass
-  one_writer : (pass other : ℕ) (effect effect' : Effect) (at at' point : ℕ) → linear.place effect at ≡ 2 * point + 1 → linear.place effect' at' ≡ 2 * point + 1 → IsRightAt z pass effect (history_at world at) (history_at world (suc at)) → IsRightAt z other effect' (history_at world at') (history_at world (suc at')) → pass ≡ other
+  one_writer : (pass other : ℕ) (effect effect' : Effect) (at at' point : ℕ)
+      → linear.place effect at ≡ 2 * point + 1 → linear.place effect' at' ≡ 2 * point + 1
+      → IsRightAt z pass effect (history_at world at) (history_at world (suc at))
+      → IsRightAt z other effect' (history_at world at') (history_at world (suc at')) → pass ≡ other
   one_writer pass other (writes request said) (writes request' said') at at' point here here' right right' =
       let same : at ≡ at' = omega (arith, here, here') in
       ap writer (sym right.1.1 ∙ (ap (λ t. history_at world (suc t)) same ∙ right'.1.1))
@@ -77,14 +85,17 @@ module _ (z : Shape) (world : ℕ → World) (n : ℕ) (run : IsRun z world n) w
   one_writer pass other (gets_value key now read) effect' at at' point here here' right right' = absurd (omega (arith, here))
   one_writer pass other (gets_version key now read) effect' at at' point here here' right right' = absurd (omega (arith, here))
 
-  own_points : (a b : Placed) → IsSound a → IsSound b → (point : ℕ) → linear.place a.call.effect a.point ≡ 2 * point + 1 → linear.place b.call.effect b.point ≡ 2 * point + 1 → (a.call.pass ≡ b.call.pass) × (b.call.began < a.call.returned)
+  own_points : (a b : Placed) → IsSound a → IsSound b → (point : ℕ)
+      → linear.place a.call.effect a.point ≡ 2 * point + 1 → linear.place b.call.effect b.point ≡ 2 * point + 1
+      → (a.call.pass ≡ b.call.pass) × (b.call.began < a.call.returned)
   own_points a b s t point here here' = let high = s.0.until in let low = t.0.since in
       (one_writer a.call.pass b.call.pass a.call.effect b.call.effect a.point b.point point here here' s.0.right t.0.right, omega (arith, here, here', high, low))
 
   -- of two calls in order the second hadn't returned when the first began
   precedes : (a b : Placed) → IsSound a → IsSound b → Comes a b → MayPrecede a b
   precedes a b s t (inl lt) = let low = s.0.since in let high = t.0.until in (omega (arith, lt), (λ back. omega (arith, lt, low, high, back)), own_points a b s t)
-  precedes a b s t (inr same) = let e = same.0 in let order = same.1 in let took = t.1 in let low = s.0.since in let high = t.0.until in (omega (arith, e), (λ back. omega (arith, order, took, back)), own_points a b s t)
+  precedes a b s t (inr same) = let e = same.0 in let order = same.1 in let took = t.1 in let low = s.0.since in
+      let high = t.0.until in (omega (arith, e), (λ back. omega (arith, order, took, back)), own_points a b s t)
 
   all_precede : (a : Placed) (l : List Placed) → IsSound a → All IsSound l → All (Comes a) l → All (MayPrecede a) l
   all_precede a [] s t c = All-nil (MayPrecede a)

@@ -50,7 +50,8 @@ module _ (z : Shape) (h : List Event) (l : IsLawful z h) where
   -- ---- lists
 
   -- the same list, of keys that are told otherwise
-  lists_as : (Of Of' : List ℕ → Type 0) (pairs : Pairs) → ((key : List ℕ) → Of key → Of' key) → ((key value : List ℕ) → read key ≡ Some value → Of' key → Of key) → Lists z h Of pairs → Lists z h Of' pairs
+  lists_as : (Of Of' : List ℕ → Type 0) (pairs : Pairs) → ((key : List ℕ) → Of key → Of' key)
+      → ((key value : List ℕ) → read key ≡ Some value → Of' key → Of key) → Lists z h Of pairs → Lists z h Of' pairs
   lists_as Of Of' pairs on back lists = record {
     distinct = lists.distinct;
     only = λ key value is. let x = lists.only key value is in (on key x.0, x.1);

@@ -1,5 +1,6 @@
 -- The passes of a new index are quiet.
-use Rattle.std.proofs.Common.{refl, ◌≡◌, ℕ, zero, suc, ◌-◌, ◌≤◌, All, List, get_or, nat_le, nat_lt, cond, is_some, Some, None, option_map, replicate, slice_get, sym, ap, ◌∙◌, subst, ⊎_elim, arith, Option}
+use Rattle.std.proofs.Common.{refl, ◌≡◌, ℕ, zero, suc, ◌-◌, ◌≤◌, All, List, get_or, nat_le, nat_lt, cond, is_some,
+    Some, None, option_map, replicate, slice_get, sym, ap, ◌∙◌, subst, ⊎_elim, arith, Option}
 use Rattle.std.proofs.lemmas.Bool.{cases_Bool, cond-true, cond-false, le-ltb}
 use Rattle.std.proofs.lemmas.Option.{none-some, same_Some, slice_get-get_or}
 use Rattle.segword.specs.Words.{Shape}
@@ -28,7 +29,9 @@ module _ (told : Option OwnSegment → Option ℕ) (tells : ReturnsZero told) wh
   zero_told b n p segment count new is =
       let first = p.plain.first in
       let got = slice_get p.plain.segments.items (segment - first) in ⊎_elim
-      (λ t. unused b.shape.segments_each (segment - first) count (ap (λ l. told (slice_get l (segment - first))) (sym new.segments) ∙ (sym (ap told (cond-true (nat_le first segment) got None t)) ∙ is)))
+      (λ t. unused b.shape.segments_each (segment - first) count
+          (ap (λ l. told (slice_get l (segment - first))) (sym new.segments)
+          ∙ (sym (ap told (cond-true (nat_le first segment) got None t)) ∙ is)))
       (λ f. absurd (none-some count (sym tells.none ∙ (sym (ap told (cond-false (nat_le first segment) got None f)) ∙ is))))
       (cases_Bool (nat_le first segment))
 

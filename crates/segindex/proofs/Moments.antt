@@ -1,5 +1,7 @@
 -- The moments of a run: which step is a call's first, and where a history or an entry came in.
-use Rattle.std.proofs.Common.{◌≡◌, ◌≢◌, ℕ, zero, suc, ◌+◌, ◌<◌, ◌≤◌, ◌⊎◌, Bool, true, false, cond, eqb, ◌%◌, List, [], ◌∷◌, ◌++◌, length, set, Option, Some, None, sym, refl, ap, ◌∙◌, subst, inl, inr, ⊎_elim, arith, length-append}
+use Rattle.std.proofs.Common.{◌≡◌, ◌≢◌, ℕ, zero, suc, ◌+◌, ◌<◌, ◌≤◌, ◌⊎◌, Bool, true, false, cond, eqb, ◌%◌, List,
+    [], ◌∷◌, ◌++◌, length, set, Option, Some, None, sym, refl, ap, ◌∙◌, subst, inl, inr, ⊎_elim, arith,
+    length-append}
 use Rattle.std.proofs.lemmas.Bool.{cases_eq}
 use mathlib.Core.Option.{some, some-injective}
 use lib.ListN.{get_elem?}
@@ -173,8 +175,11 @@ module _ (z : Shape) (world : ℕ → World) (n : ℕ) (run : IsRun z world n) w
       s : (pass : ℕ) × IsStepOf z pass (world t) (world (suc t))
       s = run.each t lt
 
-      by_looks : (later : List (List Event)) (old : View) → from ≤ t → Again p from t v start → get_elem? (world t).views p ≡ some old → later ++ (start ∷ v.looks) ≡ (world t).trace ∷ old.looks → w.trace ≡ (world (suc t)).trace → Takes from (suc t) w start
-      by_looks [] old low again there is now = record { first = t; last = t; since = low; onward = omega arith; until = omega arith; began = same_head start (world t).trace v.looks old.looks is; ended = now }
+      by_looks : (later : List (List Event)) (old : View) → from ≤ t → Again p from t v start
+          → get_elem? (world t).views p ≡ some old → later ++ (start ∷ v.looks) ≡ (world t).trace ∷ old.looks
+          → w.trace ≡ (world (suc t)).trace → Takes from (suc t) w start
+      by_looks [] old low again there is now = record { first = t; last = t; since = low; onward = omega arith;
+          until = omega arith; began = same_head start (world t).trace v.looks old.looks is; ended = now }
       by_looks (l ∷ later) old low again there is now =
           let early = again old later there (sym (same_tail l (world t).trace (later ++ (start ∷ v.looks)) old.looks is)) in
           let until = early.until in let onward = early.onward in
@@ -184,7 +189,9 @@ module _ (z : Shape) (world : ℕ → World) (n : ℕ) (run : IsRun z world n) w
       by_step low again (inl e) =
           let old : View = s.1.old in let new : View = s.1.new in
           let there : get_elem? (world t).views p ≡ some old = subst (λ m. get_elem? (world t).views m ≡ some old) (sym e) s.1.there in
-          let here : get_elem? (world (suc t)).views p ≡ some new = ap (λ l. get_elem? l p) s.1.apart ∙ subst (λ m. get_elem? (set (world t).views s.0 new) m ≡ some new) (sym e) (set_here (world t).views s.0 new (inside_list (world t).views s.0 old s.1.there)) in
+          let here : get_elem? (world (suc t)).views p ≡ some new = ap (λ l. get_elem? l p) s.1.apart
+              ∙ subst (λ m. get_elem? (set (world t).views s.0 new) m ≡ some new) (sym e)
+              (set_here (world t).views s.0 new (inside_list (world t).views s.0 old s.1.there)) in
           let same : w ≡ new = some-injective w new (sym at' ∙ here) in let saw = sees t lt in
           by_looks later old low again there (sym looked ∙ (ap (λ (x : View). x.looks) same ∙ saw.0)) (ap (λ (x : View). x.trace) same ∙ saw.1)
       by_step low again (inr ne) =

@@ -38,7 +38,9 @@ pub listed_before : (pairs : Pairs) (k v key value : List ℕ) → listed pairs 
 listed_before [] k v key value e = absurd (none-some value e)
 listed_before (p ∷ pairs) k v key value e = ⊎_elim
     (λ t. cond-true (is_at (key_cmp key) p.0) (Some p.1) (listed (pairs ++ (k, v) ∷ []) key) t ∙ (sym (cond-true (is_at (key_cmp key) p.0) (Some p.1) (listed pairs key) t) ∙ e))
-    (λ f. cond-false (is_at (key_cmp key) p.0) (Some p.1) (listed (pairs ++ (k, v) ∷ []) key) f ∙ listed_before pairs k v key value (sym (cond-false (is_at (key_cmp key) p.0) (Some p.1) (listed pairs key) f) ∙ e))
+    (λ f. cond-false (is_at (key_cmp key) p.0) (Some p.1) (listed (pairs ++ (k, v) ∷ []) key) f
+        ∙ listed_before pairs k v key value (sym (cond-false (is_at (key_cmp key) p.0) (Some p.1) (listed pairs key)
+        f) ∙ e))
     (cases_Bool (is_at (key_cmp key) p.0))
 
 pub listed_last : (pairs : Pairs) (k v : List ℕ) → listed pairs k ≡ None → listed (pairs ++ (k, v) ∷ []) k ≡ Some v
@@ -77,20 +79,26 @@ not_above a b Greater is low apart = absurd (false≢true (sym low ∙ ap is_lt 
 pub ordered : (pairs sorted : Pairs) → AreDistinct pairs → IsPermutation pairs sorted → IsSortedBy (λ p q. is_lt (key_cmp p.0 q.0)) sorted → AreDistinct sorted × IsOrdered sorted
 ordered pairs sorted distinct moves up =
     let first : List ℕ × List ℕ → List ℕ = λ p. p.0 in
-    let apart : AreDistinct sorted = IsDistinct-IsPermutation (eq_by_cmp key_cmp) (eq_by_cmp_equiv nat_list_cmp_total).symm (keys_of pairs) (keys_of sorted) (IsPermutation-map first pairs sorted moves) distinct in
+    let apart : AreDistinct sorted = IsDistinct-IsPermutation (eq_by_cmp key_cmp)
+        (eq_by_cmp_equiv nat_list_cmp_total).symm (keys_of pairs) (keys_of sorted)
+        (IsPermutation-map first pairs sorted moves) distinct in
     let nil : List ℕ = [] in let none : List ℕ × List ℕ = (nil, nil) in
     let long = length-map sorted first in
     let at : (n : ℕ) → n < length sorted → get_or (keys_of sorted) n nil ≡ (get_or sorted n none).0 = λ n lt. get_or-map first sorted n none nil lt in (
       apart,
       sorted_from_all_adjacent nat_list_cmp_total (keys_of sorted) nil (λ n lt.
           let a = get_or (keys_of sorted) n nil in let b = get_or (keys_of sorted) (n + 1) nil in
-          let low : is_lt (key_cmp b a) ≡ false = (λ i. is_lt (key_cmp (at (n + 1) (omega (arith, lt, long)) i) (at n (omega (arith, lt, long)) i))) ∙ up n none (omega arith) (omega (arith, lt, long)) in
+          let low : is_lt (key_cmp b a) ≡ false = (λ i. is_lt
+              (key_cmp (at (n + 1) (omega (arith, lt, long)) i) (at n (omega (arith, lt, long)) i)))
+              ∙ up n none (omega arith) (omega (arith, lt, long)) in
           not_above a b (key_cmp a b) refl low (apart_from_distinct (eq_by_cmp key_cmp) (keys_of sorted) n (n + 1) nil apart (omega arith) lt)),
     )
 
 -- and then the same value is under each key
 pub listed_sorted : (pairs sorted : Pairs) (key value : List ℕ) → AreDistinct sorted → IsPermutation pairs sorted → listed pairs key ≡ Some value → listed sorted key ≡ Some value
-listed_sorted pairs sorted key value distinct moves is = lookup-from_Contains (eq_by_cmp_equiv nat_list_cmp_total) key value sorted distinct (Contains-permutation pairs sorted (key, value) moves (Contains-from_lookup same_key key value pairs is))
+listed_sorted pairs sorted key value distinct moves is =
+    lookup-from_Contains (eq_by_cmp_equiv nat_list_cmp_total) key value sorted distinct
+    (Contains-permutation pairs sorted (key, value) moves (Contains-from_lookup same_key key value pairs is))
 
 pub listed_unsorted : (pairs sorted : Pairs) (key value : List ℕ) → AreDistinct pairs → IsPermutation pairs sorted → listed sorted key ≡ Some value → listed pairs key ≡ Some value
 listed_unsorted pairs sorted key value distinct moves is = listed_sorted sorted pairs key value distinct (IsPermutation-sym pairs sorted moves) is
@@ -104,7 +112,10 @@ module _ (x y : List ℕ × List ℕ) (xs ys : Pairs) (s : IsOrdered (x ∷ xs))
   head_by : (r : Ordering) → key_cmp x.0 y.0 ≡ r → x.0 ≡ y.0
   head_by Less is = absurd (none-some x.1 (sym (lookup-none (is_at (key_cmp x.0)) (y ∷ ys) (none_below_head nat_list_cmp_total x.0 y ys t is)) ∙ (sym (same x.0) ∙ at_head x xs)))
   head_by Equal is = exact_bytes x.0 y.0 is
-  head_by Greater is = absurd (none-some y.1 (sym (lookup-none (is_at (key_cmp y.0)) (x ∷ xs) (none_below_head nat_list_cmp_total y.0 x xs s (nat_list_cmp_total.antisymm y.0 x.0 ∙ ap ordering_reverse is))) ∙ (same y.0 ∙ at_head y ys)))
+  head_by Greater is = absurd (none-some y.1
+      (sym (lookup-none (is_at (key_cmp y.0)) (x ∷ xs)
+      (none_below_head nat_list_cmp_total y.0 x xs s (nat_list_cmp_total.antisymm y.0 x.0
+      ∙ ap ordering_reverse is))) ∙ (same y.0 ∙ at_head y ys)))
 
   heads : x.0 ≡ y.0
   heads = head_by (key_cmp x.0 y.0) refl

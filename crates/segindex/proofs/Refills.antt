@@ -54,7 +54,10 @@ held_there false lt = absurd (omega arith)
 
 is_read : (b : Board) (s other : ℕ) (p q : Pass) → IsQuiet b p → Idles b p q → 0 < inside (trace q) other s → IsBeingRead s q
 is_read b s other p q quiet i there = ⊎_elim
-    (λ own. inr (held_there (is_held_in (holding q) s) (subst (λ n. 0 < n) (ap (λ n. inside (trace q) n s) (own ∙ i.moved.same) ∙ (moved_inside b [] p q s i.moved ∙ (quiet.inside s ∙ ap (λ m. cond (is_held_in m.holding s) 1 0) (sym i.memo)))) there)))
+    (λ own. inr (held_there (is_held_in (holding q) s)
+        (subst (λ n. 0 < n) (ap (λ n. inside (trace q) n s) (own ∙ i.moved.same)
+        ∙ (moved_inside b [] p q s i.moved ∙ (quiet.inside s
+        ∙ ap (λ m. cond (is_held_in m.holding s) 1 0) (sym i.memo)))) there)))
     (λ ne. inl (other, ne, there))
     (cases_eq other (number q))
 
@@ -113,7 +116,10 @@ abbrev is_evicted : SegState → Bool
 is_evicted Evicted = true
 is_evicted state = false
 
-pub refill_held : (b : Board) (s d : ℕ) (c : Option ℕ) (r : RefillAnswer) (p q : Pass) → IsQuiet b p → IsOutcomeWith b s d c r p q → (r ≡ refill.NotYours → state_of p s ≡ None) → (r ≡ refill.NotEvicted → state_of p s ≡ Some InUse) → state_of p s ≡ Some Evicted → is_held_in (holding p) s ≡ true → r ≡ refill.Held
+pub refill_held : (b : Board) (s d : ℕ) (c : Option ℕ) (r : RefillAnswer) (p q : Pass) → IsQuiet b p
+    → IsOutcomeWith b s d c r p q → (r ≡ refill.NotYours → state_of p s ≡ None)
+    → (r ≡ refill.NotEvicted → state_of p s ≡ Some InUse) → state_of p s ≡ Some Evicted
+    → is_held_in (holding p) s ≡ true → r ≡ refill.Held
 refill_held b s d c refill.Refilled p q quiet is yours used evicted held =
     absurd (stays_unfilled b s d p q is.moved (subst (λ n. 0 < n) (sym (quiet.inside s ∙ ap (λ t. cond t 1 0) held)) (omega arith)))
 refill_held b s d c refill.NotYours p q quiet is yours used evicted held = absurd (none-some Evicted (sym (yours refl) ∙ evicted))

@@ -39,18 +39,23 @@ same_start p q one other s t =
 pub grew_seen : (p q : Pass) (start : List Event) → StartsAt p q start → Begins (seen p) (event.seen start)
 grew_seen p q start s = seen_begins (trace p) start (start_grew p q start s)
 
-pub reads_since : (z : Shape) (key : List ℕ) (now : ℕ) (p q : Pass) (read : Option (List ℕ)) → SinceFirst p q (λ start. ReadsBetween z key now (event.seen start) (seen q) read) → ReadsBetween z key now (seen p) (seen q) read
+pub reads_since : (z : Shape) (key : List ℕ) (now : ℕ) (p q : Pass) (read : Option (List ℕ))
+    → SinceFirst p q (λ start. ReadsBetween z key now (event.seen start) (seen q) read)
+    → ReadsBetween z key now (seen p) (seen q) read
 reads_since z key now p q read s = let is = s.2 in (is.0, (begins_on (seen p) (event.seen s.0) is.0 (grew_seen p q s.0 s.1) is.1.0, is.1.1), is.2)
 
 pub stirred_since : (z : Shape) (key : List ℕ) (p q : Pass) → SinceFirst p q (λ start. 64 ≤ stirred z key (event.seen start) (seen q)) → 64 ≤ stirred z key (seen p) (seen q)
 stirred_since z key p q s = let more = s.2 in let few = entries_begin z (bucket_of z key) (trace p) s.0 (start_grew p q s.0 s.1) in omega (arith, more, few)
 
-pub get_since : (z : Shape) (key : List ℕ) (now : ℕ) (told : GetAnswer) (p q : Pass) → SinceFirst p q (λ start. IsGetAnswer z key now told (event.seen start) (seen q)) → IsGetAnswer z key now told (seen p) (seen q)
+pub get_since : (z : Shape) (key : List ℕ) (now : ℕ) (told : GetAnswer) (p q : Pass)
+    → SinceFirst p q (λ start. IsGetAnswer z key now told (event.seen start) (seen q))
+    → IsGetAnswer z key now told (seen p) (seen q)
 get_since z key now (get.Found value) p q s = reads_since z key now p q (Some value) s
 get_since z key now get.Miss p q s = reads_since z key now p q _ s
 get_since z key now get.Busy p q s = stirred_since z key p q s
 
-present_since : (z : Shape) (key : List ℕ) (now : ℕ) (p q : Pass) (start : List Event) → StartsAt p q start → PresentBetween z key now (event.seen start) (seen q) → PresentBetween z key now (seen p) (seen q)
+present_since : (z : Shape) (key : List ℕ) (now : ℕ) (p q : Pass) (start : List Event) → StartsAt p q start
+    → PresentBetween z key now (event.seen start) (seen q) → PresentBetween z key now (seen p) (seen q)
 present_since z key now p q start s is = (is.0, reads_since z key now p q (Some is.0) (start, s, is.1))
 
 disturbed_since : (z : Shape) (key : List ℕ) (now : ℕ) (p q : Pass) (start : List Event) → StartsAt p q start → IsDisturbed z key now (event.seen start) p q → IsDisturbed z key now (seen p) p q
@@ -60,7 +65,9 @@ disturbed_since z key now p q start s (inr both) = inr (
   present_since z key now p q start s both.1,
 )
 
-pub gets_since : (z : Shape) (key : List ℕ) (now : ℕ) (told : GetsAnswer) (p q : Pass) → SinceFirst p q (λ start. IsGetsAnswer z key now told (event.seen start) p q) → IsGetsAnswer z key now told (seen p) p q
+pub gets_since : (z : Shape) (key : List ℕ) (now : ℕ) (told : GetsAnswer) (p q : Pass)
+    → SinceFirst p q (λ start. IsGetsAnswer z key now told (event.seen start) p q)
+    → IsGetsAnswer z key now told (seen p) p q
 gets_since z key now (gets.Found value version) p q s = let is = s.2 in (is.0, (begins_on (seen p) (event.seen s.0) is.0 (grew_seen p q s.0 s.1) is.1.0, is.1.1), is.2)
 gets_since z key now gets.Miss p q s = reads_since z key now p q _ s
 gets_since z key now gets.Busy p q (start, s, inl many) = inl (disturbed_since z key now p q start s many)

@@ -15,7 +15,9 @@ use Rattle.segindex.specs.declared.table_stats.IndexStats.{IndexStats}
 use Rattle.segindex.specs.Stats.{ReturnsStats}
 use Rattle.segindex.proofs.Meeting.{only_learns}
 
-pub tells_stats : (b : Board) (told : IndexStats) (p f q : Pass) → IsQuiet b p → Idles b p f → HasStep p f → told.overflow_buckets ≡ drawn_in (trace f) → Idles b f q → CountsRows b.shape told.used_rows told.named_rows f q → ReturnsStats b told p q
+pub tells_stats : (b : Board) (told : IndexStats) (p f q : Pass) → IsQuiet b p → Idles b p f → HasStep p f
+    → told.overflow_buckets ≡ drawn_in (trace f) → Idles b f q
+    → CountsRows b.shape told.used_rows told.named_rows f q → ReturnsStats b told p q
 tells_stats b told p f q quiet i first drawn j c =
     let k = idles_then b p f q i j in let few = drawn_few b.shape (trace f) i.moved.pass.lawful in record {
       only = only_learns b p q quiet k.moved k.plain k.memo;

@@ -52,22 +52,30 @@ none_refilled z pass s (e ∷ more) h l own none = (other, none_refilled z pass 
     other p d is =
         let lawful : IsLawful z (Refilled p s d ∷ (more ++ h)) = subst (λ x. IsLawful z (x ∷ (more ++ h))) is l in
         let same : p ≡ pass = sym lawful.1.follows.1 ∙ own in
-        let here : NoneFills s (history.mine pass (entry.Refilled p s d ∷ event.seen more)) = subst (λ x. NoneFills s (history.mine pass (event.with_entry (event.entry_of x) (event.seen more)))) is none in
+        let here : NoneFills s (history.mine pass (entry.Refilled p s d ∷ event.seen more)) =
+            subst (λ x. NoneFills s (history.mine pass (event.with_entry (event.entry_of x) (event.seen more)))) is
+            none in
         let first : NoneFills s (entry.Refilled p s d ∷ history.mine pass (event.seen more)) =
         subst (NoneFills s) (cond-true (eqb p pass) (entry.Refilled p s d ∷ history.mine pass (event.seen more)) (history.mine pass (event.seen more)) (eq-eqb p pass same)) here in
         first.0 p d refl
 
 -- what the pass added tells what it saw of its own
-own_events : (b : Board) (p q : Pass) (segment : ℕ) (added : List Entry) (on : GoesOn b p q) → mine q ≡ added ++ mine p → NoneFills segment added → owner b.shape segment ≡ number p → NoneRefills segment (steps_grew p q on.steps).0
+own_events : (b : Board) (p q : Pass) (segment : ℕ) (added : List Entry) (on : GoesOn b p q)
+    → mine q ≡ added ++ mine p → NoneFills segment added → owner b.shape segment ≡ number p
+    → NoneRefills segment (steps_grew p q on.steps).0
 own_events b p q segment added on entries none own =
     let grew = steps_grew p q on.steps in let more : List Event = grew.0 in let n = number p in
-    let now : history.mine n (event.seen (more ++ trace p)) ≡ added ++ mine p = ap (λ h. history.mine n (event.seen h)) (sym grew.1) ∙ (ap (λ m. history.mine m (event.seen (trace q))) (sym on.same) ∙ entries) in
+    let now : history.mine n (event.seen (more ++ trace p)) ≡ added ++ mine p =
+        ap (λ h. history.mine n (event.seen h)) (sym grew.1)
+        ∙ (ap (λ m. history.mine m (event.seen (trace q))) (sym on.same) ∙ entries) in
     let parts : history.mine n (event.seen (more ++ trace p)) ≡ history.mine n (event.seen more) ++ mine p =
     ap (history.mine n) (seen_append more (trace p)) ∙ filter-append (λ e. eqb (pass_of e) n) (event.seen more) (event.seen (trace p)) in
     let same : added ≡ history.mine n (event.seen more) = append_cancel_right added (history.mine n (event.seen more)) (mine p) (sym now ∙ parts) in
     none_refilled b.shape n segment more (trace p) (subst (IsLawful b.shape) grew.1 on.quiet.pass.lawful) own (subst (NoneFills segment) same none)
 
-pub unnamed_stay : (b : Board) (p q : Pass) (segment from : ℕ) (added : List Entry) → IsQuiet b p → GoesOn b p q → mine q ≡ added ++ mine p → NoneFills segment added → AreUnnamed b.shape segment from p → AreUnnamed b.shape segment from q
+pub unnamed_stay : (b : Board) (p q : Pass) (segment from : ℕ) (added : List Entry) → IsQuiet b p → GoesOn b p q
+    → mine q ≡ added ++ mine p → NoneFills segment added → AreUnnamed b.shape segment from p
+    → AreUnnamed b.shape segment from q
 unnamed_stay b p q segment from added quiet on entries none are =
     let grew = steps_grew p q on.steps in unnamed_last b segment from p q grew.0 quiet on grew.1 (own_events b p q segment added on entries none) are
 
@@ -108,14 +116,18 @@ module _ (b : Board) (p q : Pass) (segment row : ℕ) (quiet : IsQuiet b p) (on 
       let grew = steps_grew p q on.steps in
       one_more_unnamed b segment row p q grew.0 quiet on grew.1 (own_events b p q segment added on entries none) (has.1.0, same ∙ has.1.1, has.1.2) free are
 
-  one_moved : (into cutoff : ℕ) (key : List ℕ) → segment ≢ into → UsesRows into 1 p q → CarriesItem b.shape segment row cutoff into p q key → HasRow segment row p → AreUnnamed b.shape segment row p → AreUnnamed b.shape segment (row + 1) q
+  one_moved : (into cutoff : ℕ) (key : List ℕ) → segment ≢ into → UsesRows into 1 p q
+      → CarriesItem b.shape segment row cutoff into p q key → HasRow segment row p
+      → AreUnnamed b.shape segment row p → AreUnnamed b.shape segment (row + 1) q
   one_moved into cutoff key other uses carries has = one_more (entry.Moved (number p) key segment into ∷ []) carries.entries
       ((λ n d is. let no : entry.Moved (number p) key segment into ≡ entry.Refilled n segment d = is in cc), tt) has (uses.others segment other) carries.left
 
 same_used : (p q : Pass) (segment : ℕ) → q.plain ≡ p.plain → used_of q segment ≡ used_of p segment
 same_used p q segment same = ap (λ (x : PlainPart). used_in (own_segment x segment)) same
 
-pub evicted_is_unnamed : (b : Board) (p q : Pass) (segment row : ℕ) (told : EvictRowAnswer) → IsQuiet b p → EvictsItem b segment row told p q → (told ≡ evict_row.Evicted) ⊎ (told ≡ evict_row.Left) → AreUnnamed b.shape segment row p → AreUnnamed b.shape segment (row + 1) q
+pub evicted_is_unnamed : (b : Board) (p q : Pass) (segment row : ℕ) (told : EvictRowAnswer) → IsQuiet b p
+    → EvictsItem b segment row told p q → (told ≡ evict_row.Evicted) ⊎ (told ≡ evict_row.Left)
+    → AreUnnamed b.shape segment row p → AreUnnamed b.shape segment (row + 1) q
 evicted_is_unnamed b p q segment row evict_row.Evicted quiet e which are =
     let out = e.answer.0 in
     one_more b p q segment row quiet e.on (entry.Evicted (number p) out.key segment ∷ []) out.entry
@@ -143,12 +155,16 @@ evicted_is_unnamed b p q segment row evict_row.NotUsed quiet e which are = ⊎_e
     (λ is. let no : evict_row.NotUsed ≡ evict_row.Left = is in cc)
     which
 
-moved_has : (segment row : ℕ) (p : Pass) → ((kept.Moved ≡ kept.NotYours) ↔ (state_of p segment ≡ None)) → ((kept.Moved ≡ kept.NotUsed) ↔ (IsSome (state_of p segment) × ¬ (HasRow segment row p))) → HasRow segment row p
+moved_has : (segment row : ℕ) (p : Pass) → ((kept.Moved ≡ kept.NotYours) ↔ (state_of p segment ≡ None))
+    → ((kept.Moved ≡ kept.NotUsed) ↔ (IsSome (state_of p segment) × ¬ (HasRow segment row p)))
+    → HasRow segment row p
 moved_has segment row p not_yours not_used = has_row segment row p
     (λ none. let no : kept.Moved ≡ kept.NotYours = not_yours.1 none in cc)
     (λ without. let no : kept.Moved ≡ kept.NotUsed = not_used.1 without in cc)
 
-pub moved_is_unnamed : (b : Board) (p q : Pass) (segment row cutoff : ℕ) → IsQuiet b p → KeepsItem b segment row cutoff kept.Moved p q ⊎ ((into : ℕ) × KeepsItemInto b segment row cutoff into kept.Moved p q)
+pub moved_is_unnamed : (b : Board) (p q : Pass) (segment row cutoff : ℕ) → IsQuiet b p
+    → KeepsItem b segment row cutoff kept.Moved p q
+    ⊎ ((into : ℕ) × KeepsItemInto b segment row cutoff into kept.Moved p q)
     → AreUnnamed b.shape segment row p → AreUnnamed b.shape segment (row + 1) q
 moved_is_unnamed b p q segment row cutoff quiet which are = ⊎_elim
     (λ k. let a = k.answer in one_moved b p q segment row quiet k.on a.0 cutoff a.3.0 a.1.other a.2 a.3.1 (moved_has segment row p k.not_yours k.not_used) are)

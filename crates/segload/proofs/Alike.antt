@@ -63,7 +63,9 @@ module _ (shape : Shape) (f : ℕ → List ℕ) (s : State) where
 
   stored_as : (asked : Request) (current : Option ℕ) → IsSameButFrequencies (stored shape asked current s) (stored shape asked current old)
   stored_as asked None = (f, refl)
-  stored_as asked (Some segment) = chained_as (bucket_of shape (key_of asked)) (lacks_word shape s asked) (placed shape (key_of asked) (value_of asked) segment s) (placed shape (key_of asked) (value_of asked) segment old)
+  stored_as asked (Some segment) = chained_as (bucket_of shape (key_of asked)) (lacks_word shape s asked)
+      (placed shape (key_of asked) (value_of asked) segment s)
+      (placed shape (key_of asked) (value_of asked) segment old)
       (placed_as (key_of asked) (value_of asked) segment)
 
   replied_as : (asked : Request) (told : Reply) → IsSameButFrequencies (after_reply shape asked told s) (after_reply shape asked told old)
@@ -95,7 +97,9 @@ module _ (shape : Shape) (f : ℕ → List ℕ) (s : State) where
       (with_filling segment segment_is.Evicted (old.filling segment).keys (old.filling segment).frequencies (taken_out segment (is_in segment) old))
   evicted_as segment = (
     new_at segment (f segment),
-    λ i. record (taken_out segment (is_in segment) s) { filling = λ n. at_place segment (record { state = segment_is.Evicted; keys = (s.filling segment).keys; frequencies = (s.filling segment).frequencies }) (f segment) n i },
+    λ i. record (taken_out segment (is_in segment) s) { filling =
+        λ n. at_place segment (record { state = segment_is.Evicted; keys = (s.filling segment).keys;
+        frequencies = (s.filling segment).frequencies }) (f segment) n i },
   )
 
   -- ---- what is served

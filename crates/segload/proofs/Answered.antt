@@ -1,5 +1,6 @@
 -- What a call of an index came to, as a command of a load.
-use Rattle.std.proofs.Common.{◌≡◌, ◌≢◌, ℕ, ◌+◌, ◌*◌, ◌<◌, ◌≤◌, Bool, true, false, is_some, List, [], ◌∷◌, Option, Some, None, ◌⊎◌, option_and_then, refl, sym, ap, ◌∙◌, subst, inl, inr, zero-mul, arith, ⊎_elim}
+use Rattle.std.proofs.Common.{◌≡◌, ◌≢◌, ℕ, ◌+◌, ◌*◌, ◌<◌, ◌≤◌, Bool, true, false, is_some, List, [], ◌∷◌, Option,
+    Some, None, ◌⊎◌, option_and_then, refl, sym, ap, ◌∙◌, subst, inl, inr, zero-mul, arith, ⊎_elim}
 use Rattle.std.specs.Prelude.{◌↔◌}
 use Rattle.std.proofs.lemmas.Bool.{false≢true, lt-ltb}
 use Rattle.std.proofs.lemmas.Option.{same_Some, none-some}
@@ -67,7 +68,9 @@ never_busy b p q bucket quiet on unlocked busy = λ one. none-some bucket (sym u
 never_stirred : (b : Board) (key : List ℕ) (p q : Pass) → IsQuiet b p → GoesOn b p q → mine q ≡ mine p → 64 ≤ stirred b.shape key (seen p) (seen q) → b.shape.passes ≢ 1
 never_stirred b key p q quiet on same many = λ one. let none = none_stirred b p q key quiet on.quiet one same in absurd (omega (arith, many, none))
 
-never_disturbed : (b : Board) (key : List ℕ) (p q : Pass) → IsQuiet b p → HoldsNothing p → GoesOn b p q → mine q ≡ mine p → IsDisturbed b.shape key load_moment (seen p) p q ⊎ PresentLocked b.shape key load_moment (seen p) p q → b.shape.passes ≢ 1
+never_disturbed : (b : Board) (key : List ℕ) (p q : Pass) → IsQuiet b p → HoldsNothing p → GoesOn b p q
+    → mine q ≡ mine p → IsDisturbed b.shape key load_moment (seen p) p q
+    ⊎ PresentLocked b.shape key load_moment (seen p) p q → b.shape.passes ≢ 1
 never_disturbed b key p q quiet free on same busy = λ one. ⊎_elim
     (λ many.
     let none = none_stirred b p q key quiet on.quiet one same in
@@ -114,7 +117,8 @@ delete_free b key delete.Deleted p q deletes free = plain_free p q deletes.answe
 delete_free b key delete.NotFound p q deletes free = plain_free p q deletes.answer.1 deletes.answer.2 free
 delete_free b key delete.Busy p q deletes free = unchanged_free p q deletes.answer.0 free
 
-pub command_free : (b : Board) (of : Kind) (version : ℕ) (load : Load) (draw : ℕ) (told : Answer) (p q : Pass) → AnswersCommand b (asked_by of version load) draw told p q → HoldsNothing p → HoldsNothing q
+pub command_free : (b : Board) (of : Kind) (version : ℕ) (load : Load) (draw : ℕ) (told : Answer) (p q : Pass)
+    → AnswersCommand b (asked_by of version load) draw told p q → HoldsNothing p → HoldsNothing q
 command_free b kind.Get version load draw (answer.Get told) p q is free = unchanged_free p q is.keeps free
 command_free b kind.Gets version load draw (answer.Gets told) p q is free = unchanged_free p q is.keeps free
 command_free b kind.Set version load draw (answer.Write told) p q is free = write_free b (request.Set load.key load.value load_moment) told p q is free
@@ -135,10 +139,14 @@ mine_between b p q moment on same between =
     (mine_begins (number p) (seen p) moment between.0)
 
 -- what was so of the cache then, was so when its entries were these
-at_moment : (b : Board) (p q : Pass) (moment : List Entry) (IsSo : Cache → Type 0) → GoesOn b p q → mine q ≡ mine p → IsBetween (seen p) (seen q) moment → IsSo (after b.shape moment) → AtMoment b.shape (seen q) (number p) (mine p) IsSo
+at_moment : (b : Board) (p q : Pass) (moment : List Entry) (IsSo : Cache → Type 0) → GoesOn b p q → mine q ≡ mine p
+    → IsBetween (seen p) (seen q) moment → IsSo (after b.shape moment)
+    → AtMoment b.shape (seen q) (number p) (mine p) IsSo
 at_moment b p q moment IsSo on same between so = (moment, between.1, mine_between b p q moment on same between, so)
 
-read_when : (b : Board) (key : List ℕ) (read : Option (List ℕ)) (p q : Pass) → GoesOn b p q → mine q ≡ mine p → ReadsBetween b.shape key load_moment (seen p) (seen q) read → ReadsWhen b.shape (seen q) (number p) (mine p) key read
+read_when : (b : Board) (key : List ℕ) (read : Option (List ℕ)) (p q : Pass) → GoesOn b p q → mine q ≡ mine p
+    → ReadsBetween b.shape key load_moment (seen p) (seen q) read
+    → ReadsWhen b.shape (seen q) (number p) (mine p) key read
 read_when b key read p q on same at = at_moment b p q at.0 (λ cache. reads cache load_moment key ≡ read) on same at.1 at.2
 
 read : (b : Board) (key : List ℕ) (told : GetAnswer) (p q : Pass) → IsQuiet b p → GoesOn b p q → mine q ≡ mine p → IsGetAnswer b.shape key load_moment told (seen p) (seen q)
@@ -147,7 +155,8 @@ read b key (get.Found value) p q quiet on same at = (value, read_when b key (Som
 read b key get.Miss p q quiet on same at = read_when b key None p q on same at
 read b key get.Busy p q quiet on same many = never_stirred b key p q quiet on same many
 
-version_read : (b : Board) (key : List ℕ) (told : GetsAnswer) (from : ClientState) (p q : Pass) → IsQuiet b p → HoldsNothing p → GoesOn b p q → mine q ≡ mine p → IsGetsAnswer b.shape key load_moment told (seen p) p q
+version_read : (b : Board) (key : List ℕ) (told : GetsAnswer) (from : ClientState) (p q : Pass) → IsQuiet b p
+    → HoldsNothing p → GoesOn b p q → mine q ≡ mine p → IsGetsAnswer b.shape key load_moment told (seen p) p q
     → IsVersionReadAs b.shape (seen q) (number p) (mine p) key (tally_of (answer.Gets told)) from (course_after (answer.Gets told) from)
 version_read b key (gets.Found value version) from p q quiet free on same at =
     (value, at_moment b p q at.0 (λ cache. reads_version b.shape cache load_moment key ≡ Some (value, version)) on same at.1 at.2, refl)
@@ -170,16 +179,23 @@ full_then b key p q on same full = at_moment b p q (entries marks) (IsFullFor b.
     between = subst (λ h. IsBetween (seen p) h (entries marks)) (entries_marked (trace q))
         (subst (λ h. IsBetween h (entries (marked q)) (entries marks)) (entries_marked (trace p)) (entries_begin (marked p) marks full.1.0, entries_begin marks (marked q) full.1.1))
 
-written : (b : Board) (asked : Request) (told : WriteAnswer) (p q : Pass) → told ≢ write.NoRoom → IsQuiet b p → HoldsNothing p → Writes b asked told p q → IsWrittenAs b.shape (seen q) (number p) asked (write_tally told) (mine p) (mine q)
+written : (b : Board) (asked : Request) (told : WriteAnswer) (p q : Pass) → told ≢ write.NoRoom → IsQuiet b p
+    → HoldsNothing p → Writes b asked told p q
+    → IsWrittenAs b.shape (seen q) (number p) asked (write_tally told) (mine p) (mine q)
 written b asked write.Stored p q room quiet free writes = (writes.answer.0, writes.answer.1)
 written b asked write.NotStored p q room quiet free writes = writes.answer.0
 written b asked write.Exists p q room quiet free writes = writes.answer.0
 written b asked write.NotFound p q room quiet free writes = writes.answer.0
 written b asked write.NoRoom p q room quiet free writes = absurd (room refl)
-written b asked write.BucketFull p q room quiet free writes = (writes.answer.0.entries, writes.answer.1, full_then b (key_of asked) p q writes.on writes.answer.0.entries (full_since b.shape (key_of asked) p q writes.answer.2))
+written b asked write.BucketFull p q room quiet free writes =
+    (writes.answer.0.entries, writes.answer.1,
+    full_then b (key_of asked) p q writes.on writes.answer.0.entries
+    (full_since b.shape (key_of asked) p q writes.answer.2))
 written b asked write.Busy p q room quiet free writes = (writes.answer.0.entries, never_busy b p q (bucket_of b.shape (key_of asked)) quiet writes.on free.0 writes.answer.1)
 
-deleted : (b : Board) (key : List ℕ) (told : DeleteAnswer) (p q : Pass) → IsQuiet b p → HoldsNothing p → Deletes b key load_moment told p q → IsWrittenAs b.shape (seen q) (number p) (request.Delete key load_moment) (delete_tally told) (mine p) (mine q)
+deleted : (b : Board) (key : List ℕ) (told : DeleteAnswer) (p q : Pass) → IsQuiet b p → HoldsNothing p
+    → Deletes b key load_moment told p q → IsWrittenAs b.shape (seen q) (number p) (request.Delete key load_moment)
+    (delete_tally told) (mine p) (mine q)
 deleted b key delete.Deleted p q quiet free deletes = deletes.answer.0
 deleted b key delete.NotFound p q quiet free deletes = deletes.answer.0
 deleted b key delete.Busy p q quiet free deletes = (deletes.answer.0.entries, never_busy b p q (bucket_of b.shape key) quiet deletes.on free.0 deletes.answer.1)
@@ -187,14 +203,28 @@ deleted b key delete.Busy p q quiet free deletes = (deletes.answer.0.entries, ne
 -- ---- a command
 
 -- it was made once, and found room if it needed any
-pub came : (b : Board) (of : Kind) (load : Load) (draw : ℕ) (told : Answer) (from : ClientState) (p q : Pass) → told ≢ answer.Write write.NoRoom → IsQuiet b p → HoldsNothing p → GoesOn b p q → AnswersCommand b (asked_by of from.version load) draw told p q
+pub came : (b : Board) (of : Kind) (load : Load) (draw : ℕ) (told : Answer) (from : ClientState) (p q : Pass)
+    → told ≢ answer.Write write.NoRoom → IsQuiet b p → HoldsNothing p → GoesOn b p q
+    → AnswersCommand b (asked_by of from.version load) draw told p q
     → CameTo b.shape (seen q) (number p) of load (tally_of told) from (course_after told from) (mine p) (mine q)
-came b kind.Get load draw (answer.Get told) from p q other quiet free on is = (read b load.key told p q quiet on is.keeps.entries (get_since b.shape load.key load_moment told p q is.answer), is.keeps.entries, refl)
-came b kind.Gets load draw (answer.Gets told) from p q other quiet free on is = (version_read b load.key told from p q quiet free on is.keeps.entries (gets_since b.shape load.key load_moment told p q is.answer), is.keeps.entries)
-came b kind.Set load draw (answer.Write told) from p q other quiet free on is = inl (written b (request.Set load.key load.value load_moment) told p q (λ e. other (ap answer.Write e)) quiet free is, refl)
-came b kind.Add load draw (answer.Write told) from p q other quiet free on is = inl (written b (request.Add load.key load.value load_moment) told p q (λ e. other (ap answer.Write e)) quiet free is, refl)
-came b kind.Replace load draw (answer.Write told) from p q other quiet free on is = inl (written b (request.Replace load.key load.value load_moment) told p q (λ e. other (ap answer.Write e)) quiet free is, refl)
-came b kind.Cas load draw (answer.Write told) from p q other quiet free on is = inl (written b (request.Cas load.key load.value from.version load_moment) told p q (λ e. other (ap answer.Write e)) quiet free is, refl)
+came b kind.Get load draw (answer.Get told) from p q other quiet free on is =
+    (read b load.key told p q quiet on is.keeps.entries (get_since b.shape load.key load_moment told p q is.answer),
+    is.keeps.entries, refl)
+came b kind.Gets load draw (answer.Gets told) from p q other quiet free on is =
+    (version_read b load.key told from p q quiet free on is.keeps.entries
+    (gets_since b.shape load.key load_moment told p q is.answer), is.keeps.entries)
+came b kind.Set load draw (answer.Write told) from p q other quiet free on is =
+    inl (written b (request.Set load.key load.value load_moment) told p q (λ e. other (ap answer.Write e)) quiet
+    free is, refl)
+came b kind.Add load draw (answer.Write told) from p q other quiet free on is =
+    inl (written b (request.Add load.key load.value load_moment) told p q (λ e. other (ap answer.Write e)) quiet
+    free is, refl)
+came b kind.Replace load draw (answer.Write told) from p q other quiet free on is =
+    inl (written b (request.Replace load.key load.value load_moment) told p q (λ e. other (ap answer.Write e)) quiet
+    free is, refl)
+came b kind.Cas load draw (answer.Write told) from p q other quiet free on is =
+    inl (written b (request.Cas load.key load.value from.version load_moment) told p q
+    (λ e. other (ap answer.Write e)) quiet free is, refl)
 came b kind.Delete load draw (answer.Delete told) from p q other quiet free on is = (deleted b load.key told p q quiet free is, refl)
 came b of load draw told from p q other quiet free on is = absurd is
 
@@ -215,7 +245,8 @@ own_segment b p ring segment quiet one own below none =
     false≢true (sym (ap is_some none) ∙ (owned b p segment quiet).1 there)
 
 -- a single pass that has no bucket locked evicts its segments to the end
-pub not_evicted : (b : Board) (ring : Cycle) (segment : ℕ) (told : EvictAnswer) (p q : Pass) → IsQuiet b p → HoldsNothing p → IsOwnRing b.shape (number p) ring → segment < ring.first + ring.count → GoesOn b p q
+pub not_evicted : (b : Board) (ring : Cycle) (segment : ℕ) (told : EvictAnswer) (p q : Pass) → IsQuiet b p
+    → HoldsNothing p → IsOwnRing b.shape (number p) ring → segment < ring.first + ring.count → GoesOn b p q
     → ((told ≡ evict.NotYours) ↔ (state_of p segment ≡ None)) → IsEvictAnswer b.shape segment told p q → ((count : ℕ) → told ≢ evict.Evicted count) → b.shape.passes ≢ 1
 not_evicted b ring segment (evict.Evicted count) p q quiet free own below on not_yours answer failed one = failed count refl
 not_evicted b ring segment evict.NotYours p q quiet free own below on not_yours answer failed one = own_segment b p ring segment quiet one own below (not_yours.0 refl)
@@ -226,7 +257,9 @@ not_evicted b ring segment (evict.Busy count) p q quiet free own below on not_yo
 
 -- and then refills them
 not_read : (b : Board) (segment : ℕ) (p : Pass) → IsQuiet b p → HoldsNothing p → IsBeingRead segment p → b.shape.passes ≢ 1
-not_read b segment p quiet free (inl other) one = let nobody = nobody_inside (number p) other.0 segment (trace p) other.1 (quiet.pass.alone one) in let there = other.2 in absurd (omega (arith, nobody, there))
+not_read b segment p quiet free (inl other) one = let nobody =
+    nobody_inside (number p) other.0 segment (trace p) other.1 (quiet.pass.alone one) in let there = other.2 in
+    absurd (omega (arith, nobody, there))
 not_read b segment p quiet free (inr held) one = false≢true (ap (λ h. is_held_in h segment) (sym free.1) ∙ held)
 
 evicted_state : (b : Board) (segment count : ℕ) (p q : Pass) → IsEvictAnswer b.shape segment (evict.Evicted count) p q → state_of q segment ≢ Some InUse
@@ -239,15 +272,22 @@ evicted_state b segment count p q (inr none) in_use = none.0 (ap (λ x. state_of
 -- a segment that was refilled has room
 room_then : (b : Board) (segment deadline : ℕ) (p q : Pass) → 1 ≤ b.shape.rows → Refills segment deadline p q → has_room b.shape q ≡ true
 room_then b segment deadline p q rows refills =
-    ap (λ now. is_below b.shape.rows (option_and_then (used_of q) now)) (ap (λ (x : PlainPart). x.current) refills.plain) ∙ (ap (is_below b.shape.rows) (refills_used segment deadline p q refills) ∙ lt-ltb 0 b.shape.rows rows)
+    ap (λ now. is_below b.shape.rows (option_and_then (used_of q) now))
+        (ap (λ (x : PlainPart). x.current) refills.plain)
+        ∙ (ap (is_below b.shape.rows) (refills_used segment deadline p q refills) ∙ lt-ltb 0 b.shape.rows rows)
 
 abbrev pub is_refilled : RefillAnswer → Bool
 is_refilled refill.Refilled = true
 is_refilled _ = false
 
 -- what giving up a segment came to, by the answer of its refilling
-pub room_made : (b : Board) (ring : Cycle) (segment count : ℕ) (told : RefillAnswer) (p q r : Pass) → IsQuiet b p → HoldsNothing q → IsOwnRing b.shape (number p) ring → segment < ring.first + ring.count → GoesOn b p q → GoesOn b q r
-    → IsEvictAnswer b.shape segment (evict.Evicted count) p q → ((told ≡ refill.NotYours) ↔ (state_of q segment ≡ None)) → ((told ≡ refill.NotEvicted) ↔ (state_of q segment ≡ Some InUse)) → IsRefillAnswer segment load_deadline told q r
+pub room_made : (b : Board) (ring : Cycle) (segment count : ℕ) (told : RefillAnswer) (p q r : Pass) → IsQuiet b p
+    → HoldsNothing q → IsOwnRing b.shape (number p) ring → segment < ring.first + ring.count → GoesOn b p q
+    → GoesOn b q r
+    → IsEvictAnswer b.shape segment (evict.Evicted count) p q
+        → ((told ≡ refill.NotYours) ↔ (state_of q segment ≡ None))
+        → ((told ≡ refill.NotEvicted) ↔ (state_of q segment ≡ Some InUse))
+        → IsRefillAnswer segment load_deadline told q r
     → GivesUpSegment b.shape segment (is_refilled told) p r
 room_made b ring segment count told p q r quiet free own below on then evicts not_yours in_use refills = by told refl refills
   where
@@ -270,7 +310,9 @@ stored_nowhere b asked p q r from to same room turned =
     inr ((mine r, subst (λ x. Empties (number x) (next_of from.segments) (mine x) (mine r)) same room.0, inr (refl, refl, room.1)), turned)
 
 -- or is made once more, and then there is room
-stored_again : (b : Board) (asked : Request) (told : WriteAnswer) (p q r s : Pass) (from to : ClientState) → q ≡ p → GoesOn b q r → HoldsNothing r → GivesUpSegment b.shape (next_of from.segments) true q r → to ≡ turned_on from → Writes b asked told r s
+stored_again : (b : Board) (asked : Request) (told : WriteAnswer) (p q r s : Pass) (from to : ClientState) → q ≡ p
+    → GoesOn b q r → HoldsNothing r → GivesUpSegment b.shape (next_of from.segments) true q r → to ≡ turned_on from
+    → Writes b asked told r s
     → IsStoredAs b.shape (seen s) (number p) asked (write_tally told) from to (mine p) (mine s)
 stored_again b asked told p q r s from to same on free made turned writes =
     subst (λ x. IsStoredAs b.shape (seen s) (number x) asked (write_tally told) from to (mine x) (mine s)) same (inr (
@@ -284,7 +326,9 @@ stored_again b asked told p q r s from to same on free made turned writes =
       turned,
     ))
 
-pub came_nowhere : (b : Board) (of : Kind) (load : Load) (draw : ℕ) (from to : ClientState) (p q r : Pass) → AnswersCommand b (asked_by of from.version load) draw (answer.Write write.NoRoom) p q → GivesUpSegment b.shape (next_of from.segments) false q r → to ≡ turned_on from
+pub came_nowhere : (b : Board) (of : Kind) (load : Load) (draw : ℕ) (from to : ClientState) (p q r : Pass)
+    → AnswersCommand b (asked_by of from.version load) draw (answer.Write write.NoRoom) p q
+    → GivesUpSegment b.shape (next_of from.segments) false q r → to ≡ turned_on from
     → CameTo b.shape (seen r) (number p) of load tally.NoRoom from to (mine p) (mine r)
 came_nowhere b kind.Set load draw from to p q r is room turned = stored_nowhere b (request.Set load.key load.value load_moment) p q r from to is.answer room turned
 came_nowhere b kind.Add load draw from to p q r is room turned = stored_nowhere b (request.Add load.key load.value load_moment) p q r from to is.answer room turned
@@ -292,12 +336,22 @@ came_nowhere b kind.Replace load draw from to p q r is room turned = stored_nowh
 came_nowhere b kind.Cas load draw from to p q r is room turned = stored_nowhere b (request.Cas load.key load.value from.version load_moment) p q r from to is.answer room turned
 came_nowhere b of load draw from to p q r is room turned = absurd is
 
-pub came_again : (b : Board) (of : Kind) (load : Load) (draw : ℕ) (told : Answer) (from to : ClientState) (p q r s : Pass) → AnswersCommand b (asked_by of from.version load) draw (answer.Write write.NoRoom) p q → GoesOn b q r → HoldsNothing r → GivesUpSegment b.shape (next_of from.segments) true q r → to ≡ turned_on from
+pub came_again : (b : Board) (of : Kind) (load : Load) (draw : ℕ) (told : Answer) (from to : ClientState)
+    (p q r s : Pass) → AnswersCommand b (asked_by of from.version load) draw (answer.Write write.NoRoom) p q
+    → GoesOn b q r → HoldsNothing r → GivesUpSegment b.shape (next_of from.segments) true q r → to ≡ turned_on from
     → AnswersCommand b (asked_by of from.version load) draw told r s → CameTo b.shape (seen s) (number p) of load (tally_of told) from to (mine p) (mine s)
-came_again b kind.Set load draw (answer.Write told) from to p q r s is on free made turned again = stored_again b (request.Set load.key load.value load_moment) told p q r s from to is.answer on free made turned again
-came_again b kind.Add load draw (answer.Write told) from to p q r s is on free made turned again = stored_again b (request.Add load.key load.value load_moment) told p q r s from to is.answer on free made turned again
-came_again b kind.Replace load draw (answer.Write told) from to p q r s is on free made turned again = stored_again b (request.Replace load.key load.value load_moment) told p q r s from to is.answer on free made turned again
-came_again b kind.Cas load draw (answer.Write told) from to p q r s is on free made turned again = stored_again b (request.Cas load.key load.value from.version load_moment) told p q r s from to is.answer on free made turned again
+came_again b kind.Set load draw (answer.Write told) from to p q r s is on free made turned again =
+    stored_again b (request.Set load.key load.value load_moment) told p q r s from to is.answer on free made turned
+    again
+came_again b kind.Add load draw (answer.Write told) from to p q r s is on free made turned again =
+    stored_again b (request.Add load.key load.value load_moment) told p q r s from to is.answer on free made turned
+    again
+came_again b kind.Replace load draw (answer.Write told) from to p q r s is on free made turned again =
+    stored_again b (request.Replace load.key load.value load_moment) told p q r s from to is.answer on free made
+    turned again
+came_again b kind.Cas load draw (answer.Write told) from to p q r s is on free made turned again =
+    stored_again b (request.Cas load.key load.value from.version load_moment) told p q r s from to is.answer on free
+    made turned again
 came_again b kind.Set load draw told from to p q r s is on free made turned again = absurd again
 came_again b kind.Add load draw told from to p q r s is on free made turned again = absurd again
 came_again b kind.Replace load draw told from to p q r s is on free made turned again = absurd again

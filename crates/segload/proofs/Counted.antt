@@ -66,41 +66,55 @@ unreplied counted_as = (told : Reply) (t : Tallies) → count_of_reply told (wit
 
 hit : unreplied tally.Hit
 unfolding unreplied
-hit told t = elim told as (λ r. count_of_reply r (with_one_more tally.Hit t) ≡ count_of_reply r t) [ reply.Stored ↦ refl | reply.NotStored ↦ refl | reply.Exists ↦ refl | reply.NotFound ↦ refl | reply.Deleted ↦ refl ]
+hit told t = elim told as (λ r. count_of_reply r (with_one_more tally.Hit t) ≡ count_of_reply r t)
+    [ reply.Stored ↦ refl | reply.NotStored ↦ refl | reply.Exists ↦ refl | reply.NotFound ↦ refl
+    | reply.Deleted ↦ refl ]
 
 miss : unreplied tally.Miss
 unfolding unreplied
-miss told t = elim told as (λ r. count_of_reply r (with_one_more tally.Miss t) ≡ count_of_reply r t) [ reply.Stored ↦ refl | reply.NotStored ↦ refl | reply.Exists ↦ refl | reply.NotFound ↦ refl | reply.Deleted ↦ refl ]
+miss told t = elim told as (λ r. count_of_reply r (with_one_more tally.Miss t) ≡ count_of_reply r t)
+    [ reply.Stored ↦ refl | reply.NotStored ↦ refl | reply.Exists ↦ refl | reply.NotFound ↦ refl
+    | reply.Deleted ↦ refl ]
 
 no_room : unreplied tally.NoRoom
 unfolding unreplied
-no_room told t = elim told as (λ r. count_of_reply r (with_one_more tally.NoRoom t) ≡ count_of_reply r t) [ reply.Stored ↦ refl | reply.NotStored ↦ refl | reply.Exists ↦ refl | reply.NotFound ↦ refl | reply.Deleted ↦ refl ]
+no_room told t = elim told as (λ r. count_of_reply r (with_one_more tally.NoRoom t) ≡ count_of_reply r t)
+    [ reply.Stored ↦ refl | reply.NotStored ↦ refl | reply.Exists ↦ refl | reply.NotFound ↦ refl
+    | reply.Deleted ↦ refl ]
 
 bucket_full : unreplied tally.BucketFull
 unfolding unreplied
-bucket_full told t = elim told as (λ r. count_of_reply r (with_one_more tally.BucketFull t) ≡ count_of_reply r t) [ reply.Stored ↦ refl | reply.NotStored ↦ refl | reply.Exists ↦ refl | reply.NotFound ↦ refl | reply.Deleted ↦ refl ]
+bucket_full told t = elim told as (λ r. count_of_reply r (with_one_more tally.BucketFull t) ≡ count_of_reply r t)
+    [ reply.Stored ↦ refl | reply.NotStored ↦ refl | reply.Exists ↦ refl | reply.NotFound ↦ refl
+    | reply.Deleted ↦ refl ]
 
 busy : unreplied tally.Busy
 unfolding unreplied
-busy told t = elim told as (λ r. count_of_reply r (with_one_more tally.Busy t) ≡ count_of_reply r t) [ reply.Stored ↦ refl | reply.NotStored ↦ refl | reply.Exists ↦ refl | reply.NotFound ↦ refl | reply.Deleted ↦ refl ]
+busy told t = elim told as (λ r. count_of_reply r (with_one_more tally.Busy t) ≡ count_of_reply r t)
+    [ reply.Stored ↦ refl | reply.NotStored ↦ refl | reply.Exists ↦ refl | reply.NotFound ↦ refl
+    | reply.Deleted ↦ refl ]
 
 untold : (counted_as : Tally) (before now : List Entry) → unreplied counted_as → now ≡ before → Counts counted_as before now
 unfolding unreplied
 untold counted_as before now same e t counts told = same told t ∙ (counts told ∙ ap (replies told) (sym e))
 
-counts_read : (shape : Shape) (history : List Entry) (pass : ℕ) (own : List Entry) (key : List ℕ) (told : Tally) (now : List Entry) → IsReadAs shape history pass own key told → now ≡ own → Counts told own now
+counts_read : (shape : Shape) (history : List Entry) (pass : ℕ) (own : List Entry) (key : List ℕ) (told : Tally)
+    (now : List Entry) → IsReadAs shape history pass own key told → now ≡ own → Counts told own now
 counts_read shape history pass own key tally.Hit now read e = untold tally.Hit own now hit e
 counts_read shape history pass own key tally.Miss now read e = untold tally.Miss own now miss e
 counts_read shape history pass own key tally.Busy now read e = untold tally.Busy own now busy e
 counts_read shape history pass own key _ now read e = absurd read
 
-counts_version : (shape : Shape) (history : List Entry) (pass : ℕ) (own : List Entry) (key : List ℕ) (told : Tally) (from to : ClientState) (now : List Entry) → IsVersionReadAs shape history pass own key told from to → now ≡ own → Counts told own now
+counts_version : (shape : Shape) (history : List Entry) (pass : ℕ) (own : List Entry) (key : List ℕ) (told : Tally)
+    (from to : ClientState) (now : List Entry) → IsVersionReadAs shape history pass own key told from to → now ≡ own
+    → Counts told own now
 counts_version shape history pass own key tally.Hit from to now read e = untold tally.Hit own now hit e
 counts_version shape history pass own key tally.Miss from to now read e = untold tally.Miss own now miss e
 counts_version shape history pass own key tally.Busy from to now read e = untold tally.Busy own now busy e
 counts_version shape history pass own key _ from to now read e = absurd read.0
 
-counts_written : (shape : Shape) (history : List Entry) (pass : ℕ) (asked : Request) (told : Tally) (before now : List Entry) → IsWrittenAs shape history pass asked told before now → Counts told before now
+counts_written : (shape : Shape) (history : List Entry) (pass : ℕ) (asked : Request) (told : Tally)
+    (before now : List Entry) → IsWrittenAs shape history pass asked told before now → Counts told before now
 unfolding reply_tally
 counts_written shape history pass asked tally.Stored before now written = replied reply.Stored pass asked (Some written.0) before now written.1
 counts_written shape history pass asked tally.NotStored before now written = replied reply.NotStored pass asked None before now written
@@ -135,7 +149,9 @@ evicted_more told pass segment (added ∷ more) own all =
 emptied : (told : Reply) (pass segment : ℕ) (before room : List Entry) → Empties pass segment before room → replies told room ≡ replies told before
 emptied told pass segment before room (evictions, all, is) = ap (replies told) is ∙ evicted_more told pass segment evictions before all
 
-counts_stored : (shape : Shape) (history : List Entry) (pass : ℕ) (asked : Request) (told : Tally) (from to : ClientState) (before now : List Entry) → IsStoredAs shape history pass asked told from to before now → Counts told before now
+counts_stored : (shape : Shape) (history : List Entry) (pass : ℕ) (asked : Request) (told : Tally)
+    (from to : ClientState) (before now : List Entry) → IsStoredAs shape history pass asked told from to before now
+    → Counts told before now
 counts_stored shape history pass asked told from to before now (inl (written, kept)) = counts_written shape history pass asked told before now written
 counts_stored shape history pass asked told from to before now (inr ((room, out, inl written), turned)) = λ t counts.
     counts_written shape history pass asked told (Refilled pass (next_of from.segments) load_deadline ∷ room) now written t
@@ -143,7 +159,9 @@ counts_stored shape history pass asked told from to before now (inr ((room, out,
 counts_stored shape history pass asked told from to before now (inr ((room, out, inr (none, same, others)), turned)) = λ t counts.
     subst (λ x. Counts x room now) (sym none) (untold tally.NoRoom room now no_room same) t (λ said. counts said ∙ sym (emptied said pass (next_of from.segments) before room out))
 
-counts_one : (shape : Shape) (history : List Entry) (pass : ℕ) (of : Kind) (load : Load) (told : Tally) (from to : ClientState) (before now : List Entry) → CameTo shape history pass of load told from to before now → Counts told before now
+counts_one : (shape : Shape) (history : List Entry) (pass : ℕ) (of : Kind) (load : Load) (told : Tally)
+    (from to : ClientState) (before now : List Entry) → CameTo shape history pass of load told from to before now
+    → Counts told before now
 counts_one shape history pass kind.Get load told from to before now came = counts_read shape history pass before load.key told now came.0 came.1
 counts_one shape history pass kind.Gets load told from to before now came = counts_version shape history pass before load.key told from to now came.0 came.1
 counts_one shape history pass kind.Set load told from to before now came = counts_stored shape history pass (request.Set load.key load.value load_moment) told from to before now came
@@ -160,7 +178,9 @@ counts_nothing reply.NotFound = refl
 counts_nothing reply.Deleted = refl
 
 -- the tallies of commands count the replies among the entries that these added
-pub counts_made : (shape : Shape) (history : List Entry) (pass : ℕ) (draws : Draws) (made : ℕ) (t : Tallies) (course : ClientState) (own : List Entry) → Makes shape history pass draws made t course own → CountsReplies t own
+pub counts_made : (shape : Shape) (history : List Entry) (pass : ℕ) (draws : Draws) (made : ℕ) (t : Tallies)
+    (course : ClientState) (own : List Entry) → Makes shape history pass draws made t course own
+    → CountsReplies t own
 counts_made shape history pass draws zero t course own makes = λ told. ap (count_of_reply told) makes.0 ∙ (counts_nothing told ∙ ap (replies told) (sym makes.2))
 counts_made shape history pass draws (suc made) t course own (told, before, from, own_before, makes, came, counts) =
     let load = next_load (draws_after draws made) in

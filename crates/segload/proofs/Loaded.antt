@@ -31,7 +31,9 @@ module _ (b : Board) (may_answer : ℕ → ℕ → Bool → Type 0) (told : ℕ 
   are_quiet workers worked n worker at = (worked n worker at).worked.quiet
 
   -- their passes are those of the index, all of them
-  pub are_all : (workers : List Worker) (totals : List PassTotals) (passes : List Pass) → length workers ≡ b.shape.passes → AllWorked workers → EndsAll b plan.commands workers totals passes → AreAllQuiet b passes
+  pub are_all : (workers : List Worker) (totals : List PassTotals) (passes : List Pass)
+      → length workers ≡ b.shape.passes → AllWorked workers → EndsAll b plan.commands workers totals passes
+      → AreAllQuiet b passes
   are_all workers totals passes long worked ends = record {
     quiet = λ n p at. (ended_at b plan.commands workers totals passes ends n p at).2.1.table.only.on.quiet;
     all = λ n below.
@@ -66,7 +68,8 @@ module _ (b : Board) (may_answer : ℕ → ℕ → Bool → Type 0) (told : ℕ 
   ran_to_end n worker false runs worked = inl (worked.worked.let_through runs, worked.worked.told_of runs)
 
   -- the first that was stopped is the lowest of those that the gate stopped
-  pub stopped_first : (workers : List Worker) (pass : ℕ) → IsValid b.shape → length workers ≡ b.shape.passes → AllWorked workers → IsFirstStopped workers pass → IsStopped b.shape plan.commands may_answer told pass
+  pub stopped_first : (workers : List Worker) (pass : ℕ) → IsValid b.shape → length workers ≡ b.shape.passes
+      → AllWorked workers → IsFirstStopped workers pass → IsStopped b.shape plan.commands may_answer told pass
   stopped_first workers pass valid long worked first =
       let made = worked first.place first.worker first.there in
       let done = made.worked in
@@ -86,7 +89,9 @@ module _ (b : Board) (may_answer : ℕ → ℕ → Bool → Type 0) (told : ℕ 
 
   module _ (workers : List Worker) (totals : Totals) (passes : List Pass) (worked : AllWorked workers) (none : NoneStopped workers)
       (ended : EndsAll b plan.commands workers totals.passes.items passes) (history : List Entry) (end : IsEndOfAll b.shape passes history) where
-    counted : (n : ℕ) (last : Pass) (of : PassTotals) → slice_get passes n ≡ Some last → slice_get totals.passes.items n ≡ Some of → CountsCommands b plan.seed (non_zero_u32_get plan.keys) plan.commands n history last of
+    counted : (n : ℕ) (last : Pass) (of : PassTotals) → slice_get passes n ≡ Some last
+        → slice_get totals.passes.items n ≡ Some of
+        → CountsCommands b plan.seed (non_zero_u32_get plan.keys) plan.commands n history last of
     counted n last of there at =
         let below = slice_get_within passes n last there in
         let all = ended.all in
@@ -105,7 +110,9 @@ module _ (b : Board) (may_answer : ℕ → ℕ → Bool → Type 0) (told : ℕ 
         let counted_calls = subst (λ t. MakesCalls (AnswersCommand b) draws (start_of b.shape n) did.first plan.commands t course q) (sym came.tallies) calls in
         let quiet = new_quiet b n did.first did.new in
         let made = subst (Makes b.shape history n draws plan.commands of.tallies course) own
-        (makes_later b.shape (seen q) history n draws plan.commands of.tallies course (mine q) (begins_on (seen q) (seen last) history look.on.seen its_end.goes_on) (calls_make b n draws did.first did.new quiet plan.commands of.tallies course q counted_calls)) in
+        (makes_later b.shape (seen q) history n draws plan.commands of.tallies course (mine q)
+            (begins_on (seen q) (seen last) history look.on.seen its_end.goes_on)
+            (calls_make b n draws did.first did.new quiet plan.commands of.tallies course q counted_calls)) in
         record {
           commands = came.commands;
           all = ap all_of came.tallies ∙ done.all;

@@ -25,23 +25,35 @@ use Rattle.segload.proofs.Answered.{HoldsNothing}
 use Rattle.segload.proofs.Served.{serves_came, serves_own}
 
 -- what holds of all commands so far holds of a longer history
-moment_later : (shape : Shape) (history later : List Entry) (pass : ℕ) (own : List Entry) (IsSo : Cache → Type 0) → Begins history later → AtMoment shape history pass own IsSo → AtMoment shape later pass own IsSo
+moment_later : (shape : Shape) (history later : List Entry) (pass : ℕ) (own : List Entry) (IsSo : Cache → Type 0)
+    → Begins history later → AtMoment shape history pass own IsSo → AtMoment shape later pass own IsSo
 moment_later shape history later pass own IsSo more at = (at.0, begins_on at.0 history later at.1 more, at.2, at.3)
 
-read_later : (shape : Shape) (history later : List Entry) (pass : ℕ) (own : List Entry) (key : List ℕ) (told : Tally) → Begins history later → IsReadAs shape history pass own key told → IsReadAs shape later pass own key told
+read_later : (shape : Shape) (history later : List Entry) (pass : ℕ) (own : List Entry) (key : List ℕ)
+    (told : Tally) → Begins history later → IsReadAs shape history pass own key told
+    → IsReadAs shape later pass own key told
 read_later shape history later pass own key tally.Hit more read = (read.0, moment_later shape history later pass own (λ cache. reads cache load_moment key ≡ Some read.0) more read.1)
 read_later shape history later pass own key tally.Miss more read = moment_later shape history later pass own (λ cache. reads cache load_moment key ≡ None) more read
 read_later shape history later pass own key tally.Busy more read = read
 read_later shape history later pass own key _ more read = absurd read
 
-version_later : (shape : Shape) (history later : List Entry) (pass : ℕ) (own : List Entry) (key : List ℕ) (told : Tally) (from to : ClientState) → Begins history later → IsVersionReadAs shape history pass own key told from to → IsVersionReadAs shape later pass own key told from to
-version_later shape history later pass own key tally.Hit from to more read = (read.0, moment_later shape history later pass own (λ cache. reads_version shape cache load_moment key ≡ Some (read.0, to.version)) more read.1, read.2)
+version_later : (shape : Shape) (history later : List Entry) (pass : ℕ) (own : List Entry) (key : List ℕ)
+    (told : Tally) (from to : ClientState) → Begins history later
+    → IsVersionReadAs shape history pass own key told from to
+    → IsVersionReadAs shape later pass own key told from to
+version_later shape history later pass own key tally.Hit from to more read =
+    (read.0, moment_later shape history later pass own
+    (λ cache. reads_version shape cache load_moment key ≡ Some (read.0, to.version)) more read.1, read.2)
 version_later shape history later pass own key tally.Miss from to more read = (read_later shape history later pass own key tally.Miss more read.0, read.1)
 version_later shape history later pass own key tally.Busy from to more read = read
 version_later shape history later pass own key _ from to more read = absurd read.0
 
-written_later : (shape : Shape) (history later : List Entry) (pass : ℕ) (asked : Request) (told : Tally) (before now : List Entry) → Begins history later → IsWrittenAs shape history pass asked told before now → IsWrittenAs shape later pass asked told before now
-written_later shape history later pass asked tally.BucketFull before now more written = (written.0, written.1, moment_later shape history later pass before (IsFullFor shape (key_of asked)) more written.2)
+written_later : (shape : Shape) (history later : List Entry) (pass : ℕ) (asked : Request) (told : Tally)
+    (before now : List Entry) → Begins history later → IsWrittenAs shape history pass asked told before now
+    → IsWrittenAs shape later pass asked told before now
+written_later shape history later pass asked tally.BucketFull before now more written =
+    (written.0, written.1, moment_later shape history later pass before (IsFullFor shape (key_of asked)) more
+    written.2)
 written_later shape history later pass asked tally.Stored before now more written = written
 written_later shape history later pass asked tally.NotStored before now more written = written
 written_later shape history later pass asked tally.Exists before now more written = written
@@ -50,26 +62,45 @@ written_later shape history later pass asked tally.Deleted before now more writt
 written_later shape history later pass asked tally.Busy before now more written = written
 written_later shape history later pass asked _ before now more written = absurd written
 
-stored_later : (shape : Shape) (history later : List Entry) (pass : ℕ) (asked : Request) (told : Tally) (from to : ClientState) (before now : List Entry) → Begins history later → IsStoredAs shape history pass asked told from to before now → IsStoredAs shape later pass asked told from to before now
+stored_later : (shape : Shape) (history later : List Entry) (pass : ℕ) (asked : Request) (told : Tally)
+    (from to : ClientState) (before now : List Entry) → Begins history later
+    → IsStoredAs shape history pass asked told from to before now
+    → IsStoredAs shape later pass asked told from to before now
 stored_later shape history later pass asked told from to before now more (inl (written, kept)) = inl (written_later shape history later pass asked told before now more written, kept)
 stored_later shape history later pass asked told from to before now more (inr ((room, emptied, inl written), turned)) =
     inr ((room, emptied, inl (written_later shape history later pass asked told (Refilled pass (next_of from.segments) load_deadline ∷ room) now more written)), turned)
 stored_later shape history later pass asked told from to before now more (inr ((room, emptied, inr none), turned)) = inr ((room, emptied, inr none), turned)
 
-came_later : (shape : Shape) (history later : List Entry) (pass : ℕ) (of : Kind) (load : Load) (told : Tally) (from to : ClientState) (before now : List Entry) → Begins history later → CameTo shape history pass of load told from to before now → CameTo shape later pass of load told from to before now
+came_later : (shape : Shape) (history later : List Entry) (pass : ℕ) (of : Kind) (load : Load) (told : Tally)
+    (from to : ClientState) (before now : List Entry) → Begins history later
+    → CameTo shape history pass of load told from to before now
+    → CameTo shape later pass of load told from to before now
 came_later shape history later pass kind.Get load told from to before now more came = (read_later shape history later pass before load.key told more came.0, came.1, came.2)
 came_later shape history later pass kind.Gets load told from to before now more came = (version_later shape history later pass before load.key told from to more came.0, came.1)
-came_later shape history later pass kind.Set load told from to before now more came = stored_later shape history later pass (request.Set load.key load.value load_moment) told from to before now more came
-came_later shape history later pass kind.Add load told from to before now more came = stored_later shape history later pass (request.Add load.key load.value load_moment) told from to before now more came
-came_later shape history later pass kind.Replace load told from to before now more came = stored_later shape history later pass (request.Replace load.key load.value load_moment) told from to before now more came
-came_later shape history later pass kind.Cas load told from to before now more came = stored_later shape history later pass (request.Cas load.key load.value from.version load_moment) told from to before now more came
-came_later shape history later pass kind.Delete load told from to before now more came = (written_later shape history later pass (request.Delete load.key load_moment) told before now more came.0, came.1)
+came_later shape history later pass kind.Set load told from to before now more came =
+    stored_later shape history later pass (request.Set load.key load.value load_moment) told from to before now more
+    came
+came_later shape history later pass kind.Add load told from to before now more came =
+    stored_later shape history later pass (request.Add load.key load.value load_moment) told from to before now more
+    came
+came_later shape history later pass kind.Replace load told from to before now more came =
+    stored_later shape history later pass (request.Replace load.key load.value load_moment) told from to before now
+    more came
+came_later shape history later pass kind.Cas load told from to before now more came =
+    stored_later shape history later pass (request.Cas load.key load.value from.version load_moment) told from to
+    before now more came
+came_later shape history later pass kind.Delete load told from to before now more came =
+    (written_later shape history later pass (request.Delete load.key load_moment) told before now more came.0,
+    came.1)
 
-pub makes_later : (shape : Shape) (history later : List Entry) (pass : ℕ) (draws : Draws) (made : ℕ) (t : Tallies) (course : ClientState) (own : List Entry) → Begins history later → Makes shape history pass draws made t course own → Makes shape later pass draws made t course own
+pub makes_later : (shape : Shape) (history later : List Entry) (pass : ℕ) (draws : Draws) (made : ℕ) (t : Tallies)
+    (course : ClientState) (own : List Entry) → Begins history later
+    → Makes shape history pass draws made t course own → Makes shape later pass draws made t course own
 makes_later shape history later pass draws zero t course own more makes = makes
 makes_later shape history later pass draws (suc made) t course own more (told, before, from, own_before, makes, came, counts) =
     let load = next_load (draws_after draws made) in
-    (told, before, from, own_before, makes_later shape history later pass draws made before from own_before more makes, came_later shape history later pass load.kind load told from course own_before own more came, counts)
+    (told, before, from, own_before, makes_later shape history later pass draws made before from own_before more
+        makes, came_later shape history later pass load.kind load told from course own_before own more came, counts)
 
 all_counted : (told : Tally) (t : Tallies) → all_of (with_one_more told t) ≡ all_of t + 1
 all_counted tally.Hit t = omega arith
@@ -124,13 +155,17 @@ module _ (b : Board) (n : ℕ) (draws : Draws) (first : Pass) (new : IsNewPass b
         own = serves_own b n load told from course last q some served was.own;
       }
 
-  pub calls_make : (made : ℕ) (t : Tallies) (course : ClientState) (q : Pass) → MakesCalls (AnswersCommand b) draws (start_of b.shape n) first made t course q → Makes b.shape (seen q) n draws made t course (mine q)
+  pub calls_make : (made : ℕ) (t : Tallies) (course : ClientState) (q : Pass)
+      → MakesCalls (AnswersCommand b) draws (start_of b.shape n) first made t course q
+      → Makes b.shape (seen q) n draws made t course (mine q)
   calls_make made t course q calls = (came_so_far made t course q calls).makes
 
 -- a pass at its load that makes the next command of its workload, and counts what it came to
 pub works_on : (b : Board) (draws : Draws) (first : Pass) (made : ℕ) (told : Tally) (worker later : Worker) → IsAtWork b draws first made worker → GoesOn b worker.client.pass later.client.pass
     → ServesLoad (AnswersCommand b) (next_load worker.workload) told (course_of worker.client) (course_of later.client) worker.client.pass later.client.pass
-    → later.workload ≡ after_load worker.workload → later.tallies ≡ with_one_more told worker.tallies → HasCounted later.client → RecyclesFew worker.client.recycled later.client.recycled → IsAtWork b draws first (made + 1) later
+    → later.workload ≡ after_load worker.workload → later.tallies ≡ with_one_more told worker.tallies
+        → HasCounted later.client → RecyclesFew worker.client.recycled later.client.recycled
+        → IsAtWork b draws first (made + 1) later
 works_on b draws first made told worker later was on serves after counts recycled few = record {
   quiet = on.quiet;
   workload = subst (λ n. later.workload ≡ draws_after draws n) one (after ∙ ap after_load was.workload);

@@ -44,7 +44,9 @@ is_made kind.Delete version load = tt
 module _ (any_draw : AnyDrawIsServed) (b : Board) where
   -- ---- one call
 
-  one_call : (asked : Command) (draw : ℕ) (given : Answer) (p q : Pass) (s : State) → IsMadeByLoads asked → IsAlone b p → IsSameButFrequencies s (state_at b.shape p) → AnswersCommand b asked draw given p q → Modelled b (Serves b.shape s asked given) q
+  one_call : (asked : Command) (draw : ℕ) (given : Answer) (p q : Pass) (s : State) → IsMadeByLoads asked
+      → IsAlone b p → IsSameButFrequencies s (state_at b.shape p) → AnswersCommand b asked draw given p q
+      → Modelled b (Serves b.shape s asked given) q
   one_call asked draw given p q s by_load was same calls =
       let served = any_draw b p q asked draw given was calls in
       let alike = serves_alike b.shape same.0 s asked given served.1 by_load (subst (λ (o : State). Serves b.shape o asked given served.1) same.1 served.2) in record {
@@ -56,7 +58,8 @@ module _ (any_draw : AnyDrawIsServed) (b : Board) where
 
   -- ---- making room
 
-  made : (segment : ℕ) (p q : Pass) (s : State) → IsAlone b p → IsSameButFrequencies s (state_at b.shape p) → MakesRoom (AnswersCommand b) segment p q → Modelled b (MakesRoom (ServedByModel b.shape) segment s) q
+  made : (segment : ℕ) (p q : Pass) (s : State) → IsAlone b p → IsSameButFrequencies s (state_at b.shape p)
+      → MakesRoom (AnswersCommand b) segment p q → Modelled b (MakesRoom (ServedByModel b.shape) segment s) q
   made segment p q s was same room =
       let out = one_call (command.Evict segment) 0 (answer.Evict (evict.Evicted room.count)) p room.emptied s tt was same room.evicts in
       let filled = one_call (command.Refill segment load_deadline) 0 (answer.Refill refill.Refilled) room.emptied q out.state tt out.alone out.same room.refills in record {
@@ -66,7 +69,9 @@ module _ (any_draw : AnyDrawIsServed) (b : Board) where
         same = filled.same;
       }
 
-  not_made : (segment : ℕ) (p q : Pass) (s : State) → IsAlone b p → IsSameButFrequencies s (state_at b.shape p) → TriesForRoom (AnswersCommand b) segment false p q → Modelled b (TriesForRoom (ServedByModel b.shape) segment false s) q
+  not_made : (segment : ℕ) (p q : Pass) (s : State) → IsAlone b p → IsSameButFrequencies s (state_at b.shape p)
+      → TriesForRoom (AnswersCommand b) segment false p q
+      → Modelled b (TriesForRoom (ServedByModel b.shape) segment false s) q
   not_made segment p q s was same (inl not) =
       let out = one_call (command.Evict segment) 0 (answer.Evict not.told) p q s tt was same not.evicts in record {
         alone = out.alone;
@@ -89,7 +94,9 @@ module _ (any_draw : AnyDrawIsServed) (b : Board) where
     abbrev ByModel : State → Type 0
     ByModel state = ServesLoad (ServedByModel b.shape) load told from to s state
 
-    asked_once : (given : Answer) (here there : Pass) (at : State) → IsAlone b here → IsSameButFrequencies at (state_at b.shape here) → AnswersCommand b (command_of from.version load) load.draw given here there
+    asked_once : (given : Answer) (here there : Pass) (at : State) → IsAlone b here
+        → IsSameButFrequencies at (state_at b.shape here)
+        → AnswersCommand b (command_of from.version load) load.draw given here there
         → Modelled b (Serves b.shape at (command_of from.version load) given) there
     asked_once given here there at alone alike calls = one_call (command_of from.version load) load.draw given here there at (is_made load.kind from.version load) alone alike calls
 
@@ -139,7 +146,9 @@ module _ (any_draw : AnyDrawIsServed) (b : Board) where
 
   -- ---- all commands
 
-  all_loads : (draws : Draws) (begin : ClientState) (first : Pass) (start : State) → IsAlone b first → IsSameButFrequencies start (state_at b.shape first) → (count : ℕ) (t : Tallies) (course : ClientState) (q : Pass)
+  all_loads : (draws : Draws) (begin : ClientState) (first : Pass) (start : State) → IsAlone b first
+      → IsSameButFrequencies start (state_at b.shape first)
+      → (count : ℕ) (t : Tallies) (course : ClientState) (q : Pass)
       → MakesCalls (AnswersCommand b) draws begin first count t course q → Modelled b (MakesCalls (ServedByModel b.shape) draws begin start count t course) q
   all_loads draws begin first start was same zero t course q calls = record {
     alone = subst (IsAlone b) (sym calls.2) was;
@@ -190,11 +199,14 @@ one_pass_is_modelled any_draw shape seed keys commands totals counted load one a
     starts = starts_alone b counts.first counts.new (ap (λ (z : Shape). z.passes) load.of ∙ one)
 
     run : Modelled b (MakesCalls (ServedByModel b.shape) (draws_of seed 0 keys) (start_of b.shape 0) (fresh b.shape) commands counted.tallies counts.course) counts.done
-    run = all_loads any_draw b (draws_of seed 0 keys) (start_of b.shape 0) counts.first (fresh b.shape) starts.0 ((λ segment. []), starts.1) commands counted.tallies counts.course counts.done counts.calls
+    run = all_loads any_draw b (draws_of seed 0 keys) (start_of b.shape 0) counts.first (fresh b.shape) starts.0
+        ((λ segment. []), starts.1) commands counted.tallies counts.course counts.done counts.calls
 
     -- a look at the table added nothing to what the pass had seen
     seen_all : seen counts.done ≡ load.history
-    seen_all = sym (same_seen b counts.done last run.alone counts.table.only.on.quiet counts.table.only.keeps.entries) ∙ (ap seen (sym (lone.2 load.ends.place load.ends.pass load.ends.there)) ∙ load.ends.has_seen)
+    seen_all = sym (same_seen b counts.done last run.alone counts.table.only.on.quiet
+        counts.table.only.keeps.entries) ∙ (ap seen (sym (lone.2 load.ends.place load.ends.pass load.ends.there))
+        ∙ load.ends.has_seen)
 
     stand : keys_of (after shape load.history) ≡ keys_of run.state.cache
     stand = ap (λ z. keys_of (after z load.history)) (sym load.of) ∙ (ap (λ h. keys_of (after b.shape h)) (sym seen_all) ∙ ap (λ (s : State). keys_of s.cache) run.same.1)

@@ -51,7 +51,9 @@ delete_recycles b key delete.NotFound p q r deletes = wrote (number p) (request.
 delete_recycles b key delete.Busy p q r deletes = kept (mine p) (mine q) r deletes.answer.0.entries
 
 -- a call that a command of a load names recycles nothing
-pub command_recycles : (b : Board) (of : Kind) (version : ℕ) (load : Load) (draw : ℕ) (told : Answer) (p q : Pass) (r : Recycled) → AnswersCommand b (asked_by of version load) draw told p q → CountsRecycled r (mine p) → CountsRecycled r (mine q)
+pub command_recycles : (b : Board) (of : Kind) (version : ℕ) (load : Load) (draw : ℕ) (told : Answer) (p q : Pass)
+    (r : Recycled) → AnswersCommand b (asked_by of version load) draw told p q → CountsRecycled r (mine p)
+    → CountsRecycled r (mine q)
 command_recycles b kind.Get version load draw (answer.Get told) p q r is = kept (mine p) (mine q) r is.keeps.entries
 command_recycles b kind.Gets version load draw (answer.Gets told) p q r is = kept (mine p) (mine q) r is.keeps.entries
 command_recycles b kind.Set version load draw (answer.Write told) p q r is = write_recycles b (request.Set load.key load.value load_moment) told p q r is
@@ -77,7 +79,9 @@ none_refilled pass segment (added ∷ more) own all =
     subst (λ e. count_by is_refilling (e ∷ (more ++ own)) ≡ count_by is_refilling own) (sym all.0.1)
     (count_by-cons is_refilling (Evicted pass all.0.0 segment) (more ++ own) ∙ (zero-add (count_by is_refilling (more ++ own)) ∙ none_refilled pass segment more own all.1))
 
-taken : (segment count : ℕ) (p q : Pass) (r s : Recycled) → TakesOut segment count p q → s.evictions ≡ r.evictions + count → s.refillings ≡ r.refillings → CountsRecycled r (mine p) → CountsRecycled s (mine q)
+taken : (segment count : ℕ) (p q : Pass) (r s : Recycled) → TakesOut segment count p q
+    → s.evictions ≡ r.evictions + count → s.refillings ≡ r.refillings → CountsRecycled r (mine p)
+    → CountsRecycled s (mine q)
 taken segment count p q r s out more same counts =
     let long = out.counted in
     let was = counts.evictions in
@@ -94,7 +98,9 @@ none_taken p q r s is more same counts =
     subst (λ x. CountsRecycled s (mine x)) (sym is) (record { evictions = omega (arith, more, was); refillings = same ∙ counts.refillings })
 
 -- an evict took out as many as its answer says
-pub evict_recycles : (shape : Shape) (segment : ℕ) (told : EvictAnswer) (p q : Pass) (r s : Recycled) → IsEvictAnswer shape segment told p q → s.evictions ≡ r.evictions + evicted_by told → s.refillings ≡ r.refillings → CountsRecycled r (mine p) → CountsRecycled s (mine q)
+pub evict_recycles : (shape : Shape) (segment : ℕ) (told : EvictAnswer) (p q : Pass) (r s : Recycled)
+    → IsEvictAnswer shape segment told p q → s.evictions ≡ r.evictions + evicted_by told
+    → s.refillings ≡ r.refillings → CountsRecycled r (mine p) → CountsRecycled s (mine q)
 evict_recycles shape segment (evict.Evicted count) p q r s (inl out) more same counts = taken segment count p q r s out.1 more same counts
 evict_recycles shape segment (evict.Evicted count) p q r s (inr none) more same counts = none_taken p q r s none.2 (more ∙ ap (λ n. r.evictions + n) none.1) same counts
 evict_recycles shape segment evict.NotYours p q r s is more same counts = none_taken p q r s is more same counts
@@ -108,7 +114,9 @@ none_more p q r s is same more counts =
     subst (CountsRecycled s) (sym is) (record { evictions = same ∙ counts.evictions; refillings = omega (arith, more, was) })
 
 -- a refill that is answered so is counted
-pub refill_recycles : (segment deadline : ℕ) (told : RefillAnswer) (p q : Pass) (r s : Recycled) → IsRefillAnswer segment deadline told p q → s.evictions ≡ r.evictions → s.refillings ≡ r.refillings + refilled_by told → CountsRecycled r (mine p) → CountsRecycled s (mine q)
+pub refill_recycles : (segment deadline : ℕ) (told : RefillAnswer) (p q : Pass) (r s : Recycled)
+    → IsRefillAnswer segment deadline told p q → s.evictions ≡ r.evictions
+    → s.refillings ≡ r.refillings + refilled_by told → CountsRecycled r (mine p) → CountsRecycled s (mine q)
 refill_recycles segment deadline refill.Refilled p q r s filled same more counts =
     let was = counts.refillings in
     let one = count_by-cons is_refilling (Refilled (number p) segment deadline) (mine p) in

@@ -41,7 +41,9 @@ course_kept (answer.Gets gets.Miss) course = refl
 course_kept (answer.Gets gets.Busy) course = refl
 course_kept _ course = refl
 
-pub serves_own : (b : Board) (n : ℕ) (load : Load) (told : Tally) (from to : ClientState) (p q : Pass) → 0 < b.shape.segments_each → ServesLoad (AnswersCommand b) load told from to p q → IsOwnRing b.shape n from.segments → IsOwnRing b.shape n to.segments
+pub serves_own : (b : Board) (n : ℕ) (load : Load) (told : Tally) (from to : ClientState) (p q : Pass)
+    → 0 < b.shape.segments_each → ServesLoad (AnswersCommand b) load told from to p q
+    → IsOwnRing b.shape n from.segments → IsOwnRing b.shape n to.segments
 serves_own b n load told from to p q some (inl served) own = subst (IsOwnRing b.shape n) (sym (ap (λ c. c.segments) served.course ∙ course_kept served.given from)) own
 serves_own b n load told from to p q some (inr (inl served)) own = subst (λ c. IsOwnRing b.shape n c.segments) (sym served.course) (own_turned b.shape n from.segments some own)
 serves_own b n load told from to p q some (inr (inr served)) own = subst (λ c. IsOwnRing b.shape n c.segments) (sym served.course) (own_turned b.shape n from.segments some own)
@@ -64,7 +66,9 @@ module _ (b : Board) (ring : Cycle) (p q : Pass) (quiet : IsQuiet b p) (free : H
           on = goes_then b p room.emptied q room.evicts.on room.refills.on;
           free = refill_free (next_of ring) _ refill.Refilled room.emptied q room.refills.answer emptied_free;
         },
-        room_made b ring (next_of ring) room.count refill.Refilled p room.emptied q quiet emptied_free own within room.evicts.on room.refills.on room.evicts.answer room.refills.not_yours room.refills.in_use room.refills.answer,
+        room_made b ring (next_of ring) room.count refill.Refilled p room.emptied q quiet emptied_free own within
+            room.evicts.on room.refills.on room.evicts.answer room.refills.not_yours room.refills.in_use
+            room.refills.answer,
       )
 
   not_out : IsNotEvicted (AnswersCommand b) (next_of ring) p q → Tried b ring p q × GivesUpSegment b.shape (next_of ring) false p q
@@ -90,7 +94,9 @@ module _ (b : Board) (ring : Cycle) (p q : Pass) (quiet : IsQuiet b p) (free : H
           free = refill_free (next_of ring) _ not.told not.emptied q not.refills.answer emptied_free;
         },
         subst (λ made. GivesUpSegment b.shape (next_of ring) made p q) (is_not not.told not.refused)
-            (room_made b ring (next_of ring) not.count not.told p not.emptied q quiet emptied_free own within not.evicts.on not.refills.on not.evicts.answer not.refills.not_yours not.refills.in_use not.refills.answer),
+            (room_made b ring (next_of ring) not.count not.told p not.emptied q quiet emptied_free own within
+                not.evicts.on not.refills.on not.evicts.answer not.refills.not_yours not.refills.in_use
+                not.refills.answer),
       )
 
   not_made : TriesForRoom (AnswersCommand b) (next_of ring) false p q → Tried b ring p q × GivesUpSegment b.shape (next_of ring) false p q

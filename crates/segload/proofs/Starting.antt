@@ -11,7 +11,9 @@ module _ (b : Board) (plan : Plan) where
   Wait gone workers = AllAt (λ n worker. BeginsPlan b plan (gone + n) worker) workers
 
   -- the first of those that wait may begin
-  pub first_begins : (gone : ℕ) (worker : Worker) (rest all : List Worker) → all ≡ worker ∷ rest → Wait gone all → BeginsLoad b worker.workload (number worker.client.pass) worker × (worker.workload ≡ draws_for plan (number worker.client.pass))
+  pub first_begins : (gone : ℕ) (worker : Worker) (rest all : List Worker) → all ≡ worker ∷ rest → Wait gone all
+      → BeginsLoad b worker.workload (number worker.client.pass) worker
+      × (worker.workload ≡ draws_for plan (number worker.client.pass))
   first_begins gone worker rest all is wait =
       let begins = wait 0 worker (ap (λ l. slice_get l 0) is) in (
         record {
@@ -29,7 +31,9 @@ module _ (b : Board) (plan : Plan) where
   rest_begin gone now worker rest all is one wait n w at = subst (λ m. BeginsPlan b plan m w) (omega (arith, one)) (wait (suc n) w (ap (λ l. slice_get l (suc n)) is ∙ at))
 
   -- what a thread gave back is what its promise says
-  pub worked_there : (b' : Board) (s s' : ℕ → ℕ → Bool → Type 0) (t t' : ℕ → ℕ → Type 0) (plan' : Plan) (n n' : ℕ) (w w' : Worker) → b' ≡ b → s' ≡ s → t' ≡ t → plan' ≡ plan → n' ≡ n → w' ≡ w → HasMadePlan b' s' t' plan' n' w' → HasMadePlan b s t plan n w
+  pub worked_there : (b' : Board) (s s' : ℕ → ℕ → Bool → Type 0) (t t' : ℕ → ℕ
+      → Type 0) (plan' : Plan) (n n' : ℕ) (w w' : Worker) → b' ≡ b → s' ≡ s → t' ≡ t → plan' ≡ plan → n' ≡ n
+      → w' ≡ w → HasMadePlan b' s' t' plan' n' w' → HasMadePlan b s t plan n w
   worked_there b' s s' t t' plan' n n' w w' e d k c f h worked =
       subst (HasMadePlan b s t plan n) h (subst (λ x. HasMadePlan b s t plan x w') f (subst (λ x. HasMadePlan b s t x n' w') c
       (subst (λ x. HasMadePlan b s x plan' n' w') k (subst (λ x. HasMadePlan b x t' plan' n' w') d (subst (λ x. HasMadePlan x s' t' plan' n' w') e worked)))))

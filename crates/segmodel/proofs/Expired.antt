@@ -59,7 +59,9 @@ still_absent shape cache entry now key = by entry
     by : (entry : Entry) → Follows shape cache entry → present cache now key ≡ None → (present (next shape cache entry) now key ≡ None) ⊎ StoresKey key entry
     by (Wrote pass request Stored (Some s)) follows none = put (is_at (key_cmp key) (key_of request)) refl
       where
-        put : (b : Bool) → is_at (key_cmp key) (key_of request) ≡ b → (present (next shape cache (Wrote pass request Stored (Some s))) now key ≡ None) ⊎ StoresKey key (Wrote pass request Stored (Some s))
+        put : (b : Bool) → is_at (key_cmp key) (key_of request) ≡ b
+            → (present (next shape cache (Wrote pass request Stored (Some s))) now key ≡ None)
+            ⊎ StoresKey key (Wrote pass request Stored (Some s))
         put true is = inr (sym (same_key key (key_of request) is))
         put false is = inl (ap found (standing-put shape (key_of request) (value_of request) s cache key
             ∙ ap (λ b. cond b (Some (record { value = value_of request; segment = s })) (standing cache key)) is) ∙ none)

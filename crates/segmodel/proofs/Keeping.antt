@@ -1,5 +1,7 @@
 -- A keep moves items one after the other; so each law of a keep is one of a single move.
-use Rattle.std.proofs.Common.{◌≡◌, ◌≢◌, ℕ, ◌+◌, ◌*◌, ◌≤◌, ◌<◌, ◌==◌, ◌&&◌, Bool, true, false, cond, not, List, [], ◌∷◌, length, map, Option, Some, None, is_some, refl, sym, ap, ◌∙◌, subst, count_by, nat_le, arith, drop, get_or, ◌⊎◌, inl, inr, slice_index_or, IsSomeAnd, MatchOption}
+use Rattle.std.proofs.Common.{◌≡◌, ◌≢◌, ℕ, ◌+◌, ◌*◌, ◌≤◌, ◌<◌, ◌==◌, ◌&&◌, Bool, true, false, cond, not, List, [],
+    ◌∷◌, length, map, Option, Some, None, is_some, refl, sym, ap, ◌∙◌, subst, count_by, nat_le, arith, drop, get_or,
+    ◌⊎◌, inl, inr, slice_index_or, IsSomeAnd, MatchOption}
 use Rattle.std.proofs.lemmas.Bool.{false≢true, eqb-false}
 use Rattle.std.proofs.lemmas.Option.{none-some, same_Some}
 use Rattle.std.proofs.lemmas.Map.Lookups.{exact_bytes}
@@ -257,7 +259,9 @@ module _ (shape : Shape) (from to cutoff count : ℕ) (state : State) (keys : Li
   pub ends : (is_last_of state from key (drop (row + 1) keys) && nat_le cutoff frequency) ≡ true → is_out_of_rows shape state.filling (Some to) ≡ true → whole ≡ (keep.NoRoom count, state)
   ends is out = split ∙ rw (is, out) refl
 
-  pub blocks : (is_last_of state from key (drop (row + 1) keys) && nat_le cutoff frequency) ≡ true → is_out_of_rows shape state.filling (Some to) ≡ false → is_locked shape state key ≡ true → whole ≡ (keep.Busy count, state)
+  pub blocks : (is_last_of state from key (drop (row + 1) keys) && nat_le cutoff frequency) ≡ true
+      → is_out_of_rows shape state.filling (Some to) ≡ false → is_locked shape state key ≡ true
+      → whole ≡ (keep.Busy count, state)
   blocks is room locked = split ∙ rw (is, room, locked) refl
 
   pub moves : (is_last_of state from key (drop (row + 1) keys) && nat_le cutoff frequency) ≡ true → is_out_of_rows shape state.filling (Some to) ≡ false → is_locked shape state key ≡ false
@@ -283,7 +287,9 @@ module _ (old now : Plain) (segment to cutoff count row : ℕ) (shape : now.shap
   last_is : is_last_of (state_of now) segment (get_or keys row []) (drop (row + 1) keys) ≡ last
   last_is = sym (is_last ∙ (λ i. is_last_of (state_of now) segment (get_or ((same i).keys) row []) (drop (row + 1) ((same i).keys))))
 
-  both_are : (high : Bool) → nat_le cutoff frequency ≡ high → (is_last_of (state_of now) segment (get_or keys row []) (drop (row + 1) keys) && nat_le cutoff (get_or frequencies row 0)) ≡ (last && high)
+  both_are : (high : Bool) → nat_le cutoff frequency ≡ high
+      → (is_last_of (state_of now) segment (get_or keys row []) (drop (row + 1) keys) && nat_le cutoff
+      (get_or frequencies row 0)) ≡ (last && high)
   both_are high is = λ i. last_is i && (ap (nat_le cutoff) frequency_is ∙ is) i
 
   rows_out : is_out_of_rows old.shape (state_of now).filling (Some to) ≡ is_used_up now
@@ -343,7 +349,9 @@ key_there now old segment row found key was same within at =
 pub row_stands : (now : Plain) (segment row : ℕ) (last : Bool) → last ≡ is_last_at (state_of now) segment row → last ≡ true
     → (key : List ℕ) → key ≡ get_or (filling_in now segment).keys row [] → IsSome (standing (state_of now).cache key)
 row_stands now segment row last is_last is key found =
-    let stands : (stands_in segment (standing (state_of now).cache (get_or (filling_in now segment).keys row [])) && not (is_among (drop (row + 1) (filling_in now segment).keys) (get_or (filling_in now segment).keys row []))) ≡ true =
+    let stands : (stands_in segment (standing (state_of now).cache (get_or (filling_in now segment).keys row [])) &&
+        not (is_among (drop (row + 1) (filling_in now segment).keys) (get_or (filling_in now segment).keys row [])))
+        ≡ true =
     sym is_last ∙ is in
     some (standing (state_of now).cache key) (ap (λ k. stands_in segment (standing (state_of now).cache k)) found ∙ first _ _ stands)
   where

@@ -12,7 +12,9 @@ use Rattle.segmodel.specs.Places.{bucket_of}
 use Rattle.segmodel.specs.Request.{key_of, value_of, reply_to}
 use Rattle.segmodel.specs.Cache.{Cache, key_cmp, standing, unless_expired, present, value_under, put, without, with_segment}
 use Rattle.segmodel.specs.History.{StandsIn, Follows, next, after, IsLegal, is_of, entries_of, stirred, IsSameAt, writes}
-use Rattle.segmodel.specs.Laws.{is_change_of, value_left_by, changes_segment, segment_left_by, is_before, is_refill_of, deadline_set_by, EarlierIsLegal, StandsAsLeft, ReadsAsLeft, DeadlineAsSet, CasFailsWhereWritten, StirredCountsAdded, UnstirredReadsTheSame}
+use Rattle.segmodel.specs.Laws.{is_change_of, value_left_by, changes_segment, segment_left_by, is_before,
+    is_refill_of, deadline_set_by, EarlierIsLegal, StandsAsLeft, ReadsAsLeft, DeadlineAsSet, CasFailsWhereWritten,
+    StirredCountsAdded, UnstirredReadsTheSame}
 use Rattle.segmodel.proofs.Counts.{count_by-cons}
 use Rattle.segmodel.proofs.Keys.{same_key, at_self}
 use Rattle.segmodel.proofs.Moves.{standing-moved, value-moved}
@@ -161,7 +163,9 @@ cas_fails shape old new now later key seen value version small legal begins read
     b = bucket_of shape key
 
     test : ((after shape new).version b == version) ≡ (writes shape new b % 2 ^ 32 == writes shape old b % 2 ^ 32)
-    test = (λ i. version-after shape new b small legal i == (read_version (present (after shape old) now key) seen version read ∙ version-after shape old b small (earlier_legal shape old new begins legal)) i)
+    test = (λ i. version-after shape new b small legal i ==
+        (read_version (present (after shape old) now key) seen version read
+        ∙ version-after shape old b small (earlier_legal shape old new begins legal)) i)
         ∙ same_version shape.first_version (writes shape new b) (writes shape old b)
 
     by : (here : Bool) → reply_to (Cas key value version later) here ((after shape new).version b)
@@ -196,7 +200,9 @@ none_counted shape b (entry ∷ more) none = by (is_of shape b entry) refl (coun
 pub unstirred : UnstirredReadsTheSame
 unstirred shape old new now key legal begins still =
     let counts : entries_of shape (bucket_of shape key) begins.0 ≡ 0 = sym (stirred_counts shape old begins.0 key) ∙ ap (stirred shape key old) (sym begins.1) ∙ still in
-    let same : IsSameAt shape (after shape old) (after shape (begins.0 ++ old)) key = after_others shape begins.0 old key (subst (IsLegal shape) begins.1 legal) (none_counted shape _ begins.0 counts) in
+    let same : IsSameAt shape (after shape old) (after shape (begins.0 ++ old)) key =
+        after_others shape begins.0 old key (subst (IsLegal shape) begins.1 legal)
+        (none_counted shape _ begins.0 counts) in
     let here : IsSameAt shape (after shape old) (after shape new) key = subst (λ h. IsSameAt shape (after shape old) (after shape h) key) (sym begins.1) same in (
       ap (λ o. option_map (λ (item : Cached). item.value) o) (here.finds now),
       (λ i. option_map {U = List ℕ × ℕ} (λ item. (item.value, here.version i)) (here.finds now i)),

@@ -86,5 +86,9 @@ value-moved key to cache q = ap (option_map (λ (item : Cached). item.value)) (s
 pub moves_are_unread : MovesAreUnread
 moves_are_unread shape cache pass from to now key other follows = (part (λ value. value), part (λ value. (value, cache.version (bucket_of shape other))), refl)
   where
-    part : {U : Type 0} (part : List ℕ → U) → option_map (λ (item : Cached). part item.value) (present (moved key to cache) now other) ≡ option_map (λ (item : Cached). part item.value) (present cache now other)
-    part {U} of = ap (option_map {U = U} (λ (item : Cached). of item.value)) (present-moved shape cache pass from to now key other follows) ∙ unread of to (is_at (key_cmp key) other) (present cache now other)
+    part : {U : Type 0} (part : List ℕ → U) → option_map (λ (item : Cached). part item.value)
+        (present (moved key to cache) now other) ≡ option_map (λ (item : Cached). part item.value)
+        (present cache now other)
+    part {U} of = ap (option_map {U = U} (λ (item : Cached). of item.value))
+        (present-moved shape cache pass from to now key other follows)
+        ∙ unread of to (is_at (key_cmp key) other) (present cache now other)

@@ -1,5 +1,7 @@
 -- Serving keeps what always holds of a state.
-use Rattle.std.proofs.Common.{◌≡◌, ◌≢◌, ◌⊎◌, Option, Some, None, ℕ, ◌+◌, ◌*◌, ◌<◌, ◌≤◌, ◌==◌, ◌&&◌, ◌||◌, Bool, true, false, cond, List, [], ◌∷◌, ◌++◌, length, refl, sym, ap, ◌∙◌, arith, not, nat_lt, filter, count_by, eq-eqb, inl, inr, subst}
+use Rattle.std.proofs.Common.{◌≡◌, ◌≢◌, ◌⊎◌, Option, Some, None, ℕ, ◌+◌, ◌*◌, ◌<◌, ◌≤◌, ◌==◌, ◌&&◌, ◌||◌, Bool,
+    true, false, cond, List, [], ◌∷◌, ◌++◌, length, refl, sym, ap, ◌∙◌, arith, not, nat_lt, filter, count_by,
+    eq-eqb, inl, inr, subst}
 use Rattle.std.proofs.lemmas.Bool.{cases_eq, ne_eqb, false≢true}
 use Rattle.std.proofs.lemmas.List.{length_push}
 use Rattle.std.proofs.lemmas.List.Folds.{list_any-append}
@@ -291,7 +293,9 @@ none_in_unused shape state t kept unused = count_none (is_in t) state.cache.item
 pub IsKept-refilled : (shape : Shape) (t d : ℕ) (state : State) → IsSound shape state → is_in_use (state.filling t).state ≡ false → t < shape.segments_each
     → IsSound shape (after_refill t d Refilled state)
 IsKept-refilled shape t d state kept unused mine = record {
-  items = all_also (is_stored state.filling) (is_stored (with_at state.filling t anew)) (λ e stored. stored_still state.filling t anew e (elsewhere state t unused e stored) stored) state.cache.items kept.items;
+  items = all_also (is_stored state.filling) (is_stored (with_at state.filling t anew))
+      (λ e stored. stored_still state.filling t anew e (elsewhere state t unused e stored) stored) state.cache.items
+      kept.items;
   count = λ s. count s (cases_eq t s);
   frequencies = λ s. lengths state.filling t s anew refl (kept.frequencies s);
   rows = λ s. rows s (cases_eq t s);

@@ -31,7 +31,9 @@ use Rattle.segread.proofs.Reading.{read_on}
 -- ---- the answer
 
 pub gone_reads : (z : Shape) (key : List ℕ) (now : ℕ) (h g : List Event) → WasGone (KeyGone z key) h g → ReadsBetween z key now (event.seen h) (event.seen g) None
-gone_reads z key now h g gone = (event.seen gone.0, (seen_begins h gone.0 gone.1, seen_begins gone.0 g gone.2), ap (λ o. option_map (λ (item : Cached). item.value) (unless_expired (after z (event.seen gone.0)).deadline now o)) gone.3)
+gone_reads z key now h g gone = (event.seen gone.0, (seen_begins h gone.0 gone.1, seen_begins gone.0 g gone.2),
+    ap (λ o. option_map (λ (item : Cached). item.value)
+    (unless_expired (after z (event.seen gone.0)).deadline now o)) gone.3)
 
 -- ---- hits
 
@@ -40,7 +42,9 @@ pub found_place : (z : Shape) (place : Place) (w : ℕ) (key value : List ℕ) (
 found_place z place w key value h g l found = chained_later z found.saw.at g place l found.saw.between.1 found.saw.was.chained
 
 -- a pass that raises a frequency only reads
-pub raises : (b : Board) (p q : Pass) (segment row frequency : ℕ) → AddsEvents b (Bumped (number p) segment row frequency ∷ []) p q → q.plain ≡ p.plain → (sight q).memo ≡ (sight p).memo → IsReader b p q
+pub raises : (b : Board) (p q : Pass) (segment row frequency : ℕ)
+    → AddsEvents b (Bumped (number p) segment row frequency ∷ []) p q → q.plain ≡ p.plain
+    → (sight q).memo ≡ (sight p).memo → IsReader b p q
 raises b p q segment row frequency m plain memo = record {
   reads = record {
     own = Bumped (number p) segment row frequency ∷ [];
@@ -53,7 +57,9 @@ raises b p q segment row frequency m plain memo = record {
   memo = memo;
 }
 
-pub hits : (b : Board) (p q : Pass) (segment row frequency : ℕ) (raised : Bool) → AddsAtOnce b (cond raised (Bumped (number p) segment row frequency ∷ []) []) p q → q.plain ≡ p.plain → (sight q).memo ≡ (sight p).memo → IsReader b p q
+pub hits : (b : Board) (p q : Pass) (segment row frequency : ℕ) (raised : Bool)
+    → AddsAtOnce b (cond raised (Bumped (number p) segment row frequency ∷ []) []) p q → q.plain ≡ p.plain
+    → (sight q).memo ≡ (sight p).memo → IsReader b p q
 hits b p q segment row frequency true d plain memo = raises b p q segment row frequency d.moved plain memo
 hits b p q segment row frequency false d plain memo = looks b p q (record { did = d; plain = plain; memo = memo })
 
@@ -119,7 +125,9 @@ module _ (b : Board) (key : List ℕ) (p m q : Pass) (l : LooksFirst b p m) (i :
   gets_answer now gets.Busy (inl x) = inl (disturbed_from now x)
   gets_answer now gets.Busy (inr x) = inr (ap (λ (y : PlainPart). y.locked) (sym l.look.plain) ∙ x.0, x.1)
 
-  pub reads_key : (draw now : ℕ) (told : GetAnswer) → IsQuiet b p → TakesAtMost most_steps_of_get p q → TriesFew m q → GlancesNothing m q → GetRaisesFrom b.shape key draw told m q → IsGetAnswer b.shape key now told (seen m) (seen q) → ReadsKey b key draw now told p q
+  pub reads_key : (draw now : ℕ) (told : GetAnswer) → IsQuiet b p → TakesAtMost most_steps_of_get p q → TriesFew m q
+      → GlancesNothing m q → GetRaisesFrom b.shape key draw told m q
+      → IsGetAnswer b.shape key now told (seen m) (seen q) → ReadsKey b key draw now told p q
   reads_key draw now told quiet steps few unset raised answer = let on = read_on b p q quiet whole.reads whole.plain whole.memo in record {
     on = on.0;
     keeps = on.1;
@@ -127,7 +135,8 @@ module _ (b : Board) (key : List ℕ) (p m q : Pass) (l : LooksFirst b p m) (i :
     costs = record { looks = costs_from few; steps = steps; glances_nothing = unset_from unset; raises = get_raises draw told raised };
   }
 
-  pub reads_version : (draw now : ℕ) (told : GetsAnswer) → IsQuiet b p → Strides 1 32 0 p q → TriesFew m q → GlancesFew m q → GetsRaisesFrom b.shape key draw told m q → IsGetsAnswer b.shape key now told (seen m) m q
+  pub reads_version : (draw now : ℕ) (told : GetsAnswer) → IsQuiet b p → Strides 1 32 0 p q → TriesFew m q
+      → GlancesFew m q → GetsRaisesFrom b.shape key draw told m q → IsGetsAnswer b.shape key now told (seen m) m q
       → ((value : List ℕ) (version : ℕ) → told ≡ gets.Found value version → locked_of p ≢ Some (bucket_of b.shape key)) → ReadsVersion b key draw now told p q
   reads_version draw now told quiet strode few glances raised answer unlocked = let on = read_on b p q quiet whole.reads whole.plain whole.memo in record {
     on = on.0;
@@ -138,7 +147,9 @@ module _ (b : Board) (key : List ℕ) (p m q : Pass) (l : LooksFirst b p m) (i :
   }
 
 -- an answer that isn't a hit
-pub unfound_raises : (z : Shape) (key : List ℕ) (draw : ℕ) (told : GetsAnswer) (p q : Pass) → ((value : List ℕ) (version : ℕ) → told ≢ gets.Found value version) → RaisesNothing p q → GetsRaisesFrom z key draw told p q
+pub unfound_raises : (z : Shape) (key : List ℕ) (draw : ℕ) (told : GetsAnswer) (p q : Pass)
+    → ((value : List ℕ) (version : ℕ) → told ≢ gets.Found value version) → RaisesNothing p q
+    → GetsRaisesFrom z key draw told p q
 unfound_raises z key draw (gets.Found value version) p q ne none = absurd (ne value version refl)
 unfound_raises z key draw gets.Miss p q ne none = none
 unfound_raises z key draw gets.Busy p q ne none = none

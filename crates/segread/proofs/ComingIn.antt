@@ -29,7 +29,10 @@ glances_none p q only bucket = ap (λ x. x.1 bucket) only
 
 -- ---- single calls
 
-only_scans : (b : Board) (own : List Event) (p q : Pass) → AddsEvents b own p q → traces.count raised (number p) (own ++ trace p) ≡ count raised p → ((bucket : ℕ) → traces.count (glanced bucket) (number p) (own ++ trace p) ≡ count (glanced bucket) p) → OnlyScans p q
+only_scans : (b : Board) (own : List Event) (p q : Pass) → AddsEvents b own p q
+    → traces.count raised (number p) (own ++ trace p) ≡ count raised p
+    → ((bucket : ℕ) → traces.count (glanced bucket) (number p) (own ++ trace p) ≡ count (glanced bucket) p)
+    → OnlyScans p q
 only_scans b own p q m raises looks = λ i. ((moved_count b own p q raised m ∙ raises) i, λ bucket. (moved_count b own p q (glanced bucket) m ∙ looks bucket) i)
 
 pub looked : (b : Board) (p q : Pass) → AddsEvents b [] p q → StaysOut p q
@@ -51,7 +54,9 @@ set_found b bucket true p q m = looked_once p q (looked b p q m)
 set_found b bucket false p q m = (
   moved_count b _ p q entered m,
   moved_count b _ p q raised m,
-  λ other. let now = moved_count b (Glanced (number p) bucket ∷ []) p q (glanced other) m in let one = one_more (eqb (number p) (number p) && eqb bucket other) (count (glanced other) p) in omega (arith, now, one),
+  λ other. let now = moved_count b (Glanced (number p) bucket ∷ []) p q (glanced other) m in
+      let one = one_more (eqb (number p) (number p) && eqb bucket other) (count (glanced other) p) in
+      omega (arith, now, one),
 )
 
 by_bit : (b : Board) (bucket : ℕ) (info : Info) (p q : Pass) (held : Bool) → info.held ≡ held → Glances b bucket info p q → LooksOnce p q
@@ -63,7 +68,9 @@ glance_once b bucket info p q g = by_bit b bucket info p q info.held refl g
 
 -- it keeps in mind what it holds
 pub same_view : (p q : Pass) → view q ≡ view p → StaysOut p q
-same_view p q same = (ap (λ (v : View). traces.count entered v.number v.trace) same, λ i. (traces.count raised (same i).number (same i).trace, λ bucket. traces.count (glanced bucket) (same i).number (same i).trace))
+same_view p q same = (ap (λ (v : View). traces.count entered v.number v.trace) same,
+    λ i. (traces.count raised (same i).number (same i).trace,
+    λ bucket. traces.count (glanced bucket) (same i).number (same i).trace))
 
 pub came_in : (b : Board) (segment : ℕ) (p q : Pass) → AddsEvents b (Entered (number p) segment ∷ []) p q → IsTry p q
 came_in b segment p q m = (moved_count b _ p q entered m ∙ rw (eq-eqb (number p) (number p) refl) refl, only_scans b (Entered (number p) segment ∷ []) p q m refl (λ bucket. refl))
@@ -90,7 +97,9 @@ pub tries_once : (from to some count : ℕ) (p q r : Pass) → Tries from to som
 tries_once from to some count p q r i j = record { comes_in = (let a = i.comes_in in let c = j.0 in omega arith); onward = (let a = i.onward in omega arith); only_scans = j.1 ∙ i.only_scans }
 
 pub tries_then : (from mid to some more most : ℕ) (p q r : Pass) → Tries from mid some more p q → Tries mid to more most q r → Tries from to some most p r
-tries_then from mid to some more most p q r i j = record { comes_in = (let a = i.comes_in in let c = j.comes_in in omega arith); onward = (let a = i.onward in let c = j.onward in omega arith); only_scans = j.only_scans ∙ i.only_scans }
+tries_then from mid to some more most p q r i j =
+    record { comes_in = (let a = i.comes_in in let c = j.comes_in in omega arith);
+    onward = (let a = i.onward in let c = j.onward in omega arith); only_scans = j.only_scans ∙ i.only_scans }
 
 -- more words, or more tries that may be counted
 pub at_most : (from to end some more most : ℕ) (p q : Pass) → words_below to + more ≤ words_below end + most → Tries from to some more p q → Tries from end some most p q

@@ -60,7 +60,11 @@ module _ (z : Shape) (place : Place) (w : ℕ) (key value : List ℕ) (h g : Lis
       (ap (option_map (λ (item : Cached). item.value)) (stands_absent (after z (event.seen found.saw.at)) key value (segment_part w) deadline now found.saw.was.stands then past))
 
 -- a scan found an item whose deadline had come, and the pass left its segment
-pub expired_reads : (b : Board) (key : List ℕ) (hit : Hit) (p q r : Pass) (now : ℕ) → IsScanAnswer b.shape key (scan.Found hit) (trace p) (trace q) → LeavesSegment b q r hit.item.seg → hit.deadline ≤ now
+pub expired_reads : (b : Board) (key : List ℕ) (hit : Hit) (p q r : Pass) (now : ℕ)
+    → IsScanAnswer b.shape key (scan.Found hit) (trace p) (trace q) → LeavesSegment b q r hit.item.seg
+    → hit.deadline ≤ now
     → ReadsBetween b.shape key now (seen p) (seen r) None
 expired_reads b key hit p q r now found gone past =
-    found_expired b.shape hit.place (item_word hit.item) key found.0.value (trace p) (trace q) found.0.found hit.deadline (by_word b.shape hit.item hit.deadline (trace q) found.1) (trace r) (moved_on b _ q r gone.moved) now past
+    found_expired b.shape hit.place (item_word hit.item) key found.0.value (trace p) (trace q) found.0.found
+        hit.deadline (by_word b.shape hit.item hit.deadline (trace q) found.1) (trace r)
+        (moved_on b _ q r gone.moved) now past

@@ -85,7 +85,9 @@ module _ (b : Board) (key : List ℕ) (now : ℕ) (next : Place) (tries : ℕ) (
   few_glances : tries < 64 → GlancesOnce q r → GlancesFew p r
   few_glances few one bucket = let before = t.glances bucket in let more = one bucket in omega arith
 
-  pub told_by : (draw : ℕ) (told : GetsAnswer) → tries < 64 → IsAttempt b.shape key now draw at tries (Answered told) q r → TriesFew p r × GetsRaisesFrom b.shape key draw told p r × IsGetsAnswer b.shape key now told (seen p) p r × GlancesFew p r
+  pub told_by : (draw : ℕ) (told : GetsAnswer) → tries < 64
+      → IsAttempt b.shape key now draw at tries (Answered told) q r → TriesFew p r
+      × GetsRaisesFrom b.shape key draw told p r × IsGetsAnswer b.shape key now told (seen p) p r × GlancesFew p r
   told_by draw (gets.Found value version) more x = (
     (let before = t.tried.comes_in in let then = x.2 in omega (arith, before, then)),
     raises_later b.shape key value draw p q r t.reads.reads.moved.same up t.tried.raises_nothing x.1,
@@ -106,7 +108,9 @@ module _ (b : Board) (key : List ℕ) (now : ℕ) (next : Place) (tries : ℕ) (
   )
 
 -- all tries are counted
-pub tried_all : (b : Board) (key : List ℕ) (now : ℕ) (next : Place) (tries draw : ℕ) (p q : Pass) → HasTried b key now next tries p q → 64 ≤ tries → TriesFew p q × GetsRaisesFrom b.shape key draw gets.Busy p q × IsGetsAnswer b.shape key now gets.Busy (seen p) p q × GlancesFew p q
+pub tried_all : (b : Board) (key : List ℕ) (now : ℕ) (next : Place) (tries draw : ℕ) (p q : Pass)
+    → HasTried b key now next tries p q → 64 ≤ tries → TriesFew p q × GetsRaisesFrom b.shape key draw gets.Busy p q
+    × IsGetsAnswer b.shape key now gets.Busy (seen p) p q × GlancesFew p q
 tried_all b key now next tries draw p q t all =
     let few = t.few in let most = words_few (position b.shape (trace q) next) (in_chain b.shape (trace q) next t.reads.reads.moved.pass.lawful t.place.0).1 in (
       few_attempts 1 (position b.shape (trace q) next) tries p q refl (omega (arith, few, most)) t.tried,
@@ -130,7 +134,9 @@ pub record Scanned (b : Board) (key : List ℕ) (now : ℕ) (next : Place) (trie
   pub is : Is middle
 
 module _ (b : Board) (key : List ℕ) (now home : ℕ) (next : Place) (tries : ℕ) (p q : Pass) (home_is : home ≡ bucket_of b.shape key) (place : IsPlaceOf b.shape (trace q) key next) where
-  scanned_by : (Is : Pass → Type 0) → ((q ≡ p) × (next ≡ place_of home 1) × (tries ≡ 0)) ⊎ ((first : Pass) × LooksFirst b p first × HasTried b key now next tries first q) → ((m : Pass) → LooksFirst b q m → Is m → Is q) → AfterLook b q Is → Scanned b key now next tries p q Is
+  scanned_by : (Is : Pass → Type 0) → ((q ≡ p) × (next ≡ place_of home 1) × (tries ≡ 0))
+      ⊎ ((first : Pass) × LooksFirst b p first × HasTried b key now next tries first q)
+      → ((m : Pass) → LooksFirst b q m → Is m → Is q) → AfterLook b q Is → Scanned b key now next tries p q Is
   scanned_by Is (inl none) wider x = let m = x.0 in let l = x.1 in record {
     first = m;
     look = subst (λ y. LooksFirst b y m) none.0 l;
@@ -145,12 +151,17 @@ module _ (b : Board) (key : List ℕ) (now home : ℕ) (next : Place) (tries : �
   scanned Is s wider x = scanned_by Is s.so wider x
 
 -- with more scans after the first look
-pub begun_by : (b : Board) (key : List ℕ) (now home : ℕ) (next : Place) (tries : ℕ) (p first q : Pass) → LooksFirst b p first → HasTried b key now next tries first q → HasBegun b key now home next tries p q
+pub begun_by : (b : Board) (key : List ℕ) (now home : ℕ) (next : Place) (tries : ℕ) (p first q : Pass)
+    → LooksFirst b p first → HasTried b key now next tries first q → HasBegun b key now home next tries p q
 begun_by b key now home next tries p first q l t = record { reads = reads_from b key p first l q t.reads; few = t.few; place = t.place; so = inr (first, l, t) }
 
-pub find_none : (b : Board) (key : List ℕ) (now home : ℕ) (next : Place) (tries draw : ℕ) (p q : Pass) → HasBegun b key now home next tries p q → 64 ≤ tries → AfterLook b p (λ first. FindsVersion b key draw now gets.Busy first q)
+pub find_none : (b : Board) (key : List ℕ) (now home : ℕ) (next : Place) (tries draw : ℕ) (p q : Pass)
+    → HasBegun b key now home next tries p q → 64 ≤ tries
+    → AfterLook b p (λ first. FindsVersion b key draw now gets.Busy first q)
 find_none b key now home next tries draw p q s all = found_by s.so
   where
-    found_by : ((q ≡ p) × (next ≡ place_of home 1) × (tries ≡ 0)) ⊎ ((first : Pass) × LooksFirst b p first × HasTried b key now next tries first q) → AfterLook b p (λ first. FindsVersion b key draw now gets.Busy first q)
+    found_by : ((q ≡ p) × (next ≡ place_of home 1) × (tries ≡ 0))
+        ⊎ ((first : Pass) × LooksFirst b p first × HasTried b key now next tries first q)
+        → AfterLook b p (λ first. FindsVersion b key draw now gets.Busy first q)
     found_by (inl none) = absurd (let zero = none.2 in omega (arith, zero, all))
     found_by (inr t) = let told = tried_all b key now next tries draw t.0 q t.2 all in (t.0, t.1, record { reads = t.2.reads; tries = told.0; glances = told.3; raises = told.1; answer = told.2 })

@@ -17,7 +17,9 @@ use Rattle.segread.specs.Hits.{RaisesFrom}
 use Rattle.segread.proofs.Raising.{raises_after, raises_sooner}
 
 -- with p the pass before the scan, q in the item's segment, and v after its row was read
-pub hit_readable : (b : Board) (p q : Pass) (place : Place) (item : Item) (header : ℕ) (key : List ℕ) → IsReaderIn b p q item.seg → FoundKey b.shape place item header key (trace p) (trace q) → IsReadable b q item.seg item.row
+pub hit_readable : (b : Board) (p q : Pass) (place : Place) (item : Item) (header : ℕ) (key : List ℕ)
+    → IsReaderIn b p q item.seg → FoundKey b.shape place item header key (trace p) (trace q)
+    → IsReadable b q item.seg item.row
 hit_readable b p q place item header key i f = found_readable b q place item header key (trace p) (is_inside b p q item.seg i.reads) f
 
 pub read_in : (b : Board) (p q v : Pass) (s r : ℕ) → IsReaderIn b p q s → ReadsRow b q v s r → IsReaderIn b p v s
@@ -37,23 +39,35 @@ holds_pair place item header key z h g f = let was = f.found.saw.was in record {
 pub read_and_left : (b : Board) (p q v t r : Pass) (segment row : ℕ) → IsReaderIn b p q segment → ReadsRow b q v segment row → IsReader b v t → LeavesSegment b t r segment → IsReader b p r
 read_and_left b p q v t r segment row i reads counted out = leave_then b p t r segment (then_reader b p v t segment (read_in b p q v segment row i reads) counted) out
 
-pub read_value : (b : Board) (p q v : Pass) (place : Place) (item : Item) (header : ℕ) (key value : List ℕ) → IsReaderIn b p q item.seg → FoundKey b.shape place item header key (trace p) (trace q) → ReadsRow b q v item.seg item.row
+pub read_value : (b : Board) (p q v : Pass) (place : Place) (item : Item) (header : ℕ) (key value : List ℕ)
+    → IsReaderIn b p q item.seg → FoundKey b.shape place item header key (trace p) (trace q)
+    → ReadsRow b q v item.seg item.row
     → ((k w : List ℕ) → IsKey k → IsValue w → Holds (row_after (trace v) item.seg item.row) k w → value ≡ w) → FoundItem b.shape place (item_word item) key value (trace p) (trace v)
 read_value b p q v place item header key value i f reads is = found_value b q v place item header key value (trace p) (is_inside b p q item.seg i.reads) f reads is
 
 -- what was found is so still, while the pass only looks
-pub found_on : (b : Board) (p q : Pass) (place : Place) (item : Item) (key value : List ℕ) (h : List Event) → 0 < inside (trace p) (number p) item.seg → AddsEvents b [] p q → FoundItem b.shape place (item_word item) key value h (trace p) → FoundItem b.shape place (item_word item) key value h (trace q)
+pub found_on : (b : Board) (p q : Pass) (place : Place) (item : Item) (key value : List ℕ) (h : List Event)
+    → 0 < inside (trace p) (number p) item.seg → AddsEvents b [] p q
+    → FoundItem b.shape place (item_word item) key value h (trace p)
+    → FoundItem b.shape place (item_word item) key value h (trace q)
 found_on b p q place item key value h there m f =
     let s = segment_part (item_word item) in let r = row_part (item_word item) in
     let none : NoneRefills s m.more = subst (λ s. NoneRefills s m.more) (segment_of_item item) (m.kept item.seg there) in record {
       saw = record { at = f.saw.at; between = (f.saw.between.0, begins_on f.saw.at (trace p) (trace q) f.saw.between.1 (moved_on b [] p q m)); was = f.saw.was };
       kept = (m.more ++ f.kept.0, m.goes_on ∙ (ap (λ x. m.more ++ x) f.kept.1 ∙ sym (append_assoc m.more f.kept.0 f.saw.at)), none_both s m.more f.kept.0 none f.kept.2);
-      still = ap (λ g. row_after g s r) m.goes_on ∙ (row_since b.shape m.more (trace p) s r key (subst (IsLawful b.shape) m.goes_on m.pass.lawful) none (ap (λ (x : Row). x.linked) f.still ∙ f.saw.was.linked) ∙ f.still);
+      still = ap (λ g. row_after g s r) m.goes_on
+          ∙ (row_since b.shape m.more (trace p) s r key (subst (IsLawful b.shape) m.goes_on m.pass.lawful) none
+          (ap (λ (x : Row). x.linked) f.still ∙ f.saw.was.linked) ∙ f.still);
       alone = λ one. moved_alone b [] p q m one ∙ f.alone one;
     }
 
 -- ---- what a hit raises
 
 -- with p before the call, v before the frequency was raised, t after it, and r at the end
-pub hit_raises : (b : Board) (key value : List ℕ) (draw : ℕ) (p v t r : Pass) → number v ≡ number p → Begins (trace p) (trace v) → Begins (trace t) (trace r) → RaisesNothing p v → RaisesFrom b.shape key value draw (trace p) v t → RaisesNothing t r → RaisesFrom b.shape key value draw (trace p) p r
-hit_raises b key value draw p v t r same from to before one then = raises_sooner b.shape key value draw (trace p) p t r to (raises_after b.shape key value draw (trace p) (trace p) p v t same ([], refl) before one) then
+pub hit_raises : (b : Board) (key value : List ℕ) (draw : ℕ) (p v t r : Pass) → number v ≡ number p
+    → Begins (trace p) (trace v) → Begins (trace t) (trace r) → RaisesNothing p v
+    → RaisesFrom b.shape key value draw (trace p) v t → RaisesNothing t r
+    → RaisesFrom b.shape key value draw (trace p) p r
+hit_raises b key value draw p v t r same from to before one then =
+    raises_sooner b.shape key value draw (trace p) p t r to
+    (raises_after b.shape key value draw (trace p) (trace p) p v t same ([], refl) before one) then

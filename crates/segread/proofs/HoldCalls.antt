@@ -1,5 +1,6 @@
 -- A quiet pass that takes a hold, reads it, or ends it, is quiet.
-use Rattle.std.proofs.Common.{◌≡◌, ◌≢◌, ◌↔◌, ℕ, ◌+◌, ◌-◌, ◌<◌, Bool, true, false, cond, eqb, ◌&&◌, is_some, List, [], ◌∷◌, ◌++◌, Option, Some, None, IfSome, option_map, refl, sym, ap, ◌∙◌, subst, inl, inr, append_assoc, arith}
+use Rattle.std.proofs.Common.{◌≡◌, ◌≢◌, ◌↔◌, ℕ, ◌+◌, ◌-◌, ◌<◌, Bool, true, false, cond, eqb, ◌&&◌, is_some, List,
+    [], ◌∷◌, ◌++◌, Option, Some, None, IfSome, option_map, refl, sym, ap, ◌∙◌, subst, inl, inr, append_assoc, arith}
 use Rattle.std.proofs.lemmas.Bool.{cond-true, eq-eqb, false≢true}
 use Rattle.std.proofs.lemmas.Option.{none-some, same_Some}
 use Rattle.segword.specs.Words.{Item, item_word, Shape}
@@ -51,11 +52,15 @@ use Rattle.segmodel.proofs.HistoryLemmas.{stands_present}
 if_held : (P : Held → Type 0) (o : Option Held) (held : Held) → IfSome o P → o ≡ Some held → P held
 if_held P o held some is = subst (λ x. IfSome x P) is some
 
-pub minds_hold : (b : Board) (p q : Pass) (held : Option Held) (some : Bool) → IsPassOf b p → IfSome held (HasHeld b.shape (trace p)) → q ≡ record p { plain = with_holding some p.plain } → IsPassOf b q × IsMemo b q (record (memo q) { holding = held })
+pub minds_hold : (b : Board) (p q : Pass) (held : Option Held) (some : Bool) → IsPassOf b p
+    → IfSome held (HasHeld b.shape (trace p)) → q ≡ record p { plain = with_holding some p.plain } → IsPassOf b q
+    × IsMemo b q (record (memo q) { holding = held })
 minds_hold b p q held some is has same = subst (λ x. IsPassOf b x × IsMemo b x (record (memo x) { holding = held })) (sym same)
     (still_pass b p (with_holding some p.plain) is refl, record { holding = λ x here. if_held (HasHeld b.shape (trace p)) held x has here; locked = is.minds.locked })
 
-pub sets_now : (p r q : Pass) (held : Option Held) (some : Bool) → some ≡ is_some held → r ≡ record p { plain = with_holding some p.plain } → q.plain ≡ r.plain → memo q ≡ record (memo r) { holding = held } → SetsHold held p q
+pub sets_now : (p r q : Pass) (held : Option Held) (some : Bool) → some ≡ is_some held
+    → r ≡ record p { plain = with_holding some p.plain } → q.plain ≡ r.plain
+    → memo q ≡ record (memo r) { holding = held } → SetsHold held p q
 sets_now p r q held some is set plain minds = record {
   plain = plain ∙ (ap (λ (x : Pass). x.plain) set ∙ ap (λ t. with_holding t p.plain) is);
   memo = minds ∙ ap (λ (x : Pass). record (memo x) { holding = held }) set;
@@ -73,7 +78,8 @@ hold_of b p hold quiet is = quiet.hold is.held is.holds
 pub row_now : (b : Board) (p : Pass) (hold : HeldRow) → IsQuiet b p → (is : IsHeldRow b.shape hold p) → row_after (trace p) hold.segment hold.row ≡ row_after is.held.trace hold.segment hold.row
 row_now b p hold quiet is =
     subst (λ s. row_after (trace p) s hold.row ≡ row_after is.held.trace s hold.row) (sym is.segment)
-    (row_of_hold b.shape (trace p) is.held hold.row quiet.pass.lawful (hold_of b p hold quiet is) (subst (λ s. (row_after is.held.trace s hold.row).linked ≡ Some is.held.key) is.segment is.stands.linked))
+    (row_of_hold b.shape (trace p) is.held hold.row quiet.pass.lawful (hold_of b p hold quiet is)
+        (subst (λ s. (row_after is.held.trace s hold.row).linked ≡ Some is.held.key) is.segment is.stands.linked))
 
 pub has_row : (b : Board) (p : Pass) (hold : HeldRow) → IsQuiet b p → (is : IsHeldRow b.shape hold p) → IsRowOf (trace p) hold is.held
 has_row b p hold quiet is = let same = row_now b p hold quiet is in record {
@@ -97,7 +103,9 @@ stays shape hold p q is same = record { held = is.held; holds = same ∙ is.hold
 -- ---- quiet again
 
 -- what a reader does, and then what the pass says of its hold
-module _ (b : Board) (own : List Event) (held : Option Held) (p r q : Pass) (quiet : IsQuiet b p) (m : AddsEvents b own p r) (only : OnlyReads own) (plain : r.plain ≡ p.plain) (same : memo r ≡ memo p) (is : IsPassOf b q) (view_is : view q ≡ view r) (sets : SetsHold held r q) where
+module _ (b : Board) (own : List Event) (held : Option Held) (p r q : Pass) (quiet : IsQuiet b p)
+    (m : AddsEvents b own p r) (only : OnlyReads own) (plain : r.plain ≡ p.plain) (same : memo r ≡ memo p)
+    (is : IsPassOf b q) (view_is : view q ≡ view r) (sets : SetsHold held r q) where
   pub moved_to : AddsEvents b own p q
   moved_to = then_minds b own p r q m view_is is
 
@@ -122,7 +130,9 @@ module _ (b : Board) (own : List Event) (held : Option Held) (p r q : Pass) (qui
         bit = (old.bit.0, old.bit.1 ∙ ap Some (sym moved_to.same));
         unwritten = old.unwritten;
         undrawn = old.undrawn;
-        still = none_at_both b.shape lock.bucket moved_to.more old.more (moved_none b own p q lock.bucket moved_to (has_lock b p lock quiet before).bit (reads_none b.shape lock.bucket own only)) old.still;
+        still = none_at_both b.shape lock.bucket moved_to.more old.more
+            (moved_none b own p q lock.bucket moved_to (has_lock b p lock quiet before).bit
+            (reads_none b.shape lock.bucket own only)) old.still;
       }
 
   pub goes_on_holding : ((s : ℕ) → inside (trace q) (number p) s ≡ (let n : ℕ = cond (is_held_in held s) 1 0 in n)) → ((hold : Held) → held ≡ Some hold → IsHold b.shape (trace r) hold) → GoesOn b p q
@@ -192,7 +202,8 @@ module _ (b : Board) (p r q : Pass) (place : Place) (item : Item) (key value : L
   readings : (s : ℕ) → inside (trace q) (number p) s ≡ (let n : ℕ = cond (eqb item.seg s) 1 0 in n)
   readings s = ap (λ (v : View). inside v.trace (number p) s) view_is ∙ (reads.reads.inside s ∙ ap (λ n. cond (eqb item.seg s) (n + 1) n) (in_no_segment s))
 
-  pub takes_hold : (now deadline : ℕ) → HasDeadline z item.seg deadline (trace r) → now < deadline → (start : List Event) → StartsAt p q start → Begins start at → GoesOn b p q × TakesHold z key now hold p q
+  pub takes_hold : (now deadline : ℕ) → HasDeadline z item.seg deadline (trace r) → now < deadline
+      → (start : List Event) → StartsAt p q start → Begins start at → GoesOn b p q × TakesHold z key now hold p q
   takes_hold now deadline had before start first since = (
     goes_on_holding b reads.reads.own (Some held) p r q quiet reads.reads.moved reads.reads.only reads.plain reads.memo is view_is sets readings
         (λ x here. subst (IsHold z (trace r)) (same_Some held x here) (is_hold z key value item.seg item.row at (trace r) lawful kept stands)),
@@ -215,16 +226,25 @@ module _ (b : Board) (p r q : Pass) (place : Place) (item : Item) (key value : L
   )
 
 -- no item was found; with m right after the first look
-pub holds_none : (b : Board) (key : List ℕ) (now : ℕ) (told : HoldAnswer) (p m q : Pass) → IsQuiet b p → LooksFirst b p m → IsReader b m q → TakesAtMost most_steps_of_get p q → TriesFew m q → OnlyScans m q → (ChangesNothing p q → IsHoldAnswer b.shape key now told p q) → ((told ≡ answer.AlreadyHolding) ↔ (is_holding_of p ≡ true)) → HoldsItem b key now told p q
-holds_none b key now told p m q quiet l i steps few only then already = let on = read_on b p q quiet (reads_from b key p m l q i).reads (reads_from b key p m l q i).plain (reads_from b key p m l q i).memo in record {
+pub holds_none : (b : Board) (key : List ℕ) (now : ℕ) (told : HoldAnswer) (p m q : Pass) → IsQuiet b p
+    → LooksFirst b p m → IsReader b m q → TakesAtMost most_steps_of_get p q → TriesFew m q → OnlyScans m q
+    → (ChangesNothing p q → IsHoldAnswer b.shape key now told p q)
+    → ((told ≡ answer.AlreadyHolding) ↔ (is_holding_of p ≡ true)) → HoldsItem b key now told p q
+holds_none b key now told p m q quiet l i steps few only then already = let on =
+    read_on b p q quiet (reads_from b key p m l q i).reads (reads_from b key p m l q i).plain
+    (reads_from b key p m l q i).memo in record {
   on = on.0;
   answer = then on.1;
   already = already;
-  costs = record { looks = costs_from b key p m q l i few; steps = steps; glances_nothing = unset_from b key p m q l i (glances_none m q only); raises_nothing = raises_none p q (only ∙ (out b key p m l).1) };
+  costs = record { looks = costs_from b key p m q l i few; steps = steps;
+      glances_nothing = unset_from b key p m q l i (glances_none m q only);
+      raises_nothing = raises_none p q (only ∙ (out b key p m l).1) };
 }
 
 -- what the pass may keep in mind of what it found
-pub has_found : (b : Board) (p r : Pass) (place : Place) (item : Item) (key value : List ℕ) → IsReaderIn b p r item.seg → FoundItem b.shape place (item_word item) key value (trace p) (trace r) → HasHeld b.shape (trace r) (held_at b.shape (trace r) key value item.seg)
+pub has_found : (b : Board) (p r : Pass) (place : Place) (item : Item) (key value : List ℕ)
+    → IsReaderIn b p r item.seg → FoundItem b.shape place (item_word item) key value (trace p) (trace r)
+    → HasHeld b.shape (trace r) (held_at b.shape (trace r) key value item.seg)
 has_found b p r place item key value reads found =
     let es = segment_of_item item in
     has_held b.shape key value item.seg item.row found.saw.at (trace r) reads.reads.moved.pass.lawful
@@ -257,7 +277,9 @@ left_once : (t : Bool) → (let n : ℕ = cond t (cond t 1 0 - 1) (cond t 1 0) i
 left_once true = refl
 left_once false = refl
 
-module _ (b : Board) (p r q : Pass) (hold : HeldRow) (quiet : IsQuiet b p) (of : IsHeldRow b.shape hold p) (did : AddsAtOnce b (Left (number p) hold.segment ∷ []) p r) (plain : r.plain ≡ p.plain) (same : memo r ≡ memo p) (is : IsPassOf b q) (view_is : view q ≡ view r) (sets : SetsHold None r q) where
+module _ (b : Board) (p r q : Pass) (hold : HeldRow) (quiet : IsQuiet b p) (of : IsHeldRow b.shape hold p)
+    (did : AddsAtOnce b (Left (number p) hold.segment ∷ []) p r) (plain : r.plain ≡ p.plain)
+    (same : memo r ≡ memo p) (is : IsPassOf b q) (view_is : view q ≡ view r) (sets : SetsHold None r q) where
   abbrev own : List Event
   own = Left (number p) hold.segment ∷ []
 
@@ -272,7 +294,10 @@ module _ (b : Board) (p r q : Pass) (hold : HeldRow) (quiet : IsQuiet b p) (of :
   none_refilled held here =
       let old = quiet.hold held here in
       let segment : hold.segment ≡ held.segment = of.segment ∙ ap (λ (x : Held). x.segment) (same_Some of.held held (sym of.holds ∙ here)) in
-      let none : NoneRefills held.segment did.others = subst (λ s. NoneRefills s did.others) segment (no_refill b.shape did.others (trace p) (number p) hold.segment quiet.pass.one_of did.before did.none (is_inside b p hold quiet of)) in
+      let none : NoneRefills held.segment did.others =
+          subst (λ s. NoneRefills s did.others) segment
+          (no_refill b.shape did.others (trace p) (number p) hold.segment quiet.pass.one_of did.before did.none
+          (is_inside b p hold quiet of)) in
       let x = unfilled held.segment (did.others ++ old.more) held.trace (none_both held.segment did.others old.more none old.kept) in
       let now : trace q ≡ Left (number p) hold.segment ∷ ((did.others ++ old.more) ++ held.trace) =
       ap (λ (v : View). v.trace) view_is ∙ (did.now ∙ ap (λ h. Left (number p) hold.segment ∷ h) (ap (λ h. did.others ++ h) old.since ∙ sym (append_assoc did.others old.more held.trace))) in

@@ -53,12 +53,18 @@ record IsLast (z : Shape) (key value : List ℕ) (segment : ℕ) (at h last : Li
   pub kept : NoneRefills segment first × NoneRefills segment then
   pub stands : stood z last key value segment ≡ true
 
-is_last : (z : Shape) (more at : List Event) (key value : List ℕ) (segment : ℕ) → NoneRefills segment more → stood z at key value segment ≡ true → IsLast z key value segment at (more ++ at) (last_stood z (more ++ at) key value segment)
+is_last : (z : Shape) (more at : List Event) (key value : List ℕ) (segment : ℕ) → NoneRefills segment more
+    → stood z at key value segment ≡ true → IsLast z key value segment at (more ++ at)
+    (last_stood z (more ++ at) key value segment)
 unfolding last_stood
-is_last z [] at key value segment none t = subst (IsLast z key value segment at at) (sym (last_here z at key value segment t)) (record { first = []; then = []; on = refl; now = refl; kept = (tt, tt); stands = t })
+is_last z [] at key value segment none t =
+    subst (IsLast z key value segment at at) (sym (last_here z at key value segment t))
+    (record { first = []; then = []; on = refl; now = refl; kept = (tt, tt); stands = t })
 is_last z (e ∷ more) at key value segment none t =
     let h = e ∷ (more ++ at) in let x = is_last z more at key value segment none.1 t in ⊎_elim
-    (λ here. subst (IsLast z key value segment at h) (sym (cond-true (stood z h key value segment) h (last_stood z (more ++ at) key value segment) here)) (record { first = e ∷ more; then = []; on = refl; now = refl; kept = (none, tt); stands = here }))
+    (λ here. subst (IsLast z key value segment at h)
+        (sym (cond-true (stood z h key value segment) h (last_stood z (more ++ at) key value segment) here))
+        (record { first = e ∷ more; then = []; on = refl; now = refl; kept = (none, tt); stands = here }))
     (λ not. subst (IsLast z key value segment at h) (sym (cond-false (stood z h key value segment) h (last_stood z (more ++ at) key value segment) not))
     (record { first = x.first; then = e ∷ x.then; on = x.on; now = ap (λ g. e ∷ g) x.now; kept = (x.kept.0, (none.0, x.kept.1)); stands = x.stands }))
     (cases_Bool (stood z h key value segment))
@@ -72,7 +78,9 @@ module _ (z : Shape) (key value : List ℕ) (segment row : ℕ) (at h : List Eve
   last = last_stood z h key value segment
 
   the_last : IsLast z key value segment at h last
-  the_last = subst (λ g. IsLast z key value segment at g (last_stood z g key value segment)) (sym kept.1) (is_last z kept.0 at key value segment kept.2 (is_cached_of (standing (after z (seen at)) key) value segment stands))
+  the_last = subst (λ g. IsLast z key value segment at g (last_stood z g key value segment)) (sym kept.1)
+      (is_last z kept.0 at key value segment kept.2
+      (is_cached_of (standing (after z (seen at)) key) value segment stands))
 
   last_lawful : IsLawful z last
   last_lawful = lawful_before z the_last.then last (subst (IsLawful z) the_last.now l)
@@ -99,5 +107,7 @@ module _ (z : Shape) (key value : List ℕ) (segment row : ℕ) (at h : List Eve
   held_row on = ap (λ g. row_after g segment row) the_last.on ∙ row_since z the_last.first at segment row key (subst (IsLawful z) the_last.on last_lawful) the_last.kept.0 on
 
 -- the row stays as it was then
-pub row_of_hold : (z : Shape) (h : List Event) (held : Held) (row : ℕ) → IsLawful z h → IsHold z h held → (row_after held.trace held.segment row).linked ≡ Some held.key → row_after h held.segment row ≡ row_after held.trace held.segment row
+pub row_of_hold : (z : Shape) (h : List Event) (held : Held) (row : ℕ) → IsLawful z h → IsHold z h held
+    → (row_after held.trace held.segment row).linked ≡ Some held.key
+    → row_after h held.segment row ≡ row_after held.trace held.segment row
 row_of_hold z h held row l is on = ap (λ g. row_after g held.segment row) is.since ∙ row_since z is.more held.trace held.segment row held.key (subst (IsLawful z) is.since l) is.kept on

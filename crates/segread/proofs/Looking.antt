@@ -95,11 +95,15 @@ module _ (b : Board) (key : List ℕ) (p m : Pass) (l : LooksFirst b p m) where
   way_from from to last tries scan.Busy q x = record { counts = counts_from tries 64 (trace q) x.counts; tried = tries_from from 32 tries 63 q x.tried }
 
   -- looks along words
-  pub along_from : (from last : Place) (tries : ℕ) (w : Scan) (q : Pass) → IsPlaceOf b.shape (trace p) key from → IsPlaceOf b.shape (trace p) key last → GoesAlong b key from last tries w m q → GoesAlong b key from last tries w p q
+  pub along_from : (from last : Place) (tries : ℕ) (w : Scan) (q : Pass) → IsPlaceOf b.shape (trace p) key from
+      → IsPlaceOf b.shape (trace p) key last → GoesAlong b key from last tries w m q
+      → GoesAlong b key from last tries w p q
   along_from from last tries w q at end x = (
     scan_later b w p m q (readers.looks b p m l.look) x.0,
     subst (λ n. IsWay b.shape key n (position b.shape (trace p) last + 1) last tries w p q) (same_at from at)
-        (subst (λ n. IsWay b.shape key (position b.shape (trace m) from) (n + 1) last tries w p q) (same_at last end) (way_from (position b.shape (trace m) from) (position b.shape (trace m) last + 1) last tries w q x.1)),
+        (subst (λ n. IsWay b.shape key (position b.shape (trace m) from) (n + 1) last tries w p q)
+            (same_at last end) (way_from (position b.shape (trace m) from) (position b.shape (trace m) last + 1)
+            last tries w q x.1)),
   )
 
 -- ---- loops of looks
@@ -127,7 +131,9 @@ module _ (b : Board) (key : List ℕ) where
   pub begun_by : (from to some more : ℕ) (p first q : Pass) → LooksFirst b p first → HasScanned b key from to some more first q → HasBegun b key from to some more p q
   begun_by from to some more p first q l s = record { reads = reads_from b key p first l q s.reads; few = s.few; so = inr (first, l, s) }
 
-  went_by : (from to some tries : ℕ) (here : Place) (p q : Pass) (Is : Pass → Type 0) → tries < 64 → ((q ≡ p) × (to ≡ from) × (tries ≡ some)) ⊎ ((first : Pass) × LooksFirst b p first × HasScanned b key from to some tries first q)
+  went_by : (from to some tries : ℕ) (here : Place) (p q : Pass) (Is : Pass → Type 0) → tries < 64
+      → ((q ≡ p) × (to ≡ from) × (tries ≡ some))
+      ⊎ ((first : Pass) × LooksFirst b p first × HasScanned b key from to some tries first q)
       → to ≡ position b.shape (trace q) here → IsPlaceOf b.shape (trace q) key here → ((m : Pass) → LooksFirst b q m → Is m → Is q) → AfterLook b q Is → Went b key from to some here tries p Is
   went_by from to some tries here p q Is few (inl none) at of wider x =
       let m = x.0 in let l = x.1 in
@@ -170,13 +176,18 @@ along_to b key start tries w p first r l of reads x = (
 )
 
 -- the last word of a bucket is where it was
-pub last_there : (b : Board) (key : List ℕ) (start : Place) (p first middle : Pass) (from tries : ℕ) (w : Scan) (r : Pass) → LooksFirst b p first → IsReader b first middle → IsPlaceOf b.shape (trace p) key start
+pub last_there : (b : Board) (key : List ℕ) (start : Place) (p first middle : Pass) (from tries : ℕ) (w : Scan)
+    (r : Pass) → LooksFirst b p first → IsReader b first middle → IsPlaceOf b.shape (trace p) key start
     → IsWay b.shape key from (position b.shape (trace middle) (place_of start.bucket 7) + 1) (place_of start.bucket 7) tries w first r
     → IsWay b.shape key from (position b.shape (trace first) (place_of start.bucket 7) + 1) (place_of start.bucket 7) tries w first r
-last_there b key start p first middle from tries w r l i of = subst (λ n. IsWay b.shape key from (n + 1) (place_of start.bucket 7) tries w first r) (last_of b key start first middle i (still_of b key p first l start of)).1
+last_there b key start p first middle from tries w r l i of =
+    subst (λ n. IsWay b.shape key from (n + 1) (place_of start.bucket 7) tries w first r)
+    (last_of b key start first middle i (still_of b key p first l start of)).1
 
 -- looks up to the chain's end
-pub scans_to : (b : Board) (key : List ℕ) (start : Place) (tries : ℕ) (w : Scan) (p first r : Pass) → LooksFirst b p first → IsPlaceOf b.shape (trace p) key start → IsScanner b w first r → IsScanFrom b.shape key (position b.shape (trace p) start) tries w first r
+pub scans_to : (b : Board) (key : List ℕ) (start : Place) (tries : ℕ) (w : Scan) (p first r : Pass)
+    → LooksFirst b p first → IsPlaceOf b.shape (trace p) key start → IsScanner b w first r
+    → IsScanFrom b.shape key (position b.shape (trace p) start) tries w first r
     → AfterLook b p (λ m. ScansOn b key start tries w m r)
 scans_to b key start tries w p first r l of reads x = (first, l, (reads, subst (λ n. IsScanFrom b.shape key n tries w first r) (sym (same_at b key p first l start of)) x))
 

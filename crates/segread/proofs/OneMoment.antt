@@ -29,7 +29,9 @@ same_row_part v w e = low v ∙ (ap (λ n. n % 2 ^ 20) e.2 ∙ sym (low w))
     low n = omega arith
 
 -- under a clear bit the version of the information word is the cache's
-clear_version : (z : Shape) (h : List Event) (b : ℕ) → z.first_version < 2 ^ 32 → IsLawful z h → (bucket_after z h b).holder ≡ None → (z.first_version + (bucket_after z h b).version) % 2 ^ 32 ≡ (after z (event.seen h)).version b
+clear_version : (z : Shape) (h : List Event) (b : ℕ) → z.first_version < 2 ^ 32 → IsLawful z h
+    → (bucket_after z h b).holder ≡ None → (z.first_version + (bucket_after z h b).version) % 2 ^ 32 ≡
+    (after z (event.seen h)).version b
 clear_version z h b few l none =
     let lt = bit_small (bucket_after z h b).holder in
     let x : word z h (OfBucket b 0) / 2 ^ 32 ≡ (z.first_version + (bucket_after z h b).version) % 2 ^ 32 = omega arith in
@@ -76,13 +78,17 @@ module _ (z : Shape) (place : Place) (w w' : ℕ) (key value : List ℕ) (h g : 
       let ev = one_value (row_after r s n) i.slot.key then'.value key value then'.valid.0 was.valid.0 then'.valid.1 was.valid.1 held held' in
       ap (standing (after z (event.seen r))) (sym ek) ∙ (then'.stands ∙ (λ j. Some (cached (ev j) (es j))))
 
-  pub reads_then : (now version deadline : ℕ) → HasDeadline z s deadline g → now < deadline → z.first_version < 2 ^ 32 → (bucket_after z r (bucket_of z key)).holder ≡ None → version ≡ (z.first_version + (bucket_after z r (bucket_of z key)).version) % 2 ^ 32
+  pub reads_then : (now version deadline : ℕ) → HasDeadline z s deadline g → now < deadline
+      → z.first_version < 2 ^ 32 → (bucket_after z r (bucket_of z key)).holder ≡ None
+      → version ≡ (z.first_version + (bucket_after z r (bucket_of z key)).version) % 2 ^ 32
       → reads_version z (after z (event.seen r)) now key ≡ Some (value, version)
   reads_then now version deadline had before few none is =
       let b = bucket_of z key in
       let cache = after z (event.seen r) in
       let e : version ≡ cache.version b = is ∙ clear_version z r b few lr none in
-      ap (option_map (λ (item : Cached). (item.value, cache.version b))) (stands_present cache key value s deadline now stands_then (deadline_since z early g s deadline none_early had) before) ∙ ap (λ (m : ℕ). Some (value, m)) (sym e)
+      ap (option_map (λ (item : Cached). (item.value, cache.version b)))
+          (stands_present cache key value s deadline now stands_then
+          (deadline_since z early g s deadline none_early had) before) ∙ ap (λ (m : ℕ). Some (value, m)) (sym e)
 
 -- of passes: p before the try, q in the segment, r after the look at the information, and t after the third look
 pub one_moment : (b : Board) (p q r t : Pass) (place : Place) (w w' : ℕ) (key value : List ℕ) (now version deadline : ℕ) → HasDeadline b.shape (segment_part w) deadline (trace q) → now < deadline

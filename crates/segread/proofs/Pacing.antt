@@ -67,7 +67,9 @@ pub paces_to : (from to end left : ℕ) (p q : Pass) → words_below to ≤ word
 paces_to from to end left p q le i = record { most = (let a = i.most in omega (arith, a, le)); came_in = i.came_in }
 
 -- a scan that ended before its last position
-pub paces_else : (z : Shape) (from to end : ℕ) (w : Scan) (p q : Pass) → ((word counted : ℕ) → w ≢ Passed word counted) → Paces from (end_of_scan z to w q) (left_of_scan w) p q → Paces from (end_of_scan z end w q) (left_of_scan w) p q
+pub paces_else : (z : Shape) (from to end : ℕ) (w : Scan) (p q : Pass)
+    → ((word counted : ℕ) → w ≢ Passed word counted) → Paces from (end_of_scan z to w q) (left_of_scan w) p q
+    → Paces from (end_of_scan z end w q) (left_of_scan w) p q
 paces_else z from to end (Found hit) p q ne i = i
 paces_else z from to end (Passed word counted) p q ne i = absurd (ne word counted refl)
 paces_else z from to end Busy p q ne i = i
@@ -77,8 +79,12 @@ pub later_at : (b : Board) (key : List ℕ) (place : Place) (p q : Pass) → IsR
 later_at b key place p q i of = (same_place b.shape (trace p) (trace q) place i.reads.moved.pass.lawful (moved_on b i.reads.own p q i.reads.moved) of.0).1
 
 -- with p before the words, q before the next of them, and r after it
-pub next_paced : (b : Board) (key : List ℕ) (from bucket word : ℕ) (p q r : Pass) → Paces from (position b.shape (trace q) (place_of bucket word)) 0 p q → IsReader b q r → IsPlaceOf b.shape (trace q) key (place_of bucket word)
-    → Paces (position b.shape (trace q) (place_of bucket word)) (position b.shape (trace q) (place_of bucket word) + 1) 0 q r → Paces from (position b.shape (trace r) (place_of bucket (word + 1))) 0 p r
+pub next_paced : (b : Board) (key : List ℕ) (from bucket word : ℕ) (p q r : Pass)
+    → Paces from (position b.shape (trace q) (place_of bucket word)) 0 p q → IsReader b q r
+    → IsPlaceOf b.shape (trace q) key (place_of bucket word)
+    → Paces (position b.shape (trace q) (place_of bucket word))
+        (position b.shape (trace q) (place_of bucket word) + 1) 0 q r
+        → Paces from (position b.shape (trace r) (place_of bucket (word + 1))) 0 p r
 next_paced b key from bucket word p q r before i of step =
     let z = b.shape in let here = position z (trace q) (place_of bucket word) in let next = position z (trace r) (place_of bucket (word + 1)) in
     let same = later_at b key (place_of bucket word) q r i of in let was = at_depth z (trace r) (place_of bucket word) in let is = at_depth z (trace r) (place_of bucket (word + 1)) in
@@ -86,7 +92,9 @@ next_paced b key from bucket word p q r before i of step =
     subst (λ n. Paces from n 0 p r) (sym e) (paces_then from here (here + 1) 0 p q r before step)
 
 -- the last word of a bucket
-pub last_paced : (b : Board) (key : List ℕ) (from : ℕ) (start : Place) (w : Scan) (p q r : Pass) → IsReader b p q → IsPlaceOf b.shape (trace p) key start → Paces from (position b.shape (trace q) (place_of start.bucket 7)) 0 p q
+pub last_paced : (b : Board) (key : List ℕ) (from : ℕ) (start : Place) (w : Scan) (p q r : Pass) → IsReader b p q
+    → IsPlaceOf b.shape (trace p) key start → Paces from (position b.shape (trace q) (place_of start.bucket 7)) 0 p
+    q
     → PacesTo b (place_of start.bucket 7) (position b.shape (trace q) (place_of start.bucket 7) + 1) w q r
     → Paces from (end_of_scan b.shape (position b.shape (trace p) (place_of start.bucket 7) + 1) w r) (left_of_scan w) p r
 last_paced b key from start w p q r i of before step =
@@ -96,7 +104,9 @@ last_paced b key from start w p q r i of before step =
     (paces_then from here (end_of_scan z (here + 1) w r) (left_of_scan w) p q r before step)
 
 -- a whole bucket, after which the next place comes
-pub bucket_paced : (b : Board) (from mid last then : ℕ) (next : Place) (p q r : Pass) → Paces from mid 0 p q → Paces mid (last + 1) 0 q r → words_below (then + 1) ≡ words_below (position b.shape (trace r) next) → then ≡ last → Paces from (position b.shape (trace r) next) 0 p r
+pub bucket_paced : (b : Board) (from mid last then : ℕ) (next : Place) (p q r : Pass) → Paces from mid 0 p q
+    → Paces mid (last + 1) 0 q r → words_below (then + 1) ≡ words_below (position b.shape (trace r) next)
+    → then ≡ last → Paces from (position b.shape (trace r) next) 0 p r
 bucket_paced b from mid last then next p q r before step words same =
     let on : words_below (last + 1) ≤ words_below (position b.shape (trace r) next) = omega (arith, words, same) in
     paces_to from (last + 1) (position b.shape (trace r) next) 0 p r on (paces_then from mid (last + 1) 0 p q r before step)
@@ -112,7 +122,8 @@ end_paced b key from place p q r i of before step =
     paces_to from (position z (trace q) last + 1) 32 0 p r (omega (arith, few)) (paces_then from mid (position z (trace q) last + 1) 0 p q r before step)
 
 -- from the first word of the chain on
-pub chain_paced : (b : Board) (key : List ℕ) (from : ℕ) (w : Scan) (p q : Pass) → from ≡ 1 → IsScanPlace b key w q → Paces from (end_of_scan b.shape 32 w q) (left_of_scan w) p q → Paces 1 32 (left_of_scan w) p q
+pub chain_paced : (b : Board) (key : List ℕ) (from : ℕ) (w : Scan) (p q : Pass) → from ≡ 1 → IsScanPlace b key w q
+    → Paces from (end_of_scan b.shape 32 w q) (left_of_scan w) p q → Paces 1 32 (left_of_scan w) p q
 chain_paced b key from (Found hit) p q first of i =
     let few = words_most (position b.shape (trace q) hit.place + 1) (let short = (in_chain b.shape (trace q) hit.place of.0 of.1.0).1 in omega (arith, short)) in
     paces_to 1 (position b.shape (trace q) hit.place + 1) 32 1 p q (omega (arith, few)) (subst (λ n. Paces n (position b.shape (trace q) hit.place + 1) 1 p q) first i)

@@ -32,12 +32,15 @@ use Rattle.segread.specs.Hits.{HasFrequency, CountsHit, GlancesNothing, IsItemAt
 use Rattle.segread.proofs.Tries.{has_tag}
 
 -- an item whose word stands at a place is its key's, and has the word's frequency
-pub has_frequency : (z : Shape) (h : List Event) (place : Place) (item : Item) (key value : List ℕ) → IsValid z → WasLinked z place (item_word item) key value h → HasFrequency z key value item.seg item.row item.freq h
+pub has_frequency : (z : Shape) (h : List Event) (place : Place) (item : Item) (key value : List ℕ) → IsValid z
+    → WasLinked z place (item_word item) key value h → HasFrequency z key value item.seg item.row item.freq h
 has_frequency z h place item key value v was =
     let b = home_bucket z h place in let n = position z h place in let slot = was.here.1.0 in
     let here = ap (λ m. (bucket_after z h m).items n) (sym was.here.0) ∙ was.here.1.1 in
     let stands = (coherent z h was.lawful).items b n slot here in
-    let reads : item_word item ≡ packed (tag_of slot.key) (frequency_of h slot.segment slot.row) slot.segment slot.row = sym was.stood ∙ (content_at z h b n (cell_at z place) was.chained.at ∙ ap (content_word h) here) in
+    let reads : item_word item ≡ packed (tag_of slot.key) (frequency_of h slot.segment slot.row) slot.segment
+        slot.row = sym was.stood ∙ (content_at z h b n (cell_at z place) was.chained.at
+        ∙ ap (content_word h) here) in
     let low = low_frequency z h slot.segment slot.row was.lawful in
     let low_s = low_segment z slot.segment v stands.within.0 in let low_r = low_row z slot.row v stands.within.1 in
     let f = item.freq_in_range in let s = item.seg_in_range in let r = item.row_in_range in
@@ -53,7 +56,9 @@ has_frequency z h place item key value v was =
 -- the row of what was found is the key's
 found_linked : (z : Shape) (place : Place) (item : Item) (key value : List ℕ) (h g : List Event) → FoundItem z place (item_word item) key value h g → (row_after g item.seg item.row).linked ≡ Some key
 found_linked z place item key value h g f =
-    ap (λ n. (row_after g n item.row).linked) (segment_of_item item) ∙ (ap (λ n. (row_after g (segment_part (item_word item)) n).linked) (row_of_item item) ∙ (ap (λ (r : Row). r.linked) f.still ∙ f.saw.was.linked))
+    ap (λ n. (row_after g n item.row).linked) (segment_of_item item)
+        ∙ (ap (λ n. (row_after g (segment_part (item_word item)) n).linked) (row_of_item item)
+        ∙ (ap (λ (r : Row). r.linked) f.still ∙ f.saw.was.linked))
 
 -- a frequency that the draw makes higher is one more
 one_higher : (f draw : ℕ) (t : Bool) → f < cond t (f + 1) f → (t ≡ true) × (cond t (f + 1) f ≡ f + 1)
@@ -73,28 +78,44 @@ module _ (b : Board) (p q : Pass) (place : Place) (item : Item) (higher draw fou
 
   module _ (same : found ≡ item_word item) where
     stood : (k : List ℕ) × (v : List ℕ) × WasLinked b.shape place (item_word item) k v (step.told.more ++ trace p)
-    stood = stood_item b.shape at place (item_word item) is.valid step.told.before (chained_later b.shape (trace p) at place step.told.before (step.told.more, refl) chained) (sym step.told.found_is ∙ same) (has_tag item)
+    stood = stood_item b.shape at place (item_word item) is.valid step.told.before
+        (chained_later b.shape (trace p) at place step.told.before (step.told.more, refl) chained)
+        (sym step.told.found_is ∙ same) (has_tag item)
 
     linked : (row_after (trace p) item.seg item.row).linked ≡ Some key
     linked = found_linked b.shape place item key value h (trace p) saw
 
     row_same : row_after (step.told.more ++ trace p) item.seg item.row ≡ row_after (trace p) item.seg item.row
-    row_same = row_since b.shape step.told.more (trace p) item.seg item.row key step.told.before (no_refill b.shape step.told.more (trace p) (number p) item.seg is.one_of step.told.before step.told.others there) linked
+    row_same = row_since b.shape step.told.more (trace p) item.seg item.row key step.told.before
+        (no_refill b.shape step.told.more (trace p) (number p) item.seg is.one_of step.told.before step.told.others
+        there) linked
 
     row_still : row_after at (segment_part (item_word item)) (row_part (item_word item)) ≡ row_after saw.saw.at (segment_part (item_word item)) (row_part (item_word item))
-    row_still = subst (λ s. row_after at s (row_part (item_word item)) ≡ row_after (trace p) s (row_part (item_word item))) (segment_of_item item) (subst (λ r. row_after at item.seg r ≡ row_after (trace p) item.seg r) (row_of_item item) row_same) ∙ saw.still
+    row_still = subst (λ s. row_after at s (row_part (item_word item)) ≡ row_after (trace p) s
+        (row_part (item_word item))) (segment_of_item item)
+        (subst (λ r. row_after at item.seg r ≡ row_after (trace p) item.seg r) (row_of_item item) row_same)
+        ∙ saw.still
 
     is_value : stood.1 ≡ value
-    is_value = one_value (row_after at (segment_part (item_word item)) (row_part (item_word item))) stood.0 stood.1 key value stood.2.valid.0 saw.saw.was.valid.0 stood.2.valid.1 saw.saw.was.valid.1 stood.2.holds (subst (λ u. Holds u key value) (sym row_still) saw.saw.was.holds)
+    is_value = one_value (row_after at (segment_part (item_word item)) (row_part (item_word item))) stood.0 stood.1
+        key value stood.2.valid.0 saw.saw.was.valid.0 stood.2.valid.1 saw.saw.was.valid.1 stood.2.holds
+        (subst (λ u. Holds u key value) (sym row_still) saw.saw.was.holds)
 
     row_then : (row_after (step.told.more ++ trace p) item.seg item.row).linked ≡ Some key
-    row_then = ap (λ (r : Row). r.linked) (row_since b.shape step.told.more (trace p) item.seg item.row key step.told.before (no_refill b.shape step.told.more (trace p) (number p) item.seg is.one_of step.told.before step.told.others there) linked) ∙ linked
+    row_then = ap (λ (r : Row). r.linked) (row_since b.shape step.told.more (trace p) item.seg item.row key
+        step.told.before (no_refill b.shape step.told.more (trace p) (number p) item.seg is.one_of step.told.before
+        step.told.others there) linked) ∙ linked
 
     is_key : stood.0 ≡ key
-    is_key = same_Some stood.0 key (sym stood.2.linked ∙ (ap (λ n. (row_after at n (row_part (item_word item))).linked) (sym (segment_of_item item)) ∙ (ap (λ n. (row_after at item.seg n).linked) (sym (row_of_item item)) ∙ row_then)))
+    is_key = same_Some stood.0 key (sym stood.2.linked
+        ∙ (ap (λ n. (row_after at n (row_part (item_word item))).linked) (sym (segment_of_item item))
+        ∙ (ap (λ n. (row_after at item.seg n).linked) (sym (row_of_item item)) ∙ row_then)))
 
     now : trace q ≡ Bumped (number p) item.seg item.row higher ∷ (step.told.more ++ trace p)
-    now = ap (λ (u : View). u.trace) step.told.now ∙ ap (λ es. es ++ at) (cond-true (eqb found (packed item.tag item.freq item.seg item.row)) (Bumped (number p) item.seg item.row higher ∷ []) [] (eq-eqb found (packed item.tag item.freq item.seg item.row) same))
+    now = ap (λ (u : View). u.trace) step.told.now
+        ∙ ap (λ es. es ++ at) (cond-true (eqb found (packed item.tag item.freq item.seg item.row))
+        (Bumped (number p) item.seg item.row higher ∷ []) []
+        (eq-eqb found (packed item.tag item.freq item.seg item.row) same))
 
     pub counts_hit : CountsHit b.shape key value draw (number p) h (trace q)
     counts_hit = record {
@@ -103,14 +124,18 @@ module _ (b : Board) (p q : Pass) (place : Place) (item : Item) (higher draw fou
       row = item.row;
       frequency = item.freq;
       since = begins_on h (trace p) at (begins_on h saw.saw.at (trace p) saw.saw.between.0 saw.saw.between.1) (step.told.more, refl);
-      had = subst (λ v. HasFrequency b.shape key v item.seg item.row item.freq at) is_value (subst (λ k. HasFrequency b.shape k stood.1 item.seg item.row item.freq at) is_key (has_frequency b.shape at place item stood.0 stood.1 is.valid stood.2));
+      had = subst (λ v. HasFrequency b.shape key v item.seg item.row item.freq at) is_value
+          (subst (λ k. HasFrequency b.shape k stood.1 item.seg item.row item.freq at) is_key
+          (has_frequency b.shape at place item stood.0 stood.1 is.valid stood.2));
       counted = one.0;
       raise = ([], now ∙ ap (λ n. Bumped (number p) item.seg item.row n ∷ at) (by ∙ one.1));
     }
 
   module _ (other : eqb found (item_word item) ≡ false) where
     unchanged : trace q ≡ step.told.more ++ trace p
-    unchanged = ap (λ (u : View). u.trace) step.told.now ∙ ap (λ es. es ++ at) (cond-false (eqb found (packed item.tag item.freq item.seg item.row)) (Bumped (number p) item.seg item.row higher ∷ []) [] other)
+    unchanged = ap (λ (u : View). u.trace) step.told.now
+        ∙ ap (λ es. es ++ at) (cond-false (eqb found (packed item.tag item.freq item.seg item.row))
+        (Bumped (number p) item.seg item.row higher ∷ []) [] other)
 
     -- with one pass it can't fail
     comes_about : b.shape.passes ≡ 1 → AddsEvents b [] p q → ⊥
@@ -142,7 +167,9 @@ module _ (b : Board) (p q : Pass) (place : Place) (item : Item) (higher draw fou
         let tag : tag_of key ≡ item.tag = sym was.tag ∙ tag_of_word item.tag item.freq item.seg item.row item.freq_in_range item.seg_in_range item.row_in_range in
         let frequency : frequency_of at item.seg item.row ≡ item.freq = sym (frequency_marked at item.seg item.row) ∙ had.had in
         let reads : word z at (cell_at z place) ≡ packed (tag_of key) (frequency_of at item.seg item.row) item.seg item.row =
-        content_at z at (home_bucket z at place) (position z at place) (cell_at z place) (chained_later z saw.saw.at at place lawful up was.chained).at ∙ ap (content_word at) (here ∙ ap buckets.item named) in
+        content_at z at (home_bucket z at place) (position z at place) (cell_at z place)
+            (chained_later z saw.saw.at at place lawful up was.chained).at
+            ∙ ap (content_word at) (here ∙ ap buckets.item named) in
         false≢true (sym other ∙ eq-eqb found (item_word item) (step.told.found_is ∙ (reads ∙ (λ i. packed (tag i) (frequency i) item.seg item.row))))
 
     pub overtaken : IsOvertaken b.shape key value h (trace q)
@@ -161,21 +188,31 @@ module _ (b : Board) (p q : Pass) (place : Place) (item : Item) (higher draw fou
     }
 
 -- an exchange that is tried once
-pub raised_by : (b : Board) (p q : Pass) (place : Place) (item : Item) (higher draw found : ℕ) (key value : List ℕ) (h : List Event) (result : Bool) → IsPassOf b p → IsChained b.shape (trace p) place → 0 < inside (trace p) (number p) item.seg
+pub raised_by : (b : Board) (p q : Pass) (place : Place) (item : Item) (higher draw found : ℕ) (key value : List ℕ)
+    (h : List Event) (result : Bool) → IsPassOf b p → IsChained b.shape (trace p) place
+    → 0 < inside (trace p) (number p) item.seg
     → FoundItem b.shape place (item_word item) key value h (trace p)
-    → Stepped b (bump (home_bucket b.shape (trace p) place) (position b.shape (trace p) place) (cell_at b.shape place) item.tag item.seg item.row item.freq higher) found p q → result ≡ eqb found (item_word item)
-    → AddsAtOnce b (cond result (Bumped (number p) item.seg item.row higher ∷ []) []) p q → count raised q ≡ cond result 1 0 + count raised p → higher ≡ frequency_after_hit item.freq draw → item.freq < higher → RaisesFrom b.shape key value draw h p q
+    → Stepped b (bump (home_bucket b.shape (trace p) place) (position b.shape (trace p) place)
+        (cell_at b.shape place) item.tag item.seg item.row item.freq higher) found p q
+        → result ≡ eqb found (item_word item)
+    → AddsAtOnce b (cond result (Bumped (number p) item.seg item.row higher ∷ []) []) p q
+        → count raised q ≡ cond result 1 0 + count raised p → higher ≡ frequency_after_hit item.freq draw
+        → item.freq < higher → RaisesFrom b.shape key value draw h p q
 raised_by b p q place item higher draw found key value h true is chained there saw step same did more by up =
     inl (omega (arith, more), counts_hit b p q place item higher draw found key value h is chained there saw step by up (eqb-true found (item_word item) (sym same)))
 raised_by b p q place item higher draw found key value h false is chained there saw step same did more by up =
-    inr (omega (arith, more), inr (several b p q place item higher draw found key value h is chained there saw step by up (sym same) did.moved, overtaken b p q place item higher draw found key value h is chained there saw step by up (sym same)))
+    inr (omega (arith, more), inr (several b p q place item higher draw found key value h is chained there saw step
+        by up (sym same) did.moved, overtaken b p q place item higher draw found key value h is chained there saw
+        step by up (sym same)))
 
 -- a frequency that the draw leaves
 one_lower : (f draw : ℕ) (t : Bool) → cond t (f + 1) f ≤ f → t ≡ false
 one_lower f draw true low = absurd (omega (arith, low))
 one_lower f draw false low = refl
 
-pub raised_none : (b : Board) (p : Pass) (place : Place) (item : Item) (higher draw : ℕ) (key value : List ℕ) (h : List Event) → IsPassOf b p → FoundItem b.shape place (item_word item) key value h (trace p) → higher ≡ frequency_after_hit item.freq draw → higher ≤ item.freq → RaisesFrom b.shape key value draw h p p
+pub raised_none : (b : Board) (p : Pass) (place : Place) (item : Item) (higher draw : ℕ) (key value : List ℕ)
+    (h : List Event) → IsPassOf b p → FoundItem b.shape place (item_word item) key value h (trace p)
+    → higher ≡ frequency_after_hit item.freq draw → higher ≤ item.freq → RaisesFrom b.shape key value draw h p p
 raised_none b p place item higher draw key value h is saw by low = inr (
   refl,
   inl (record {
@@ -191,7 +228,9 @@ raised_none b p place item higher draw key value h is saw by low = inr (
 )
 
 -- an exchange comes into no segment
-pub stays_out : (b : Board) (p q : Pass) (segment row frequency : ℕ) (result : Bool) → AddsEvents b (cond result (Bumped (number p) segment row frequency ∷ []) []) p q → count entered q ≡ count entered p
+pub stays_out : (b : Board) (p q : Pass) (segment row frequency : ℕ) (result : Bool)
+    → AddsEvents b (cond result (Bumped (number p) segment row frequency ∷ []) []) p q
+    → count entered q ≡ count entered p
 stays_out b p q segment row frequency true m = moved_count b _ p q entered m
 stays_out b p q segment row frequency false m = moved_count b _ p q entered m
 
@@ -242,18 +281,28 @@ overtaken_wider z key value h g f e before after c = record {
 }
 
 -- why nothing was raised
-none_wider : (z : Shape) (key value : List ℕ) (draw : ℕ) (h g f e : List Event) → Begins h g → Begins f e → PassesHit z key value draw g f ⊎ ((1 < z.passes) × IsOvertaken z key value g f) → PassesHit z key value draw h e ⊎ ((1 < z.passes) × IsOvertaken z key value h e)
+none_wider : (z : Shape) (key value : List ℕ) (draw : ℕ) (h g f e : List Event) → Begins h g → Begins f e
+    → PassesHit z key value draw g f ⊎ ((1 < z.passes) × IsOvertaken z key value g f)
+    → PassesHit z key value draw h e ⊎ ((1 < z.passes) × IsOvertaken z key value h e)
 none_wider z key value draw h g f e before after (inl c) = inl (passes_wider z key value draw h g f e before after c)
 none_wider z key value draw h g f e before after (inr c) = inr (c.0, overtaken_wider z key value h g f e before after c.1)
 
 -- it raised nothing before
-pub raises_after : (z : Shape) (key value : List ℕ) (draw : ℕ) (h g : List Event) (p q r : Pass) → number q ≡ number p → Begins h g → RaisesNothing p q → RaisesFrom z key value draw g q r → RaisesFrom z key value draw h p r
-raises_after z key value draw h g p q r same up none (inl i) = inl (i.0 ∙ ap (λ n. n + 1) none, subst (λ n. CountsHit z key value draw n h (trace r)) same (counts_wider z key value draw (number q) h g (trace r) (trace r) up ([], refl) i.1))
+pub raises_after : (z : Shape) (key value : List ℕ) (draw : ℕ) (h g : List Event) (p q r : Pass)
+    → number q ≡ number p → Begins h g → RaisesNothing p q → RaisesFrom z key value draw g q r
+    → RaisesFrom z key value draw h p r
+raises_after z key value draw h g p q r same up none (inl i) =
+    inl (i.0 ∙ ap (λ n. n + 1) none, subst (λ n. CountsHit z key value draw n h (trace r)) same
+    (counts_wider z key value draw (number q) h g (trace r) (trace r) up ([], refl) i.1))
 raises_after z key value draw h g p q r same up none (inr i) = inr (i.0 ∙ none, none_wider z key value draw h g (trace r) (trace r) up ([], refl) i.1)
 
-pub raises_later : (z : Shape) (key value : List ℕ) (draw : ℕ) (p q r : Pass) → number q ≡ number p → Begins (trace p) (trace q) → RaisesNothing p q → RaisesFrom z key value draw (trace q) q r → RaisesFrom z key value draw (trace p) p r
+pub raises_later : (z : Shape) (key value : List ℕ) (draw : ℕ) (p q r : Pass) → number q ≡ number p
+    → Begins (trace p) (trace q) → RaisesNothing p q → RaisesFrom z key value draw (trace q) q r
+    → RaisesFrom z key value draw (trace p) p r
 raises_later z key value draw p q r same up none i = raises_after z key value draw (trace p) (trace q) p q r same up none i
 
-pub raises_sooner : (z : Shape) (key value : List ℕ) (draw : ℕ) (h : List Event) (p q r : Pass) → Begins (trace q) (trace r) → RaisesFrom z key value draw h p q → RaisesNothing q r → RaisesFrom z key value draw h p r
+pub raises_sooner : (z : Shape) (key value : List ℕ) (draw : ℕ) (h : List Event) (p q r : Pass)
+    → Begins (trace q) (trace r) → RaisesFrom z key value draw h p q → RaisesNothing q r
+    → RaisesFrom z key value draw h p r
 raises_sooner z key value draw h p q r up (inl i) none = inl (none ∙ i.0, counts_wider z key value draw (number p) h h (trace q) (trace r) ([], refl) up i.1)
 raises_sooner z key value draw h p q r up (inr i) none = inr (none ∙ i.0, none_wider z key value draw h h (trace q) (trace r) ([], refl) up i.1)

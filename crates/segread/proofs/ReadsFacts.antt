@@ -113,7 +113,10 @@ disturbed_by_looks p q s before after = rw s (inr (rw (before, after) (omega ari
 
 -- one look fewer doesn't
 not_disturbed_by_few : (p q : Pass) → seen q ≡ refused → count (glanced 0) p ≡ 5 → count (glanced 0) q ≡ 66 → ¬ (IsDisturbed shape a 0 added p q)
-not_disturbed_by_few p q s before after d = by (subst (λ h. (64 ≤ stirred shape a added h) ⊎ ((64 ≤ stirred shape a added h + (count (glanced 0) q - count (glanced 0) p)) × PresentBetween shape a 0 added h)) s d)
+not_disturbed_by_few p q s before after d =
+    by (subst (λ h. (64 ≤ stirred shape a added h)
+    ⊎ ((64 ≤ stirred shape a added h + (count (glanced 0) q - count (glanced 0) p))
+    × PresentBetween shape a 0 added h)) s d)
   where
     by : (64 ≤ 2) ⊎ ((64 ≤ 2 + (count (glanced 0) q - count (glanced 0) p)) × PresentBetween shape a 0 added refused) → ⊥
     by (inl many) = absurd (omega (arith, many))
@@ -121,7 +124,10 @@ not_disturbed_by_few p q s before after d = by (subst (λ h. (64 ≤ stirred sha
 
 -- of a key that never stood, 99 looks don't
 absent_key_is_not_disturbed : (p q : Pass) → seen q ≡ refused → count (glanced 0) p ≡ 0 → count (glanced 0) q ≡ 99 → ¬ (IsDisturbed shape absent 0 added p q)
-absent_key_is_not_disturbed p q s before after d = by (subst (λ h. (64 ≤ stirred shape absent added h) ⊎ ((64 ≤ stirred shape absent added h + (count (glanced 0) q - count (glanced 0) p)) × PresentBetween shape absent 0 added h)) s d)
+absent_key_is_not_disturbed p q s before after d =
+    by (subst (λ h. (64 ≤ stirred shape absent added h)
+    ⊎ ((64 ≤ stirred shape absent added h + (count (glanced 0) q - count (glanced 0) p))
+    × PresentBetween shape absent 0 added h)) s d)
   where
     by : (64 ≤ 2) ⊎ ((64 ≤ 2 + (count (glanced 0) q - count (glanced 0) p)) × PresentBetween shape absent 0 added refused) → ⊥
     by (inl many) = absurd (omega (arith, many))

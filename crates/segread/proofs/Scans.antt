@@ -21,7 +21,8 @@ use Rattle.segstore.proofs.Readers.{stays, reader_then, enter_then}
 use Rattle.segread.specs.declared.scan.Hit.{Hit}
 use Rattle.segread.specs.declared.scan.Scan.{Scan}
 use Rattle.segread.specs.declared.scan.Scan.TheVariants.{Found, Passed, Busy}
-use Rattle.segread.specs.Scanning.{HasDeadline, place_of, words_below, IsPlaceOf, IsScanner, IsTry, ComesIn, Tries, CountsTries, AdvancesSearch, HasPassed, IsHit, IsPast, GivesUp, IsEnded, IsWay, IsScanFrom, IsScanAnswer}
+use Rattle.segread.specs.Scanning.{HasDeadline, place_of, words_below, IsPlaceOf, IsScanner, IsTry, ComesIn, Tries,
+    CountsTries, AdvancesSearch, HasPassed, IsHit, IsPast, GivesUp, IsEnded, IsWay, IsScanFrom, IsScanAnswer}
 use Rattle.segread.specs.Hits.{OnlyScans, TriesFew}
 use Rattle.segread.proofs.ComingIn.{tries_none, tries_once, tries_then, at_most, word_more, words_few, words_most}
 use Rattle.segread.proofs.Tries.{Trying, hit_from, word_wider, counts_none, counts_later, counts_then}
@@ -40,7 +41,8 @@ pub at_depth : (z : Shape) (h : List Event) (place : Place) → position z h pla
 at_depth z h place = position_cases (ltb place.bucket z.buckets) place.word (depth_of (home_of h (place.bucket - z.buckets)))
 
 -- a word at a position of the key's chain
-place_at : (z : Shape) (key : List ℕ) (place : Place) (n : ℕ) (h : List Event) → IsPlace z place → IsItemAt z h (bucket_of z key) n (cell_at z place) → IsPlaceOf z h key place × (position z h place ≡ n)
+place_at : (z : Shape) (key : List ℕ) (place : Place) (n : ℕ) (h : List Event) → IsPlace z place
+    → IsItemAt z h (bucket_of z key) n (cell_at z place) → IsPlaceOf z h key place × (position z h place ≡ n)
 place_at z key place n h within is = let e = at_place z h (bucket_of z key) n place is.1 in (
   (record { in_table = within; at = subst (λ b. IsItemAt z h b (position z h place) (cell_at z place)) (sym e.0) (subst (λ m. IsItemAt z h (bucket_of z key) m (cell_at z place)) (sym e.1) is) }, e.0),
   e.1,
@@ -58,12 +60,15 @@ pub inner_next : (z : Shape) (place : Place) (w : ℕ) → place.word < 7 → Is
 inner_next z place w lt = record { inner = λ more. refl; last = λ seven. absurd (omega arith) }
 
 -- the one that a chain word leads to
-chained_place : (z : Shape) (key : List ℕ) (depth number : ℕ) (h : List Event) → number < z.overflow → depth < (bucket_after z h (bucket_of z key)).chained → home_of h number ≡ Some (home (bucket_of z key) (depth + 1))
+chained_place : (z : Shape) (key : List ℕ) (depth number : ℕ) (h : List Event) → number < z.overflow
+    → depth < (bucket_after z h (bucket_of z key)).chained
+    → home_of h number ≡ Some (home (bucket_of z key) (depth + 1))
     → IsPlaceOf z h key (place_of (z.buckets + number) 1) × (position z h (place_of (z.buckets + number) 1) ≡ 8 * (depth + 1) + 1)
 chained_place z key depth number h few in' of =
     let t : ltb (z.buckets + number) z.buckets ≡ false = le-ltb (z.buckets + number) z.buckets (omega arith) in
     let e : z.buckets + number - z.buckets ≡ number = omega arith in
-    place_at z key (place_of (z.buckets + number) 1) (8 * (depth + 1) + 1) h ((omega arith), (omega arith), (omega arith)) (((omega arith), (omega arith)), rw (t, e) (depth + 1, of, refl, (omega arith)))
+    place_at z key (place_of (z.buckets + number) 1) (8 * (depth + 1) + 1) h ((omega arith), (omega arith),
+        (omega arith)) (((omega arith), (omega arith)), rw (t, e) (depth + 1, of, refl, (omega arith)))
 
 other_cases : (z : Shape) (h : List Event) (b n bucket w other : ℕ) (t : Bool) → IsAt h b n (cond t (OfBucket bucket w) (OfOverflow (bucket - z.buckets) w)) → other < 8
     → IsAt h b (8 * (let d : ℕ = cond t 0 (depth_of (home_of h (bucket - z.buckets))) in d) + other) (cond t (OfBucket bucket other) (OfOverflow (bucket - z.buckets) other))
@@ -71,13 +76,17 @@ other_cases z h b n bucket w other true at few = (at.0, omega arith, few)
 other_cases z h b n bucket w other false at few = (at.0, at.1, ap (λ o. 8 * depth_of o + other) at.1, few)
 
 -- another word of the same bucket
-other_word : (z : Shape) (key : List ℕ) (place : Place) (w : ℕ) (h : List Event) → IsPlaceOf z h key place → 0 < w → w < 8 → IsItemAt z h (bucket_of z key) (8 * bucket_depth z h place.bucket + w) (cell_at z (place_of place.bucket w))
+other_word : (z : Shape) (key : List ℕ) (place : Place) (w : ℕ) (h : List Event) → IsPlaceOf z h key place → 0 < w
+    → w < 8 → IsItemAt z h (bucket_of z key) (8 * bucket_depth z h place.bucket + w)
+    (cell_at z (place_of place.bucket w))
 other_word z key place w h of low high =
     let e = at_depth z h place in let most = of.0.in_table.2 in
     let at : IsItemAt z h (bucket_of z key) (position z h place) (cell_at z place) = subst (λ b. IsItemAt z h b (position z h place) (cell_at z place)) of.1 of.0.at in
     let within = at.0.0 in ((omega arith, omega arith), other_cases z h (bucket_of z key) (position z h place) place.bucket place.word w (ltb place.bucket z.buckets) at.1 high)
 
-other_place : (z : Shape) (key : List ℕ) (place : Place) (w : ℕ) (h : List Event) → IsPlaceOf z h key place → 0 < w → w < 8 → IsPlaceOf z h key (place_of place.bucket w) × (position z h (place_of place.bucket w) ≡ 8 * bucket_depth z h place.bucket + w)
+other_place : (z : Shape) (key : List ℕ) (place : Place) (w : ℕ) (h : List Event) → IsPlaceOf z h key place → 0 < w
+    → w < 8 → IsPlaceOf z h key (place_of place.bucket w)
+    × (position z h (place_of place.bucket w) ≡ 8 * bucket_depth z h place.bucket + w)
 other_place z key place w h of low high = place_at z key (place_of place.bucket w) (8 * bucket_depth z h place.bucket + w) h (of.0.in_table.0, low, high) (other_word z key place w h of low high)
 
 -- its last word is a place of the chain, and stays at its position
@@ -102,7 +111,8 @@ scan_later b (Found hit) p q r i j = enter_then b p q r hit.item.seg i j
 scan_later b (Passed word tries) p q r i j = reader_then b p q r i j
 scan_later b Busy p q r i j = reader_then b p q r i j
 
-passed_then : (z : Shape) (key : List ℕ) (from mid to : ℕ) (place : Place) (w : ℕ) (h g f : List Event) → Begins h g → AdvancesSearch z key from mid h g → HasPassed z key mid to place w g f → HasPassed z key from to place w h f
+passed_then : (z : Shape) (key : List ℕ) (from mid to : ℕ) (place : Place) (w : ℕ) (h g f : List Event) → Begins h g
+    → AdvancesSearch z key from mid h g → HasPassed z key mid to place w g f → HasPassed z key from to place w h f
 passed_then z key from mid to place w h g f up b p = record {
   last = word_wider z place w g f h f up ([], refl) p.last;
   brings = λ start s ahead. p.brings start (begins_on start h g s up) (b start s ahead);
@@ -123,8 +133,11 @@ pub word_given_up : (at some count : ℕ) (p q : Pass) → at < 32 → count ≤
 word_given_up at some count p q in' few i = at_most at at 32 some count 63 p q (let e = words_few at in' in omega (arith, e, few)) i
 
 -- with p the pass before the looks at a word, q before the last try, and r in the item's segment
-pub hit_here : (b : Board) (key : List ℕ) (place : Place) (seen item : Item) (header deadline tries count : ℕ) (p q r : Pass) → IsPlaceOf b.shape (trace p) key place → IsReader b p q → IsReaderIn b p r item.seg → count < 64
-    → Tries (position b.shape (trace p) place) (position b.shape (trace p) place) tries count p q → Trying b.shape key place tries seen count (trace p) (trace q) → IsTry q r → FoundKey b.shape place item header key (trace q) (trace r)
+pub hit_here : (b : Board) (key : List ℕ) (place : Place) (seen item : Item) (header deadline tries count : ℕ)
+    (p q r : Pass) → IsPlaceOf b.shape (trace p) key place → IsReader b p q → IsReaderIn b p r item.seg → count < 64
+    → Tries (position b.shape (trace p) place) (position b.shape (trace p) place) tries count p q
+        → Trying b.shape key place tries seen count (trace p) (trace q) → IsTry q r
+        → FoundKey b.shape place item header key (trace q) (trace r)
     → HasDeadline b.shape item.seg deadline (trace r)
     → IsHit b.shape key (position b.shape (trace p) place) tries (record { place = place; item = item; header = header; deadline = deadline; tries = count }) p r
 hit_here b key place seen item header deadline tries count p q r of i j few tried y once found told =
@@ -137,7 +150,9 @@ hit_here b key place seen item header deadline tries count p q r of i j few trie
       counted = counts_later z key tries count (trace p) y.saw.at found.found.saw.at (begins_on y.saw.at (trace q) found.found.saw.at y.saw.between.1 found.found.saw.between.0) y.counted;
       onward = let on = tried.onward in omega (arith, on, e);
       tried = subst (λ n. Tries (position z (trace p) place) n tries (count + 1) p r) e (tries_once (position z (trace p) place) (position z (trace p) place) tries count p q r tried once);
-      brings = subst (λ n. AdvancesSearch z key (position z (trace p) place) n (trace p) (trace r)) e (λ start here ahead. key_later z key (position z (trace p) place) start (trace p) (trace r) j.reads.moved.pass.lawful here m ahead);
+      brings = subst (λ n. AdvancesSearch z key (position z (trace p) place) n (trace p) (trace r)) e
+          (λ start here ahead. key_later z key (position z (trace p) place) start (trace p) (trace r)
+          j.reads.moved.pass.lawful here m ahead);
     }
 
 -- looks from one position up to another: none of the words was the key's
@@ -170,7 +185,10 @@ module _ (b : Board) (key : List ℕ) (from mid some tries : ℕ) (p q r : Pass)
   up : Begins (trace p) (trace q)
   up = moved_on b s.reads.reads.own p q s.reads.reads.moved
 
-  pub scanned_next : (after counted : ℕ) (last next : Place) (w : ℕ) → IsReader b q r → IsPast b.shape key mid after tries counted last w q r → CanGoOn b.shape key mid after next (trace q) (trace r) → HasScanned b key from (position b.shape (trace r) next) some counted p r
+  pub scanned_next : (after counted : ℕ) (last next : Place) (w : ℕ) → IsReader b q r
+      → IsPast b.shape key mid after tries counted last w q r
+      → CanGoOn b.shape key mid after next (trace q) (trace r)
+      → HasScanned b key from (position b.shape (trace r) next) some counted p r
   scanned_next after counted last next w i x n = record {
     reads = reader_then b p q r s.reads i;
     few = x.few;
@@ -217,13 +235,17 @@ module _ (b : Board) (key : List ℕ) (from mid some tries : ℕ) (p q r : Pass)
   way_then to last Busy x = gives_up_then x
 
 -- looks that ended before the last place
-pub way_else : (z : Shape) (key : List ℕ) (from to to' : ℕ) (last last' : Place) (tries : ℕ) (w : Scan) (p q : Pass) → ((word counted : ℕ) → w ≢ Passed word counted) → IsWay z key from to last tries w p q → IsWay z key from to' last' tries w p q
+pub way_else : (z : Shape) (key : List ℕ) (from to to' : ℕ) (last last' : Place) (tries : ℕ) (w : Scan) (p q : Pass)
+    → ((word counted : ℕ) → w ≢ Passed word counted) → IsWay z key from to last tries w p q
+    → IsWay z key from to' last' tries w p q
 way_else z key from to to' last last' tries (Found hit) p q ne x = x
 way_else z key from to to' last last' tries (Passed word counted) p q ne x = absurd (ne word counted refl)
 way_else z key from to to' last last' tries Busy p q ne x = x
 
 -- looks that ended before the chain did
-pub scan_else : (z : Shape) (key : List ℕ) (from to : ℕ) (last : Place) (tries : ℕ) (w : Scan) (p q : Pass) → ((word counted : ℕ) → w ≢ Passed word counted) → IsWay z key from to last tries w p q → IsScanFrom z key from tries w p q
+pub scan_else : (z : Shape) (key : List ℕ) (from to : ℕ) (last : Place) (tries : ℕ) (w : Scan) (p q : Pass)
+    → ((word counted : ℕ) → w ≢ Passed word counted) → IsWay z key from to last tries w p q
+    → IsScanFrom z key from tries w p q
 scan_else z key from to last tries (Found hit) p q ne x = x
 scan_else z key from to last tries (Passed word counted) p q ne x = absurd (ne word counted refl)
 scan_else z key from to last tries Busy p q ne x = x
@@ -231,7 +253,9 @@ scan_else z key from to last tries Busy p q ne x = x
 -- ---- the place after one that was passed
 
 -- with g before it was passed, and f after that
-module _ (z : Shape) (key : List ℕ) (place : Place) (from w : ℕ) (g f : List Event) (v : IsValid z) (l : IsLawful z f) (of : IsPlaceOf z g key place) (p : HasPassed z key from (position z g place + 1) place w g f) where
+module _ (z : Shape) (key : List ℕ) (place : Place) (from w : ℕ) (g f : List Event) (v : IsValid z)
+    (l : IsLawful z f) (of : IsPlaceOf z g key place)
+    (p : HasPassed z key from (position z g place + 1) place w g f) where
   abbrev at : List Event
   at = p.last.at
 
@@ -337,10 +361,16 @@ hit_place z key from tries hit p q l x = let saw = x.found.found.saw in
 few_times : (from to tries : ℕ) (p q : Pass) → from ≡ 1 → words_below to + tries ≤ 91 → Tries from to 0 tries p q → TriesFew p q
 few_times from to tries p q first most i = let few = subst (λ n. ComesIn n to 0 tries p q) first i.comes_in in omega (arith, few, most)
 
-pub whole_scan : (b : Board) (key : List ℕ) (from : ℕ) (w : Scan) (p q : Pass) → from ≡ 1 → IsPassOf b p → IsScanner b w p q → IsScanFrom b.shape key from 0 w p q → IsScanAnswer b.shape key w (trace p) (trace q) × TriesFew p q × OnlyScans p q
+pub whole_scan : (b : Board) (key : List ℕ) (from : ℕ) (w : Scan) (p q : Pass) → from ≡ 1 → IsPassOf b p
+    → IsScanner b w p q → IsScanFrom b.shape key from 0 w p q → IsScanAnswer b.shape key w (trace p) (trace q)
+    × TriesFew p q × OnlyScans p q
 whole_scan b key from (Found hit) p q first is i x =
     let l = i.reads.moved.pass.lawful in let in' = (in_chain b.shape (trace q) hit.place l (hit_place b.shape key from 0 hit p q l x).0).1 in
-    ((x.found, x.deadline), few_times from (position b.shape (trace q) hit.place) (hit.tries + 1) p q first (let few = x.few in let most = words_few (position b.shape (trace q) hit.place) in' in omega (arith, few, most)) x.tried, x.tried.only_scans)
+    ((x.found, x.deadline), few_times from (position b.shape (trace q) hit.place) (hit.tries + 1) p q first
+        (let few = x.few in let most = words_few (position b.shape (trace q) hit.place) in' in
+        omega (arith, few, most)) x.tried, x.tried.only_scans)
 whole_scan b key from (Passed word counted) p q first is i x =
-    (x.gone (trace p) ([], refl) (subst (λ n. KeyAhead b.shape key n (trace p) (trace p)) (sym first) (key_first b.shape key (trace p) is.lawful)), few_times from 32 63 p q first (omega arith) x.tried, x.tried.only_scans)
+    (x.gone (trace p) ([], refl) (subst (λ n. KeyAhead b.shape key n (trace p) (trace p)) (sym first)
+        (key_first b.shape key (trace p) is.lawful)), few_times from 32 63 p q first (omega arith) x.tried,
+        x.tried.only_scans)
 whole_scan b key from Busy p q first is i x = (x.counts, few_times from 32 63 p q first (omega arith) x.tried, x.tried.only_scans)

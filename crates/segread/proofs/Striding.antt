@@ -33,12 +33,15 @@ strides_left b from to segment p q r i few unset gone = let away = leaves b segm
 }
 
 -- the place of a hit is within the chain
-pub hit_end : (b : Board) (key : List ℕ) (from tries : ℕ) (hit : Hit) (m q : Pass) → IsReaderIn b m q hit.item.seg → IsHit b.shape key from tries hit m q → words_below (position b.shape (trace q) hit.place + 1) ≤ 28
+pub hit_end : (b : Board) (key : List ℕ) (from tries : ℕ) (hit : Hit) (m q : Pass) → IsReaderIn b m q hit.item.seg
+    → IsHit b.shape key from tries hit m q → words_below (position b.shape (trace q) hit.place + 1) ≤ 28
 hit_end b key from tries hit m q i x = let l = i.reads.moved.pass.lawful in let short = (in_chain b.shape (trace q) hit.place l (hit_place b.shape key from tries hit m q l x).0).1 in
     words_most (position b.shape (trace q) hit.place + 1) (omega (arith, short))
 
 -- the item was found; then its value was read, and its bucket's information and its word looked at
-pub strides_seen : (b : Board) (key : List ℕ) (start from tries : ℕ) (hit : Hit) (p m q l : Pass) → IsReaderIn b m q hit.item.seg → IsHit b.shape key from tries hit m q → Begins (trace q) (trace l) → IsLawful b.shape (trace l)
+pub strides_seen : (b : Board) (key : List ℕ) (start from tries : ℕ) (hit : Hit) (p m q l : Pass)
+    → IsReaderIn b m q hit.item.seg → IsHit b.shape key from tries hit m q → Begins (trace q) (trace l)
+    → IsLawful b.shape (trace l)
     → Paces start (position b.shape (trace q) hit.place + 1) 1 p q → GlancesNothing p q → LooksOnce q l → step_count l ≤ step_count q + 6 → Strides start (position b.shape (trace l) hit.place) 1 p l
 strides_seen b key start from tries hit p m q l i x on lawful paced unset once took =
     let z = b.shape in let was = i.reads.moved.pass.lawful in let at_q = hit_place z key from tries hit m q was x in
@@ -50,7 +53,9 @@ strides_seen b key start from tries hit p m q l i x on lawful paced unset once t
 
 -- ---- with l after the third look, and r after the pass left the segment
 
-pub strides_again : (b : Board) (key : List ℕ) (from segment : ℕ) (place : Place) (p l r : Pass) → Strides from (position b.shape (trace l) place) 1 p l → LeavesSegment b l r segment → IsPlaceOf b.shape (trace l) key place → Strides from (position b.shape (trace r) place) 0 p r
+pub strides_again : (b : Board) (key : List ℕ) (from segment : ℕ) (place : Place) (p l r : Pass)
+    → Strides from (position b.shape (trace l) place) 1 p l → LeavesSegment b l r segment
+    → IsPlaceOf b.shape (trace l) key place → Strides from (position b.shape (trace r) place) 0 p r
 strides_again b key from segment place p l r i gone of =
     let away = leaves b segment l r gone.moved in let none = away.0 in
     let same = (same_place b.shape (trace l) (trace r) place gone.moved.pass.lawful (moved_on b _ l r gone.moved) of.0).1 in
@@ -69,7 +74,9 @@ strides_then from mid to p q r i j = record {
 }
 
 -- a hit is counted, too
-pub strides_hit : (b : Board) (from at segment : ℕ) (p l t r : Pass) → at < 32 → Strides from at 1 p l → TakesAtMost 1 l t → count entered t ≡ count entered l → GlancesNothing l t → LeavesSegment b t r segment → Strides from 32 0 p r
+pub strides_hit : (b : Board) (from at segment : ℕ) (p l t r : Pass) → at < 32 → Strides from at 1 p l
+    → TakesAtMost 1 l t → count entered t ≡ count entered l → GlancesNothing l t → LeavesSegment b t r segment
+    → Strides from 32 0 p r
 strides_hit b from at segment p l t r short i one out unset gone =
     let away = leaves b segment t r gone.moved in let none = away.0 in let few = words_few at short in record {
       most = (let most = i.most in let last = gone.steps in omega (arith, most, one, out, none, last, few));

@@ -21,7 +21,9 @@ use Rattle.segread.specs.Scanning.{HasDeadline, words_below, IsPlaceOf, ComesIn,
 use Rattle.segread.specs.Gets.{Attempts, ReadsVersionBetween, HasNoBit, Disturbs, IsMissed, IsSeen, MovesOn}
 use Rattle.segread.proofs.Answered.{gone_reads}
 use Rattle.segread.proofs.Deadlines.{by_word, read_deadline, found_reads, found_expired}
-use Rattle.segread.proofs.ComingIn.{StaysOut, LooksOnce, looked, leaves, raises_none, glances_none, glances_one, glances_then, glance_once, once_between, out_then, scans_once, tries_out, at_most, attempts, attempts_once, attempts_out, attempts_at_most, word_more, words_few}
+use Rattle.segread.proofs.ComingIn.{StaysOut, LooksOnce, looked, leaves, raises_none, glances_none, glances_one,
+    glances_then, glance_once, once_between, out_then, scans_once, tries_out, at_most, attempts, attempts_once,
+    attempts_out, attempts_at_most, word_more, words_few}
 use Rattle.segread.proofs.Disturbing.{still_no_bit, glances_grow, set_reads, clear_reads, by_entries, by_bit}
 use Rattle.segread.proofs.Hits.{read_in, read_value, found_on, hit_raises}
 use Rattle.segread.proofs.OneMoment.{one_moment}
@@ -29,11 +31,15 @@ use Rattle.segread.proofs.Scans.{in_chain, place_later, hit_place, next_of, end_
 use Rattle.segread.proofs.Tries.{has_tag, counts_later, one_entry, passed_word}
 
 -- with p the pass before the scan, q in the item's segment, v after its value was read, g after the look at the information, and l after the third look
-module _ (b : Board) (key : List ℕ) (now from tries : ℕ) (hit : Hit) (value : List ℕ) (info : Info) (third : ℕ) (p q v g l : Pass) (valid : IsValid b.shape) (few : b.shape.first_version < 2 ^ 32) (free : HasNoBit b.shape key p)
+module _ (b : Board) (key : List ℕ) (now from tries : ℕ) (hit : Hit) (value : List ℕ) (info : Info) (third : ℕ)
+    (p q v g l : Pass) (valid : IsValid b.shape) (few : b.shape.first_version < 2 ^ 32)
+    (free : HasNoBit b.shape key p)
     (scan : IsReaderIn b p q hit.item.seg) (x : IsHit b.shape key from tries hit p q) (row : ReadsRow b q v hit.item.seg hit.item.row)
     (is_value : (k w : List ℕ) → IsKey k → IsValue w → Holds (row_after (trace v) hit.item.seg hit.item.row) k w → value ≡ w)
     (glance : Glances b (bucket_of b.shape key) info v g) (plain : g.plain ≡ v.plain) (memo : (sight g).memo ≡ (sight v).memo)
-    (version : info.version ≡ (b.shape.first_version + (bucket_after b.shape (trace g) (bucket_of b.shape key)).version) % 2 ^ 32) (look : OnlyLooks b g l) (stands : third ≡ word_of_place b.shape (trace l) hit.place) (before : now < hit.deadline) where
+    (version : info.version ≡ (b.shape.first_version +
+        (bucket_after b.shape (trace g) (bucket_of b.shape key)).version) % 2 ^ 32) (look : OnlyLooks b g l)
+        (stands : third ≡ word_of_place b.shape (trace l) hit.place) (before : now < hit.deadline) where
   abbrev z : Shape
   z = b.shape
 
@@ -97,7 +103,9 @@ module _ (b : Board) (key : List ℕ) (now from tries : ℕ) (hit : Hit) (value 
   one_more : ¬ (IsSameItem (item_word hit.item) third) → 1 ≤ tag_part third → CountsTries z key tries (hit.tries + 1) (trace p) (trace l)
   one_more ne tag =
       let saw = x.found.found.saw in
-      let more = one_entry z hit.place (item_word hit.item) third saw.at (trace l) valid saw.was.lawful lawful (begins_on saw.at (trace q) (trace l) saw.between.1 on) saw.was.chained saw.was.stood (sym stands) (has_tag hit.item) tag ne in
+      let more = one_entry z hit.place (item_word hit.item) third saw.at (trace l) valid saw.was.lawful lawful
+          (begins_on saw.at (trace q) (trace l) saw.between.1 on) saw.was.chained saw.was.stood (sym stands)
+          (has_tag hit.item) tag ne in
       let more' : entries_of z c (event.seen saw.at) + 1 ≤ entries_of z c (seen l) = subst (λ n. entries_of z n (event.seen saw.at) + 1 ≤ entries_of z n (seen l)) (sym saw.was.here.0) more in
       let counted = x.counted in omega (arith, more', counted)
 
@@ -108,9 +116,13 @@ module _ (b : Board) (key : List ℕ) (now from tries : ℕ) (hit : Hit) (value 
   one_version : info.held ≡ false → IsSameItem (item_word hit.item) third → ReadsVersionBetween z key now (seen p) (seen l) (Some (value, info.version))
   one_version clear same = let i = clear_reads b c v g info glance clear plain memo in (
     seen g,
-    (seen_begins (trace p) (trace g) (begins_on (trace p) (trace v) (trace g) (moved_on b in_v.reads.own p v in_v.reads.moved) (moved_on b at_g.reads.own v g at_g.reads.moved)), seen_begins (trace g) (trace l) (moved_on b at_l.reads.own g l at_l.reads.moved)),
+    (seen_begins (trace p) (trace g) (begins_on (trace p) (trace v) (trace g)
+        (moved_on b in_v.reads.own p v in_v.reads.moved) (moved_on b at_g.reads.own v g at_g.reads.moved)),
+        seen_begins (trace g) (trace l) (moved_on b at_l.reads.own g l at_l.reads.moved)),
     one_moment b p v g l hit.place (item_word hit.item) third key value now info.version hit.deadline deadline_v before few valid found_v
-        (subst (λ s. 0 < inside (trace v) (number v) s) (segment_of_item hit.item) (is_inside b p v hit.item.seg in_v.reads)) at_g at_l (chained_later z (trace q) (trace l) hit.place lawful on at_q.0) (sym stands) same i.1 version,
+        (subst (λ s. 0 < inside (trace v) (number v) s) (segment_of_item hit.item)
+            (is_inside b p v hit.item.seg in_v.reads)) at_g at_l
+            (chained_later z (trace q) (trace l) hit.place lawful on at_q.0) (sym stands) same i.1 version,
   )
 
   pub is_seen : IsSeen b key now from tries hit value info third p l
@@ -124,11 +136,16 @@ module _ (b : Board) (key : List ℕ) (now from tries : ℕ) (hit : Hit) (value 
     place = place_later z key hit.place (trace q) (trace l) lawful on at_q;
     tried = subst (λ n. Attempts from n tries (hit.tries + 1) p l) same_at (attempts_once from (position z (trace q) hit.place) tries hit.tries p q l x.tried once);
     onward = subst (λ n. words_below from + tries ≤ words_below n + hit.tries) same_at x.onward;
-    brings = subst (λ n. AdvancesSearch z key from n (trace p) (trace l)) same_at (λ start here ahead. key_later z key (position z (trace q) hit.place) start (trace q) (trace l) lawful (begins_on start (trace p) (trace q) here up) on (x.brings start here ahead));
+    brings = subst (λ n. AdvancesSearch z key from n (trace p) (trace l)) same_at
+        (λ start here ahead. key_later z key (position z (trace q) hit.place) start (trace q) (trace l) lawful
+        (begins_on start (trace p) (trace q) here up) on (x.brings start here ahead));
     counted = counts_later z key tries hit.tries (trace p) x.found.found.saw.at (trace l) (begins_on x.found.found.saw.at (trace q) (trace l) x.found.found.saw.between.1 on) x.counted;
-    stood = (value, found_reads z hit.place (item_word hit.item) key value (trace p) (trace v) found_v hit.deadline deadline_v (trace l) (moved_on b from_v.reads.own v l from_v.reads.moved) now before);
+    stood = (value, found_reads z hit.place (item_word hit.item) key value (trace p) (trace v) found_v hit.deadline
+        deadline_v (trace l) (moved_on b from_v.reads.own v l from_v.reads.moved) now before);
     stands = stands;
-    glanced = λ held. let one = (set_reads b key v g info valid still_free glance held plain memo).1 in let before = glances_grow b in_v.reads.own p v c in_v.reads.moved in let after = glances_grow b at_l.reads.own g l c at_l.reads.moved in
+    glanced = λ held. let one = (set_reads b key v g info valid still_free glance held plain memo).1 in
+        let before = glances_grow b in_v.reads.own p v c in_v.reads.moved in
+        let after = glances_grow b at_l.reads.own g l c at_l.reads.moved in
         omega (arith, one, before, after);
     changed = one_more;
     version = one_version;
@@ -137,26 +154,36 @@ module _ (b : Board) (key : List ℕ) (now from tries : ℕ) (hit : Hit) (value 
 
 -- the chain ended
 pub ends_missed : (b : Board) (key : List ℕ) (now from tries : ℕ) (p q : Pass) → IsEnded b.shape key from tries p q → IsMissed b.shape key now from tries p q
-ends_missed b key now from tries p q x = record { missed = λ start here ahead. gone_reads b.shape key now start (trace q) (x.gone start here ahead); tried = attempts from 32 tries 63 p q x.tried; glances = scans_once p q x.tried.only_scans }
+ends_missed b key now from tries p q x = record { missed =
+    λ start here ahead. gone_reads b.shape key now start (trace q) (x.gone start here ahead);
+    tried = attempts from 32 tries 63 p q x.tried; glances = scans_once p q x.tried.only_scans }
 
 -- the deadline of what was found had come, and the pass left the segment
-pub expires_missed : (b : Board) (key : List ℕ) (now from tries : ℕ) (hit : Hit) (p q r : Pass) → IsReaderIn b p q hit.item.seg → IsHit b.shape key from tries hit p q → LeavesSegment b q r hit.item.seg → hit.deadline ≤ now
+pub expires_missed : (b : Board) (key : List ℕ) (now from tries : ℕ) (hit : Hit) (p q r : Pass)
+    → IsReaderIn b p q hit.item.seg → IsHit b.shape key from tries hit p q → LeavesSegment b q r hit.item.seg
+    → hit.deadline ≤ now
     → IsReader b p r × IsMissed b.shape key now from tries p r
 expires_missed b key now from tries hit p q r i x gone past =
     let z = b.shape in
     let at = position z (trace q) hit.place in
     let chained = (in_chain z (trace q) hit.place i.reads.moved.pass.lawful (hit_place z key from tries hit p q i.reads.moved.pass.lawful x).0).1 in
-    let read = found_expired z hit.place (item_word hit.item) key x.found.value (trace p) (trace q) x.found.found hit.deadline (by_word z hit.item hit.deadline (trace q) x.deadline) (trace r) (moved_on b _ q r gone.moved) now past in (
+    let read = found_expired z hit.place (item_word hit.item) key x.found.value (trace p) (trace q) x.found.found
+        hit.deadline (by_word z hit.item hit.deadline (trace q) x.deadline) (trace r) (moved_on b _ q r gone.moved)
+        now past in (
       leave_then b p q r hit.item.seg i gone,
       record {
         missed = λ start here ahead. (read.0, (begins_on (event.seen start) (seen p) read.0 (seen_begins start (trace p) here) read.1.0, read.1.1), read.2);
-        tried = attempts from 32 tries 63 p r (at_most from at 32 tries (hit.tries + 1) 63 p r (let few = x.few in let most = words_few at chained in omega (arith, few, most)) (tries_out from at tries (hit.tries + 1) p q r x.tried (leaves b hit.item.seg q r gone.moved)));
+        tried = attempts from 32 tries 63 p r (at_most from at 32 tries (hit.tries + 1) 63 p r (let few = x.few in
+            let most = words_few at chained in omega (arith, few, most))
+            (tries_out from at tries (hit.tries + 1) p q r x.tried (leaves b hit.item.seg q r gone.moved)));
         glances = glances_then p q r (scans_once p q x.tried.only_scans) (leaves b hit.item.seg q r gone.moved);
       },
     )
 
 -- with l after the third look, and r after it left the segment
-module _ (b : Board) (key : List ℕ) (now from tries : ℕ) (hit : Hit) (value : List ℕ) (info : Info) (third : ℕ) (p l r : Pass) (s : IsSeen b key now from tries hit value info third p l) (gone : LeavesSegment b l r hit.item.seg) where
+module _ (b : Board) (key : List ℕ) (now from tries : ℕ) (hit : Hit) (value : List ℕ) (info : Info) (third : ℕ)
+    (p l r : Pass) (s : IsSeen b key now from tries hit value info third p l)
+    (gone : LeavesSegment b l r hit.item.seg) where
   pub left : IsReader b p r
   left = leave_then b p l r hit.item.seg s.reads gone
 
@@ -183,7 +210,9 @@ module _ (b : Board) (key : List ℕ) (now from tries : ℕ) (hit : Hit) (value 
     disturbs = disturbs;
     tried = subst (λ n. Attempts from n tries (hit.tries + 1) p r) same_r (attempts_out from (position b.shape (trace l) hit.place) tries (hit.tries + 1) p l r s.tried out_r);
     glances = λ bucket. let one = glances_then p l r s.glances out_r bucket in let up = s.up in omega arith;
-    brings = subst (λ n. AdvancesSearch b.shape key from n (trace p) (trace r)) same_r (λ start here ahead. key_later b.shape key (position b.shape (trace l) hit.place) start (trace l) (trace r) lawful_r (begins_on start (trace p) (trace l) here to_l) to_r (s.brings start here ahead));
+    brings = subst (λ n. AdvancesSearch b.shape key from n (trace p) (trace r)) same_r
+        (λ start here ahead. key_later b.shape key (position b.shape (trace l) hit.place) start (trace l) (trace r)
+        lawful_r (begins_on start (trace p) (trace l) here to_l) to_r (s.brings start here ahead));
     onward = let on = s.onward in omega (arith, on, same_r);
   }
 
@@ -201,7 +230,9 @@ module _ (b : Board) (key : List ℕ) (now from tries : ℕ) (hit : Hit) (value 
     at = position b.shape (trace l) hit.place
 
     passed : HasPassed b.shape key at (at + 1) hit.place third (trace l) (trace r)
-    passed = passed_word b.shape key hit.place third tag (trace l) (trace l) (trace r) valid s.place ([], refl) (record { at = trace l; between = (([], refl), to_r); lawful = s.reads.reads.moved.pass.lawful; stood = sym s.stands }) is other
+    passed = passed_word b.shape key hit.place third tag (trace l) (trace l) (trace r) valid s.place ([], refl)
+        (record { at = trace l; between = (([], refl), to_r); lawful = s.reads.reads.moved.pass.lawful;
+        stood = sym s.stands }) is other
 
     in' : (0 < at % 8) × (at < 32)
     in' = in_chain b.shape (trace l) hit.place s.reads.reads.moved.pass.lawful s.place.0
@@ -213,7 +244,8 @@ module _ (b : Board) (key : List ℕ) (now from tries : ℕ) (hit : Hit) (value 
           few = let few = s.few in omega arith;
           place = n.place;
           disturbs = by_entries b key now tries hit.tries p r left (counts_later b.shape key tries hit.tries (trace p) (trace l) (trace r) to_r s.counted);
-          tried = attempts_at_most from at (position b.shape (trace r) next) tries (hit.tries + 1) hit.tries p r (omega (arith, words)) (attempts_out from at tries (hit.tries + 1) p l r s.tried out_r);
+          tried = attempts_at_most from at (position b.shape (trace r) next) tries (hit.tries + 1) hit.tries p r
+              (omega (arith, words)) (attempts_out from at tries (hit.tries + 1) p l r s.tried out_r);
           glances = λ bucket. let none = s.unset clear bucket in let left = glances_none l r out_r.1 bucket in let up = s.up in omega arith;
           brings = λ start here ahead. n.brings start (begins_on start (trace p) (trace l) here to_l) (s.brings start here ahead);
           onward = let on = s.onward in omega (arith, on, words);
@@ -229,13 +261,18 @@ module _ (b : Board) (key : List ℕ) (now from tries : ℕ) (hit : Hit) (value 
     ends_past after = record {
       missed = λ start here ahead. gone_reads b.shape key now start (trace r)
           (end_of b.shape key hit.place at third (trace l) (trace r) valid lawful_r s.place passed after start (begins_on start (trace p) (trace l) here to_l) (s.brings start here ahead));
-      tried = attempts_at_most from at 32 tries (hit.tries + 1) 63 p r (let few = s.few in let most = words_few at in'.1 in omega (arith, few, most)) (attempts_out from at tries (hit.tries + 1) p l r s.tried out_r);
+      tried = attempts_at_most from at 32 tries (hit.tries + 1) 63 p r (let few = s.few in
+          let most = words_few at in'.1 in omega (arith, few, most))
+          (attempts_out from at tries (hit.tries + 1) p l r s.tried out_r);
       glances = glances_then p l r s.glances out_r;
     }
 
 -- a hit: with l after the third look, t after it was counted, and r after the pass left the segment
-module _ (b : Board) (key : List ℕ) (now from tries draw : ℕ) (hit : Hit) (value : List ℕ) (info : Info) (third : ℕ) (p l t r : Pass) (s : IsSeen b key now from tries hit value info third p l) (clear : info.held ≡ false) (same : IsSameItem (item_word hit.item) third)
-    (counted : IsReader b l t) (out : count entered t ≡ count entered l) (unset : GlancesNothing l t) (raises : RaisesFrom b.shape key value draw (trace p) l t) (gone : LeavesSegment b t r hit.item.seg) where
+module _ (b : Board) (key : List ℕ) (now from tries draw : ℕ) (hit : Hit) (value : List ℕ) (info : Info) (third : ℕ)
+    (p l t r : Pass) (s : IsSeen b key now from tries hit value info third p l) (clear : info.held ≡ false)
+    (same : IsSameItem (item_word hit.item) third)
+    (counted : IsReader b l t) (out : count entered t ≡ count entered l) (unset : GlancesNothing l t)
+        (raises : RaisesFrom b.shape key value draw (trace p) l t) (gone : LeavesSegment b t r hit.item.seg) where
   in_t : IsReaderIn b p t hit.item.seg
   in_t = then_reader b p l t hit.item.seg s.reads counted
 
@@ -249,7 +286,12 @@ module _ (b : Board) (key : List ℕ) (now from tries draw : ℕ) (hit : Hit) (v
       × GlancesOnce p r
   hit_told = let x = s.version clear same in let away = leaves b hit.item.seg t r gone.moved in (
     (x.0, (x.1.0, begins_on x.0 (seen l) (seen r) x.1.1 (seen_begins (trace l) (trace r) to_end)), x.2),
-    hit_raises b key value draw p l t r s.reads.reads.moved.same (moved_on b s.reads.reads.own p l s.reads.reads.moved) (moved_on b _ t r gone.moved) s.tried.raises_nothing raises (raises_none t r away.1),
-    (let few = s.few in let came = s.tried.comes_in in let most = words_few (position b.shape (trace l) hit.place) (in_chain b.shape (trace l) hit.place s.reads.reads.moved.pass.lawful s.place.0).1 in let none = away.0 in omega (arith, few, came, most, out, none)),
+    hit_raises b key value draw p l t r s.reads.reads.moved.same
+        (moved_on b s.reads.reads.own p l s.reads.reads.moved) (moved_on b _ t r gone.moved) s.tried.raises_nothing
+        raises (raises_none t r away.1),
+    (let few = s.few in let came = s.tried.comes_in in
+        let most = words_few (position b.shape (trace l) hit.place)
+        (in_chain b.shape (trace l) hit.place s.reads.reads.moved.pass.lawful s.place.0).1 in let none = away.0 in
+        omega (arith, few, came, most, out, none)),
     (λ bucket. let looks = s.glances bucket in let hit_none = unset bucket in let none = glances_none t r away.1 bucket in omega (arith, looks, hit_none, none)),
   )

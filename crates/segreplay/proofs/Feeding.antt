@@ -1,5 +1,6 @@
 -- A trace that is read byte by byte.
-use Rattle.std.proofs.Common.{◌≡◌, ◌≢◌, ◌≤◌, ◌<◌, ◌+◌, ℕ, List, [], ◌∷◌, ◌++◌, length, take, drop, get_or, false, Result, Ok, Err, refl, sym, ap, subst, ◌∙◌, inl, inr, append_assoc, append-nil, arith, length-append}
+use Rattle.std.proofs.Common.{◌≡◌, ◌≢◌, ◌≤◌, ◌<◌, ◌+◌, ℕ, List, [], ◌∷◌, ◌++◌, length, take, drop, get_or, false,
+    Result, Ok, Err, refl, sym, ap, subst, ◌∙◌, inl, inr, append_assoc, append-nil, arith, length-append}
 use Rattle.std.specs.List.{flat_map}
 use Rattle.std.proofs.lemmas.List.{take_more, take-append-drop}
 use Rattle.segclient.specs.Counting.{with_more}
@@ -22,11 +23,15 @@ use Rattle.segreplay.specs.Lines.{form_after, stated}
 use Rattle.segreplay.specs.Replays.{is_read_end}
 use Rattle.segreplay.specs.Traces.{EndsBad, EndsEarly, EndsTrace, Feeds, HasRead, line_after, number_after, requests_in, State, TakesCommand, TakesLine, TakesStated, turn_of, turns_from}
 
-state_more : (form last : Form) (lines : List (List ℕ)) (line : List ℕ) (rs : List Request) (said : Stated) → State form lines rs last → stated last line ≡ Ok said → State form (lines ++ line ∷ []) (rs ++ requests_in said) (form_after last said)
+state_more : (form last : Form) (lines : List (List ℕ)) (line : List ℕ) (rs : List Request) (said : Stated)
+    → State form lines rs last → stated last line ≡ Ok said
+    → State form (lines ++ line ∷ []) (rs ++ requests_in said) (form_after last said)
 state_more form last [] line rs said was one =
     (said, [], subst (λ f. stated f line ≡ Ok said) was.1 one, (refl, ap (λ f. form_after f said) was.1), ap (λ l. l ++ requests_in said) was.0 ∙ sym (append-nil (requests_in said)))
 state_more form last (l ∷ lines) line rs said was one =
-    (was.0, was.1 ++ requests_in said, was.2, state_more (form_after form was.0) last lines line was.1 said was.3 one, ap (λ l. l ++ requests_in said) was.4 ∙ append_assoc (requests_in was.0) was.1 (requests_in said))
+    (was.0, was.1 ++ requests_in said, was.2,
+        state_more (form_after form was.0) last lines line was.1 said was.3 one,
+        ap (λ l. l ++ requests_in said) was.4 ∙ append_assoc (requests_in was.0) was.1 (requests_in said))
 
 turns_more : (rules : Rules) (number : ℕ) (rs more : List Request) → turns_from rules number (rs ++ more) ≡ turns_from rules number rs ++ turns_from rules (number_after number rs) more
 turns_more rules number [] more = refl
@@ -41,7 +46,9 @@ line_more number [] line = refl
 line_more number (l ∷ lines) line = line_more (with_more number 1) lines line
 
 -- the turns after a line
-turns_taken : (rules : Rules) (made old new : List Turn) (rs more : List Request) (number : ℕ) → made ++ old ≡ turns_from rules 0 rs → number ≡ number_after 0 rs → new ≡ old ++ turns_from rules number more → made ++ new ≡ turns_from rules 0 (rs ++ more)
+turns_taken : (rules : Rules) (made old new : List Turn) (rs more : List Request) (number : ℕ)
+    → made ++ old ≡ turns_from rules 0 rs → number ≡ number_after 0 rs → new ≡ old ++ turns_from rules number more
+    → made ++ new ≡ turns_from rules 0 (rs ++ more)
 turns_taken rules made old new rs more number was at took =
     ap (λ l. made ++ l) took
     ∙ sym (append_assoc made old (turns_from rules number more))
@@ -74,7 +81,8 @@ module _ (rules : Rules) (seen : List ℕ) (made : List Turn) (old new : Reading
     made = kept same;
   }
 
-  bad : (more : List ℕ) (n : ℕ) (why : LineFault) → n ≡ old.number → stated old.form old.line.items ≡ Err why → new.turns.items ≡ old.turns.items → EndsBad rules (seen ++ more) (made ++ new.turns.items) n why
+  bad : (more : List ℕ) (n : ℕ) (why : LineFault) → n ≡ old.number → stated old.form old.line.items ≡ Err why
+      → new.turns.items ≡ old.turns.items → EndsBad rules (seen ++ more) (made ++ new.turns.items) n why
   bad more n why at none same = record {
     form = old.form;
     lines = here.lines;
@@ -91,7 +99,8 @@ module _ (rules : Rules) (seen : List ℕ) (made : List Turn) (old new : Reading
   }
 
   -- the lines with the one that has ended now
-  stated_now : (said : Stated) → stated old.form old.line.items ≡ Ok said → new.form ≡ form_after old.form said → State rules.form (here.lines ++ old.line.items ∷ []) (here.requests ++ requests_in said) new.form
+  stated_now : (said : Stated) → stated old.form old.line.items ≡ Ok said → new.form ≡ form_after old.form said
+      → State rules.form (here.lines ++ old.line.items ∷ []) (here.requests ++ requests_in said) new.form
   stated_now said one after =
       subst (State rules.form (here.lines ++ old.line.items ∷ []) (here.requests ++ requests_in said)) (sym after)
       (state_more rules.form old.form here.lines old.line.items here.requests said here.states one)
@@ -131,7 +140,9 @@ module _ (rules : Rules) (seen : List ℕ) (made : List Turn) (old new : Reading
   line_ended (Err fault.TooLong) took = absurd took
 
   -- a byte of a line
-  pub byte_kept : (byte : ℕ) → byte ≢ 10 → length old.line.items < 4096 → new.rules ≡ old.rules → new.form ≡ old.form → new.line.items ≡ old.line.items ++ byte ∷ [] → new.turns.items ≡ old.turns.items → new.commands ≡ old.commands → new.number ≡ old.number → HasRead rules (seen ++ byte ∷ []) made new
+  pub byte_kept : (byte : ℕ) → byte ≢ 10 → length old.line.items < 4096 → new.rules ≡ old.rules
+      → new.form ≡ old.form → new.line.items ≡ old.line.items ++ byte ∷ [] → new.turns.items ≡ old.turns.items
+      → new.commands ≡ old.commands → new.number ≡ old.number → HasRead rules (seen ++ byte ∷ []) made new
   byte_kept byte other room equal form line turns commands number = record {
     lines = here.lines;
     requests = here.requests;
@@ -218,12 +229,16 @@ fault_ends rules seen made new fault.Read fed = absurd fed
 fault_ends rules seen made new fault.TooLong fed = absurd fed
 
 -- the next byte of some
-pub fed_on : (rules : Rules) (seen : List ℕ) (made : List Turn) (bytes : List ℕ) (i : ℕ) (new : Reading) → i < length bytes → HasRead rules ((seen ++ take i bytes) ++ get_or bytes i 0 ∷ []) made new → HasRead rules (seen ++ take (i + 1) bytes) made new
+pub fed_on : (rules : Rules) (seen : List ℕ) (made : List Turn) (bytes : List ℕ) (i : ℕ) (new : Reading)
+    → i < length bytes → HasRead rules ((seen ++ take i bytes) ++ get_or bytes i 0 ∷ []) made new
+    → HasRead rules (seen ++ take (i + 1) bytes) made new
 fed_on rules seen made bytes i new below fed =
     subst (λ s. HasRead rules s made new) (next_byte seen bytes i below) fed
 
 -- a fault at one of some
-pub fault_within : (rules : Rules) (seen : List ℕ) (made : List Turn) (bytes : List ℕ) (i : ℕ) (new : Reading) (f : TraceFault) → i < length bytes → Feeds rules ((seen ++ take i bytes) ++ get_or bytes i 0 ∷ []) made new (Err f) → Feeds rules (seen ++ bytes) made new (Err f)
+pub fault_within : (rules : Rules) (seen : List ℕ) (made : List Turn) (bytes : List ℕ) (i : ℕ) (new : Reading)
+    (f : TraceFault) → i < length bytes → Feeds rules ((seen ++ take i bytes) ++ get_or bytes i 0 ∷ []) made new
+    (Err f) → Feeds rules (seen ++ bytes) made new (Err f)
 fault_within rules seen made bytes i new f below fed =
     subst (λ s. Feeds rules s made new (Err f))
     (append_assoc seen (take (i + 1) bytes) (drop (i + 1) bytes) ∙ ap (λ b. seen ++ b) (take-append-drop (i + 1) bytes))

@@ -1,5 +1,7 @@
 -- Players, caches and totals, place by place.
-use Rattle.std.proofs.Common.{◌≡◌, ◌<◌, ◌+◌, ◌-◌, ℕ, zero, suc, List, [], ◌∷◌, ◌++◌, get_or, length, drop, slice_index_or, refl, sym, ap, subst, ◌∙◌, take, add-one, arith, append_assoc, append-nil, drop-cons, OnOk, Result, Ok, Err}
+use Rattle.std.proofs.Common.{◌≡◌, ◌<◌, ◌+◌, ◌-◌, ℕ, zero, suc, List, [], ◌∷◌, ◌++◌, get_or, length, drop,
+    slice_index_or, refl, sym, ap, subst, ◌∙◌, take, add-one, arith, append_assoc, append-nil, drop-cons, OnOk,
+    Result, Ok, Err}
 use Rattle.std.proofs.lemmas.List.{map-append, take_all, take_more}
 use Rattle.std.proofs.Math.Seq.{drop-length}
 use Rattle.std.specs.List.{AllZip}
@@ -47,7 +49,9 @@ on_ok (Ok v) holds = holds
 on_ok (Err f) holds = tt
 
 -- one size more
-pub size_more : (p : Policy) (shape : Shape) (caches all : List Cache) (sizes size : ℕ) → size < sizes → caches ++ sizes_of p shape (sizes - size) ≡ all → (caches ++ record { policy = p; shape = shape } ∷ []) ++ sizes_of p (half_of shape) (sizes - (size + 1)) ≡ all
+pub size_more : (p : Policy) (shape : Shape) (caches all : List Cache) (sizes size : ℕ) → size < sizes
+    → caches ++ sizes_of p shape (sizes - size) ≡ all
+    → (caches ++ record { policy = p; shape = shape } ∷ []) ++ sizes_of p (half_of shape) (sizes - (size + 1)) ≡ all
 size_more p shape caches all sizes size below was =
     let cache : Cache = record { policy = p; shape = shape } in
     let left : suc (sizes - (size + 1)) ≡ sizes - size = omega arith in
@@ -61,7 +65,9 @@ no_cache = record {
 }
 
 -- one cache more
-pub dealt_more : (dealt : List Dealt) (d : Dealt) (caches : List Cache) (i : ℕ) (cache : Cache) → i < length caches → d.cache ≡ get_or caches i cache → caches_in dealt ≡ take i caches → caches_in (dealt ++ d ∷ []) ≡ take (i + 1) caches
+pub dealt_more : (dealt : List Dealt) (d : Dealt) (caches : List Cache) (i : ℕ) (cache : Cache) → i < length caches
+    → d.cache ≡ get_or caches i cache → caches_in dealt ≡ take i caches
+    → caches_in (dealt ++ d ∷ []) ≡ take (i + 1) caches
 dealt_more dealt d caches i cache below is was =
     map-append (λ (e : Dealt). e.cache) dealt (d ∷ [])
     ∙ ap (λ l. l ++ d.cache ∷ []) was

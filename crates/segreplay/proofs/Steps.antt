@@ -14,6 +14,8 @@ pub plays_one : (turns : List Turn) (turn : Turn) (old between new : Player) →
 plays_one turns turn old between new one then = plays_on turns (turn ∷ []) old between new one (new, then, refl)
 
 -- the next of a list of commands
-pub plays_next : (turns : List Turn) (i : ℕ) (turn : Turn) (old between new : Player) → i < length turns → turn ≡ get_or turns i turn → Plays (take i turns) old between → TakesOwn turn between new → Plays (take (i + 1) turns) old new
+pub plays_next : (turns : List Turn) (i : ℕ) (turn : Turn) (old between new : Player) → i < length turns
+    → turn ≡ get_or turns i turn → Plays (take i turns) old between → TakesOwn turn between new
+    → Plays (take (i + 1) turns) old new
 plays_next turns i turn old between new below is one then =
     rw (take_more turns i turn below) (plays_one (take i turns) (get_or turns i turn) old between new one (subst (λ t. TakesOwn t between new) is then))

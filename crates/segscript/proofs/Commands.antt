@@ -104,14 +104,22 @@ turn_read passes verbs.Lock ws says = let a = more passes part.Key [] ws says in
 turn_read passes verbs.Unlock ws says = (Unlock, (tt, refl), last passes ws says)
 
 pub turn_says : (passes : ℕ) (t : Turn) → IsWritable t → SaysAll passes (argument_parts (verb t)) (arguments_of t)
-turn_says passes (Serve (Refill n d)) fits = both passes part.Segment (part.Deadline ∷ []) (decimal n) (decimal d ∷ []) (n, fits.0, refl) (both passes part.Deadline [] (decimal d) [] (d, fits.1, refl) (no_more passes))
+turn_says passes (Serve (Refill n d)) fits =
+    both passes part.Segment (part.Deadline ∷ []) (decimal n) (decimal d ∷ []) (n, fits.0, refl)
+    (both passes part.Deadline [] (decimal d) [] (d, fits.1, refl) (no_more passes))
 turn_says passes (Serve (Evict n)) fits = both passes part.Segment [] (decimal n) [] (n, fits, refl) (no_more passes)
-turn_says passes (Serve (Keep n c)) fits = both passes part.Segment (part.Cutoff ∷ []) (decimal n) (decimal c ∷ []) (n, fits.0, refl) (both passes part.Cutoff [] (decimal c) [] (c, fits.1, refl) (no_more passes))
+turn_says passes (Serve (Keep n c)) fits =
+    both passes part.Segment (part.Cutoff ∷ []) (decimal n) (decimal c ∷ []) (n, fits.0, refl)
+    (both passes part.Cutoff [] (decimal c) [] (c, fits.1, refl) (no_more passes))
 turn_says passes (Serve (Write (Set k v m))) fits = triple_fits passes k v m fits
 turn_says passes (Serve (Write (Add k v m))) fits = triple_fits passes k v m fits
 turn_says passes (Serve (Write (Replace k v m))) fits = triple_fits passes k v m fits
 turn_says passes (Serve (Write (Cas k v n m))) fits =
-    both passes part.Key (part.Value ∷ part.Version ∷ part.Moment ∷ []) (k) (value_word v ∷ decimal n ∷ moment_word m ∷ []) fits.0 (both passes part.Value (part.Version ∷ part.Moment ∷ []) (value_word v) (decimal n ∷ moment_word m ∷ []) (v, fits.1, refl) (both passes part.Version (part.Moment ∷ []) (decimal n) (moment_word m ∷ []) (n, fits.2, refl) (both passes part.Moment [] (moment_word m) [] (m, fits.3, refl) (no_more passes))))
+    both passes part.Key (part.Value ∷ part.Version ∷ part.Moment ∷ []) (k)
+        (value_word v ∷ decimal n ∷ moment_word m ∷ []) fits.0
+        (both passes part.Value (part.Version ∷ part.Moment ∷ []) (value_word v) (decimal n ∷ moment_word m ∷ [])
+        (v, fits.1, refl) (both passes part.Version (part.Moment ∷ []) (decimal n) (moment_word m ∷ []) (n, fits.2,
+        refl) (both passes part.Moment [] (moment_word m) [] (m, fits.3, refl) (no_more passes))))
 turn_says passes (Serve (Write (Delete k m))) fits = pair_fits passes k m fits
 turn_says passes (Serve (Get k m)) fits = pair_fits passes k m fits
 turn_says passes (Serve (Gets k m)) fits = pair_fits passes k m fits

@@ -1,7 +1,8 @@
 -- What was taken so far, one write on; and how often a reader handed out nothing.
 use Rattle.std.proofs.Math.Dec.{eqb-suc-zero}
 use Rattle.std.proofs.lemmas.Bool.{true≢false}
-use Rattle.std.proofs.Common.{Err, Ok, Result, cond, inl, inr, ap, refl, sym, ◌∙◌, Bool, ◌∷◌, arith, zero, suc, ◌≤◌, ◌<◌, eqb, false, ◌≡◌, ℕ, List, [], ◌++◌, length, take, drop, append_assoc, append-nil}
+use Rattle.std.proofs.Common.{Err, Ok, Result, cond, inl, inr, ap, refl, sym, ◌∙◌, Bool, ◌∷◌, arith, zero, suc, ◌≤◌,
+    ◌<◌, eqb, false, ◌≡◌, ℕ, List, [], ◌++◌, length, take, drop, append_assoc, append-nil}
 use Rattle.std.proofs.lemmas.List.{take-append-drop}
 use Rattle.segmodel.specs.Words.{Outcome}
 use Rattle.segscript.specs.Spelling.{PassTurn}
@@ -58,7 +59,9 @@ unended_still before ends (fault.Line n) none = inl none
 unended_still before ends (fault.Make f) none = none
 
 -- once it has, the last line is all that is left
-pub ended_once : (passes : ℕ) {S : Type 0} (step : S → PassTurn → Outcome → S → Type 0) (start end : S) (Wrote : List ℕ → Type 0) (flushes flushes' : ℕ) (seen told : List ℕ) (before ends : ℕ) (result : Result (Unit {0}) RunFault)
+pub ended_once : (passes : ℕ) {S : Type 0} (step : S → PassTurn → Outcome → S
+    → Type 0) (start end : S) (Wrote : List ℕ → Type 0) (flushes flushes' : ℕ) (seen told : List ℕ)
+    (before ends : ℕ) (result : Result (Unit {0}) RunFault)
     → ends ≡ one_more before → FinishOutcome passes step start end Wrote flushes flushes' seen told result → EndsOnce before ends result
 ended_once passes step start end Wrote flushes flushes' seen told before ends (Ok u) once out = once
 ended_once passes step start end Wrote flushes flushes' seen told before ends (Err (fault.Line n)) once out = inr once

@@ -88,7 +88,9 @@ module _ (passes : ℕ) {S T : Type 0} (step : S → PassTurn → Outcome → S 
         unbroken = off.unbroken;
         known = off.known;
         earlier = serves_as old kept off.state off.lines off.told off.earlier;
-        served = serves_as off.state (serving_keeps passes step KeepsLaw (λ a b t r law took. (each a b t r law took).0) old kept off.state off.lines off.told off.earlier) new (off.line ∷ []) off.reply off.served;
+        served = serves_as off.state (serving_keeps passes step KeepsLaw
+            (λ a b t r law took. (each a b t r law took).0) old kept off.state off.lines off.told off.earlier) new
+            (off.line ∷ []) off.reply off.served;
         begins = off.begins;
         written = off.written;
       }
@@ -151,7 +153,8 @@ module _ (old new : Server) (Read : List ℕ → Type 0) (Ends : Type 0) (Wrote 
     -- over the same index
     pub same_index : is_make_fault result ≡ false → new.index.now ≡ old.index.now
     same_index =
-        ends_keep (shape_of old.index.now).passes TurnsOne (λ (s : Server). s.index.now ≡ old.index.now) (λ (a b : Server) t r same one. one.index ∙ same) old new refl Read Ends Wrote before flushes result out
+        ends_keep (shape_of old.index.now).passes TurnsOne (λ (s : Server). s.index.now ≡ old.index.now)
+            (λ (a b : Server) t r same one. one.index ∙ same) old new refl Read Ends Wrote before flushes result out
 
 -- ---- of an index that was just made, whose shape is known under another name
 
@@ -162,9 +165,13 @@ module _ (shape : Shape) (Read : List ℕ → Type 0) (Ends : Type 0) (Wrote : L
 
   pub passes_end : (index : Index) (start end : List Pass) → IsNew shape index start → (result : Result (Unit {0}) RunFault)
       → EndOfRun (shape_of index).passes (OneTakes (board_of index)) start end Read Ends Wrote before flushes result → EachTurn shape Read Ends Wrote before flushes result
-  passes_end index start end new result out = by result (subst (λ n. EndOfRun n (OneTakes (board_of index)) start end Read Ends Wrote before flushes result) (ap (λ (s : Shape). s.passes) new.made.of) out)
+  passes_end index start end new result out =
+      by result (subst (λ n. EndOfRun n (OneTakes (board_of index)) start end Read Ends Wrote before flushes result)
+      (ap (λ (s : Shape). s.passes) new.made.of) out)
     where
-      by : (result : Result (Unit {0}) RunFault) → EndOfRun shape.passes (OneTakes (board_of index)) start end Read Ends Wrote before flushes result → EachTurn shape Read Ends Wrote before flushes result
+      by : (result : Result (Unit {0}) RunFault)
+          → EndOfRun shape.passes (OneTakes (board_of index)) start end Read Ends Wrote before flushes result
+          → EachTurn shape Read Ends Wrote before flushes result
       by (Ok u) out = (index, start, end, new, out)
       by (Err fault.Read) out = (index, start, end, new, out)
       by (Err fault.Write) out = (index, start, end, new, out)

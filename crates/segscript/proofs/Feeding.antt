@@ -9,7 +9,9 @@ use Rattle.segscript.specs.Words.{RunFault}
 use Rattle.segscript.specs.declared.fault.RunFault.TheVariants as fault
 
 -- what is known of the line doesn't change where the end is known in another way
-pub seen_bad_where : (passes : ℕ) {S : Type 0} (step : S → PassTurn → Outcome → S → Type 0) (start end : S) (seen text : List ℕ) (n : ℕ) (Ends Is : Type 0) → (Ends → Is) → IsSeenBad passes step start end Ends seen text n → IsSeenBad passes step start end Is seen text n
+pub seen_bad_where : (passes : ℕ) {S : Type 0} (step : S → PassTurn → Outcome → S
+    → Type 0) (start end : S) (seen text : List ℕ) (n : ℕ) (Ends Is : Type 0) → (Ends → Is)
+    → IsSeenBad passes step start end Ends seen text n → IsSeenBad passes step start end Is seen text n
 seen_bad_where passes step start end seen text n Ends Is is bad = record {
   lines = bad.lines;
   bad = bad.bad;
@@ -28,7 +30,9 @@ seen_bad_where passes step start end seen text n Ends Is is bad = record {
 }
 
 -- later bytes don't change what the first bad line is
-seen_bad_more : (passes : ℕ) {S : Type 0} (step : S → PassTurn → Outcome → S → Type 0) (start end : S) (seen more text : List ℕ) (n : ℕ) → IsSeenBad passes step start end ⊥ seen text n → IsSeenBad passes step start end ⊥ (seen ++ more) text n
+seen_bad_more : (passes : ℕ) {S : Type 0} (step : S → PassTurn → Outcome → S
+    → Type 0) (start end : S) (seen more text : List ℕ) (n : ℕ) → IsSeenBad passes step start end ⊥ seen text n
+    → IsSeenBad passes step start end ⊥ (seen ++ more) text n
 seen_bad_more passes step start end seen more text n bad = record {
   lines = bad.lines;
   bad = bad.bad;
@@ -47,7 +51,9 @@ seen_bad_more passes step start end seen more text n bad = record {
 }
 
 -- nor is the line another whose reply was cut short
-pub stops_where : (passes : ℕ) {S : Type 0} (step : S → PassTurn → Outcome → S → Type 0) (start end : S) (seen part : List ℕ) (Ends Is : Type 0) → (Ends → Is) → StopsWriting passes step start end Ends seen part → StopsWriting passes step start end Is seen part
+pub stops_where : (passes : ℕ) {S : Type 0} (step : S → PassTurn → Outcome → S
+    → Type 0) (start end : S) (seen part : List ℕ) (Ends Is : Type 0) → (Ends → Is)
+    → StopsWriting passes step start end Ends seen part → StopsWriting passes step start end Is seen part
 stops_where passes step start end seen part Ends Is is off = record {
   lines = off.lines;
   line = off.line;
@@ -69,7 +75,9 @@ stops_where passes step start end seen part Ends Is is off = record {
   written = off.written;
 }
 
-stops_more : (passes : ℕ) {S : Type 0} (step : S → PassTurn → Outcome → S → Type 0) (start end : S) (seen more part : List ℕ) → StopsWriting passes step start end ⊥ seen part → StopsWriting passes step start end ⊥ (seen ++ more) part
+stops_more : (passes : ℕ) {S : Type 0} (step : S → PassTurn → Outcome → S
+    → Type 0) (start end : S) (seen more part : List ℕ) → StopsWriting passes step start end ⊥ seen part
+    → StopsWriting passes step start end ⊥ (seen ++ more) part
 stops_more passes step start end seen more part off = record {
   lines = off.lines;
   line = off.line;
@@ -92,13 +100,19 @@ stops_more passes step start end seen more part off = record {
 }
 
 -- these bytes were fed after seen, and what was written came after told
-pub record Fed (passes : ℕ) {S : Type 0} (step : S → PassTurn → Outcome → S → Type 0) (start : S) {W : Type 0} (takes : W → List ℕ → W → Type 0) (old : W) (seen told bytes : List ℕ) (new : W) (state : S) (line : List ℕ) (number : ℕ) : Type 0 where
+pub record Fed (passes : ℕ) {S : Type 0} (step : S → PassTurn → Outcome → S
+    → Type 0) (start : S) {W : Type 0} (takes : W → List ℕ → W → Type 0) (old : W) (seen told bytes : List ℕ)
+    (new : W) (state : S) (line : List ℕ) (number : ℕ) : Type 0 where
   pub text : List ℕ
   pub took : takes old text new
   pub here : HasServed passes step start state (seen ++ bytes) (told ++ text) line number
 
-module _ (passes : ℕ) {S : Type 0} (step : S → PassTurn → Outcome → S → Type 0) (start : S) {W : Type 0} (takes : W → List ℕ → W → Type 0) (more : (s t u : W) (a b : List ℕ) → takes s a t → takes t b u → takes s (a ++ b) u) where
-  pub fed_none : (old : W) (seen told : List ℕ) (state : S) (line : List ℕ) (number : ℕ) → takes old [] old → HasServed passes step start state seen told line number → Fed passes step start takes old seen told [] old state line number
+module _ (passes : ℕ) {S : Type 0} (step : S → PassTurn → Outcome → S → Type 0) (start : S) {W : Type 0} (takes : W
+    → List ℕ → W → Type 0) (more : (s t u : W) (a b : List ℕ) → takes s a t → takes t b u
+    → takes s (a ++ b) u) where
+  pub fed_none : (old : W) (seen told : List ℕ) (state : S) (line : List ℕ) (number : ℕ) → takes old [] old
+      → HasServed passes step start state seen told line number
+      → Fed passes step start takes old seen told [] old state line number
   fed_none old seen told state line number none here = record { text = []; took = none; here = rw (append-nil, append-nil) here }
 
   pub fed_more : (old mid new : W) (seen told bytes : List ℕ) (b : ℕ) (state state' : S) (line line' : List ℕ) (number number' : ℕ) (longer : List ℕ)
@@ -122,12 +136,16 @@ module _ (passes : ℕ) {S : Type 0} (step : S → PassTurn → Outcome → S �
   fault_later old mid new seen told bytes b rest all state state' line line' number number' (fault.Line n) fed same out = (
     fed.text ++ out.0,
     more old mid new fed.text out.0 fed.took out.1,
-    rw (same, ← append_assoc told fed.text out.0, ← append_assoc seen (bytes ++ b ∷ []) rest, ← append_assoc seen bytes (b ∷ [])) (seen_bad_more passes step start state' ((seen ++ bytes) ++ b ∷ []) rest _ n out.2),
+    rw (same, ← append_assoc told fed.text out.0, ← append_assoc seen (bytes ++ b ∷ []) rest,
+        ← append_assoc seen bytes (b ∷ [])) (seen_bad_more passes step start state' ((seen ++ bytes) ++ b ∷ []) rest
+        _ n out.2),
   )
   fault_later old mid new seen told bytes b rest all state state' line line' number number' fault.Write fed same out = (
     fed.text ++ out.0,
     more old mid new fed.text out.0 fed.took out.1,
-    rw (same, ← append_assoc told fed.text out.0, ← append_assoc seen (bytes ++ b ∷ []) rest, ← append_assoc seen bytes (b ∷ [])) (stops_more passes step start state' ((seen ++ bytes) ++ b ∷ []) rest _ out.2),
+    rw (same, ← append_assoc told fed.text out.0, ← append_assoc seen (bytes ++ b ∷ []) rest,
+        ← append_assoc seen bytes (b ∷ [])) (stops_more passes step start state' ((seen ++ bytes) ++ b ∷ []) rest _
+        out.2),
   )
 
 -- the bytes before, the byte at i and those behind it
@@ -135,7 +153,9 @@ pub cut_at : (bytes : List ℕ) (i : ℕ) → i < length bytes → bytes ≡ (ta
 cut_at bytes i within = sym (take-append-drop i bytes) ∙ ap (λ r. take i bytes ++ r) (drop_more bytes i 0 within) ∙ sym (append_assoc (take i bytes) (get_or bytes i 0 ∷ []) (drop (i + 1) bytes))
 
 -- what became of bytes that were fed, where the number of passes is known under another name
-pub at_passes : (passes passes' : ℕ) → passes' ≡ passes → {S : Type 0} (step : S → PassTurn → Outcome → S → Type 0) (start state state' : S) (Wrote : List ℕ → Type 0) (line line' : List ℕ) (number number' : ℕ) (bytes : List ℕ) (result : Result (Unit {0}) RunFault)
+pub at_passes : (passes passes' : ℕ) → passes' ≡ passes
+    → {S : Type 0} (step : S → PassTurn → Outcome → S → Type 0) (start state state' : S) (Wrote : List ℕ
+    → Type 0) (line line' : List ℕ) (number number' : ℕ) (bytes : List ℕ) (result : Result (Unit {0}) RunFault)
     → ((start : S) (seen told : List ℕ) → HasServed passes' step start state seen told line number → FeedOutcome passes' step start state' Wrote (seen ++ bytes) told line' number' result)
     → (seen told : List ℕ) → HasServed passes step start state seen told line number → FeedOutcome passes step start state' Wrote (seen ++ bytes) told line' number' result
 at_passes passes passes' same {S} step start state state' Wrote line line' number number' bytes result outcome =

@@ -11,7 +11,9 @@ use Rattle.segscript.proofs.LineLemmas.{reached, at_start}
 use Rattle.segscript.proofs.Feeding.{seen_bad_where, stops_where}
 
 -- these bytes came, and this text was written
-pub record Going (passes : ℕ) {S : Type 0} (step : S → PassTurn → Outcome → S → Type 0) (start state : S) {R W : Type 0} (hands : R → List ℕ → R → Type 0) (takes : W → List ℕ → W → Type 0) (from reader : R) (to writer : W) (total : ℕ) (line : List ℕ) (number : ℕ) : Type 0 where
+pub record Going (passes : ℕ) {S : Type 0} (step : S → PassTurn → Outcome → S
+    → Type 0) (start state : S) {R W : Type 0} (hands : R → List ℕ → R → Type 0) (takes : W → List ℕ → W
+    → Type 0) (from reader : R) (to writer : W) (total : ℕ) (line : List ℕ) (number : ℕ) : Type 0 where
   pub seen : List ℕ
   pub told : List ℕ
   pub came : hands from seen reader
@@ -20,7 +22,8 @@ pub record Going (passes : ℕ) {S : Type 0} (step : S → PassTurn → Outcome 
   pub counted : length seen ≡ total
 
 -- as many bytes are asked for as there is room
-pub asked : (piece buffer : List ℕ) (total room : ℕ) → length piece ≡ 4096 → room ≡ min (2 ^ 63 - total) 4096 → length buffer ≡ length (take room piece) → (length buffer ≡ room) × (room ≤ 4096) × (room ≤ 2 ^ 63 - total)
+pub asked : (piece buffer : List ℕ) (total room : ℕ) → length piece ≡ 4096 → room ≡ min (2 ^ 63 - total) 4096
+    → length buffer ≡ length (take room piece) → (length buffer ≡ room) × (room ≤ 4096) × (room ≤ 2 ^ 63 - total)
 asked piece buffer total room full is same = let t = length-take room piece in (omega arith, omega arith, omega arith)
 
 module _ (passes : ℕ) {S : Type 0} (step : S → PassTurn → Outcome → S → Type 0) (start : S) {R W : Type 0}
@@ -28,7 +31,8 @@ module _ (passes : ℕ) {S : Type 0} (step : S → PassTurn → Outcome → S �
     (takes : W → List ℕ → W → Type 0) (takes_more : (s t u : W) (a b : List ℕ) → takes s a t → takes t b u → takes s (a ++ b) u)
     (flushes : W → ℕ)
   where
-    pub going_start : (state : S) (from : R) (to : W) (line : List ℕ) → state ≡ start → line ≡ [] → hands from [] from → takes to [] to → Going passes step start state hands takes from from to to 0 line 1
+    pub going_start : (state : S) (from : R) (to : W) (line : List ℕ) → state ≡ start → line ≡ []
+        → hands from [] from → takes to [] to → Going passes step start state hands takes from from to to 0 line 1
     going_start state from to line new none came went = record {
       seen = [];
       told = [];
@@ -95,7 +99,8 @@ module _ (passes : ℕ) {S : Type 0} (step : S → PassTurn → Outcome → S �
     )
 
     -- the end of the input
-    pub ends_finish : (state state' : S) (from reader reader' : R) (to writer writer' : W) (total : ℕ) (line : List ℕ) (number : ℕ) (bytes : List ℕ) (Ends : Type 0) (result : Result (Unit {0}) RunFault)
+    pub ends_finish : (state state' : S) (from reader reader' : R) (to writer writer' : W) (total : ℕ)
+        (line : List ℕ) (number : ℕ) (bytes : List ℕ) (Ends : Type 0) (result : Result (Unit {0}) RunFault)
         (going : Going passes step start state hands takes from reader to writer total line number)
         → flushes writer ≡ flushes to
         → hands reader bytes reader' → bytes ≡ [] → Ends

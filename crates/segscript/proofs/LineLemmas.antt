@@ -50,7 +50,9 @@ Splits-end bytes lines rest splits = record {
 
 module _ (passes : ℕ) {S : Type 0} (step : S → PassTurn → Outcome → S → Type 0) where
   -- more lines are served after some
-  ServesLines-append : (old mid new : S) (xs ys : List (List ℕ)) (s t : List ℕ) → ServesLines passes step old xs s mid → ServesLines passes step mid ys t new → ServesLines passes step old (xs ++ ys) (s ++ t) new
+  ServesLines-append : (old mid new : S) (xs ys : List (List ℕ)) (s t : List ℕ)
+      → ServesLines passes step old xs s mid → ServesLines passes step mid ys t new
+      → ServesLines passes step old (xs ++ ys) (s ++ t) new
   ServesLines-append old mid new xs ys s t first more = record {
     turns = first.turns ++ more.turns;
     outcomes = first.outcomes ++ more.outcomes;
@@ -60,7 +62,9 @@ module _ (passes : ℕ) {S : Type 0} (step : S → PassTurn → Outcome → S �
   }
 
   -- a line that says a turn is served by its outcome
-  pub ServesLines-one : (old new : S) (line text : List ℕ) (said : PassTurn) (outcome : Outcome) → 0 < length line → IsSayable passes said × (line ≡ spelling said) → step old said outcome new → text ≡ reply outcome → ServesLines passes step old (line ∷ []) text new
+  pub ServesLines-one : (old new : S) (line text : List ℕ) (said : PassTurn) (outcome : Outcome) → 0 < length line
+      → IsSayable passes said × (line ≡ spelling said) → step old said outcome new → text ≡ reply outcome
+      → ServesLines passes step old (line ∷ []) text new
   ServesLines-one old new line text said outcome some says steps same = record {
     turns = said ∷ [];
     outcomes = outcome ∷ [];
@@ -79,7 +83,9 @@ module _ (passes : ℕ) {S : Type 0} (step : S → PassTurn → Outcome → S �
 
   module _ (start state : S) where
     -- a byte of the line has come
-    pub at_byte : (seen told line : List ℕ) (number b : ℕ) → HasServed passes step start state seen told line number → b ≢ 10 → length line < 128 → HasServed passes step start state (seen ++ b ∷ []) told (line ++ b ∷ []) number
+    pub at_byte : (seen told line : List ℕ) (number b : ℕ) → HasServed passes step start state seen told line number
+        → b ≢ 10 → length line < 128 → HasServed passes step start state (seen ++ b ∷ []) told (line ++ b ∷ [])
+        number
     at_byte seen told line number b here other room = record {
       lines = here.lines;
       splits = Splits-byte seen here.lines line b here.splits other;
@@ -89,7 +95,10 @@ module _ (passes : ℕ) {S : Type 0} (step : S → PassTurn → Outcome → S �
     }
 
     -- the end of the line has come, and it was served
-    pub at_end : (new : S) (seen told text line : List ℕ) (number : ℕ) → HasServed passes step start state seen told line number → ServesLines passes step state (line ∷ []) text new → HasServed passes step start new (seen ++ 10 ∷ []) (told ++ text) [] (number + 1)
+    pub at_end : (new : S) (seen told text line : List ℕ) (number : ℕ)
+        → HasServed passes step start state seen told line number
+        → ServesLines passes step state (line ∷ []) text new
+        → HasServed passes step start new (seen ++ 10 ∷ []) (told ++ text) [] (number + 1)
     at_end new seen told text line number here served = record {
       lines = here.lines ++ line ∷ [];
       splits = Splits-end seen here.lines line here.splits;
@@ -102,7 +111,9 @@ module _ (passes : ℕ) {S : Type 0} (step : S → PassTurn → Outcome → S �
     reached seen told line number here = record { lines = here.lines; rest = line; splits = here.splits; short = here.short; served = here.served }
 
     -- the byte is the 129th of its line
-    pub too_long : (seen told line : List ℕ) (number b : ℕ) → HasServed passes step start state seen told line number → b ≢ 10 → length line ≡ 128 → IsSeenBad passes step start state ⊥ (seen ++ b ∷ []) (told ++ []) number
+    pub too_long : (seen told line : List ℕ) (number b : ℕ)
+        → HasServed passes step start state seen told line number → b ≢ 10 → length line ≡ 128
+        → IsSeenBad passes step start state ⊥ (seen ++ b ∷ []) (told ++ []) number
     too_long seen told line number b here other full = record {
       lines = here.lines;
       bad = line ++ b ∷ [];
@@ -117,7 +128,8 @@ module _ (passes : ℕ) {S : Type 0} (step : S → PassTurn → Outcome → S �
     }
 
     -- the line whose end has come is bad
-    whole_bad : (seen told line : List ℕ) (number : ℕ) → HasServed passes step start state seen told line number → IsBad passes line → IsSeenBad passes step start state ⊥ (seen ++ 10 ∷ []) (told ++ []) number
+    whole_bad : (seen told line : List ℕ) (number : ℕ) → HasServed passes step start state seen told line number
+        → IsBad passes line → IsSeenBad passes step start state ⊥ (seen ++ 10 ∷ []) (told ++ []) number
     whole_bad seen told line number here bad = record {
       lines = here.lines;
       bad = line;
@@ -132,7 +144,8 @@ module _ (passes : ℕ) {S : Type 0} (step : S → PassTurn → Outcome → S �
     }
 
     -- the last line is bad
-    last_bad : (seen told line : List ℕ) (number : ℕ) → HasServed passes step start state seen told line number → IsBad passes line → IsSeenBad passes step start state (Unit {0}) seen (told ++ []) number
+    last_bad : (seen told line : List ℕ) (number : ℕ) → HasServed passes step start state seen told line number
+        → IsBad passes line → IsSeenBad passes step start state (Unit {0}) seen (told ++ []) number
     last_bad seen told line number here bad = record {
       lines = here.lines;
       bad = line;
@@ -147,7 +160,10 @@ module _ (passes : ℕ) {S : Type 0} (step : S → PassTurn → Outcome → S �
     }
 
     -- the line whose end has come was served, and its reply was cut short
-    whole_stops : (new : S) (seen told begun reply line : List ℕ) (number : ℕ) → HasServed passes step start state seen told line number → IsBeginning begun reply → ServesLines passes step state (line ∷ []) reply new → StopsWriting passes step start new ⊥ (seen ++ 10 ∷ []) (told ++ begun)
+    whole_stops : (new : S) (seen told begun reply line : List ℕ) (number : ℕ)
+        → HasServed passes step start state seen told line number → IsBeginning begun reply
+        → ServesLines passes step state (line ∷ []) reply new
+        → StopsWriting passes step start new ⊥ (seen ++ 10 ∷ []) (told ++ begun)
     whole_stops new seen told begun reply line number here begins served = record {
       lines = here.lines;
       line = line;
@@ -167,7 +183,10 @@ module _ (passes : ℕ) {S : Type 0} (step : S → PassTurn → Outcome → S �
     }
 
     -- the last line was served, and its reply was cut short
-    last_stops : (new : S) (seen told begun reply line : List ℕ) (number : ℕ) → HasServed passes step start state seen told line number → IsBeginning begun reply → ServesLines passes step state (line ∷ []) reply new → StopsWriting passes step start new (Unit {0}) seen (told ++ begun)
+    last_stops : (new : S) (seen told begun reply line : List ℕ) (number : ℕ)
+        → HasServed passes step start state seen told line number → IsBeginning begun reply
+        → ServesLines passes step state (line ∷ []) reply new
+        → StopsWriting passes step start new (Unit {0}) seen (told ++ begun)
     last_stops new seen told begun reply line number here begins served = record {
       lines = here.lines;
       line = line;
@@ -187,7 +206,10 @@ module _ (passes : ℕ) {S : Type 0} (step : S → PassTurn → Outcome → S �
     }
 
     -- the last line was served
-    pub finish_text : (seen told text line : List ℕ) (number : ℕ) (new : S) → HasServed passes step start state seen told line number → ServesLines passes step state (line ∷ []) text new → ServesScript passes step start new seen (told ++ text)
+    pub finish_text : (seen told text line : List ℕ) (number : ℕ) (new : S)
+        → HasServed passes step start state seen told line number
+        → ServesLines passes step state (line ∷ []) text new
+        → ServesScript passes step start new seen (told ++ text)
     finish_text seen told text line number new here served = record {
       lines = here.lines;
       last = line;
@@ -207,7 +229,9 @@ module _ (passes : ℕ) {S : Type 0} (step : S → PassTurn → Outcome → S �
 
   -- a fault at the end of a line
   pub feed-fault : (start old new : S) (Wrote : List ℕ → Type 0) (seen told line after : List ℕ) (number count b : ℕ) (f : RunFault) → b ≡ 10
-      → HasServed passes step start old seen told line number → LineOutcome passes step old new Wrote line number (Err f) → FeedOutcome passes step start new Wrote (seen ++ b ∷ []) told after count (Err f)
+      → HasServed passes step start old seen told line number
+          → LineOutcome passes step old new Wrote line number (Err f)
+          → FeedOutcome passes step start new Wrote (seen ++ b ∷ []) told after count (Err f)
   feed-fault start old new Wrote seen told line after number count b fault.Read ten here h = absurd h
   feed-fault start old new Wrote seen told line after number count b fault.TooLong ten here h = absurd h
   feed-fault start old new Wrote seen told line after number count b (fault.Make m) ten here h = absurd h

@@ -1,5 +1,6 @@
 -- What a reader that looks for the first bad line keeps, as it goes on.
-use Rattle.std.proofs.Common.{false, ◌≡◌, ◌≢◌, ℕ, ◌+◌, ◌<◌, ◌≤◌, ◌%◌, ◌^◌, ◌⊎◌, inl, inr, List, [], ◌∷◌, ◌++◌, length, take, Option, Some, None, refl, sym, ◌∙◌, ap, subst, arith, append_assoc, append-nil, length-append}
+use Rattle.std.proofs.Common.{false, ◌≡◌, ◌≢◌, ℕ, ◌+◌, ◌<◌, ◌≤◌, ◌%◌, ◌^◌, ◌⊎◌, inl, inr, List, [], ◌∷◌, ◌++◌,
+    length, take, Option, Some, None, refl, sym, ◌∙◌, ap, subst, arith, append_assoc, append-nil, length-append}
 use Rattle.std.specs.Prelude.{◌==◌, nat_lt, if◌then◌else◌, IsSome, is_some, MatchOption}
 use Rattle.std.specs.List.{flat_map, slice_split}
 use Rattle.std.proofs.lemmas.Bool.{cases_lt, false≢true, lt-ltb, true≢false}
@@ -57,7 +58,9 @@ kept_full line rest b kept full = by (cases_lt (length rest) 129)
 
 -- ---- one byte more
 
-pub byte_looked : (passes : ℕ) (line line' : List ℕ) (number b : ℕ) (seen : List ℕ) → b ≢ 10 → KeepsByte b line line' → LooksOn (look_at passes line number None) seen → LooksOn (look_at passes line' number None) (seen ++ b ∷ [])
+pub byte_looked : (passes : ℕ) (line line' : List ℕ) (number b : ℕ) (seen : List ℕ) → b ≢ 10
+    → KeepsByte b line line' → LooksOn (look_at passes line number None) seen
+    → LooksOn (look_at passes line' number None) (seen ++ b ∷ [])
 byte_looked passes line line' number b seen other keeps on = record {
   lines = on.lines;
   rest = on.rest ++ b ∷ [];
@@ -80,7 +83,9 @@ fine_more passes (x ∷ xs) line all here = (all.0, fine_more passes xs line all
 rest_fault : (passes : ℕ) (line rest : List ℕ) → line ≡ take 129 rest → line_fault passes rest ≡ line_fault passes line
 rest_fault passes line rest kept = sym (ap (line_fault passes) kept ∙ same_fault passes rest)
 
-pub ended_fine : (passes : ℕ) (line : List ℕ) (number : ℕ) (seen : List ℕ) → line_fault passes line ≡ None → LooksOn (look_at passes line number None) seen → LooksOn (look_at passes [] ((number + 1) % 2 ^ 64) None) (seen ++ 10 ∷ [])
+pub ended_fine : (passes : ℕ) (line : List ℕ) (number : ℕ) (seen : List ℕ) → line_fault passes line ≡ None
+    → LooksOn (look_at passes line number None) seen
+    → LooksOn (look_at passes [] ((number + 1) % 2 ^ 64) None) (seen ++ 10 ∷ [])
 ended_fine passes line number seen none on = record {
   lines = on.lines ++ on.rest ∷ [];
   rest = [];
@@ -90,7 +95,8 @@ ended_fine passes line number seen none on = record {
   number = (let was = on.number in let long = length-append on.lines (on.rest ∷ []) in omega (arith, was, long));
 }
 
-pub ended_bad : (passes : ℕ) (line line' : List ℕ) (number number' : ℕ) (bad : BadLine) (seen : List ℕ) → line_fault passes line ≡ Some bad.fault → bad.number ≡ number → LooksOn (look_at passes line number None) seen
+pub ended_bad : (passes : ℕ) (line line' : List ℕ) (number number' : ℕ) (bad : BadLine) (seen : List ℕ)
+    → line_fault passes line ≡ Some bad.fault → bad.number ≡ number → LooksOn (look_at passes line number None) seen
     → HasFound (look_at passes line' number' (Some bad)) bad (seen ++ 10 ∷ [])
 ended_bad passes line line' number number' bad seen is of on = record {
   more = [];
@@ -110,7 +116,9 @@ ended_bad passes line line' number number' bad seen is of on = record {
 }
 
 -- the end of a line, of which this is the fault
-pub end_looked : (passes : ℕ) (line : List ℕ) (number : ℕ) (own : Option BadLine) (seen : List ℕ) → MatchOption own (line_fault passes line ≡ None) (λ bad. (line_fault passes line ≡ Some bad.fault) × (bad.number ≡ number))
+pub end_looked : (passes : ℕ) (line : List ℕ) (number : ℕ) (own : Option BadLine) (seen : List ℕ)
+    → MatchOption own (line_fault passes line ≡ None) (λ bad. (line_fault passes line ≡ Some bad.fault)
+    × (bad.number ≡ number))
     → LooksOn (look_at passes line number None) seen → HasLooked (look_at passes [] ((number + 1) % 2 ^ 64) own) (seen ++ 10 ∷ [])
 end_looked passes line number None seen none on = ended_fine passes line number seen none on
 end_looked passes line number (Some bad) seen has on = ended_bad passes line [] number ((number + 1) % 2 ^ 64) bad seen has.0 has.1 on
@@ -127,7 +135,9 @@ found_more look found seen bytes has =
         lines = first.lines;
         line = first.line;
         after = first.after ++ bytes;
-        whole = ap (λ l. l ++ bytes) first.whole ∙ (append_assoc (flat_map ended first.lines) (first.line ++ first.after) bytes ∙ ap (λ l. flat_map ended first.lines ++ l) (append_assoc first.line first.after bytes));
+        whole = ap (λ l. l ++ bytes) first.whole ∙
+            (append_assoc (flat_map ended first.lines) (first.line ++ first.after) bytes
+            ∙ ap (λ l. flat_map ended first.lines ++ l) (append_assoc first.line first.after bytes));
         each = first.each;
         unbroken = first.unbroken;
         ends = inl (has.more ++ bytes, after);
@@ -152,7 +162,9 @@ pub finds_found : (passes : ℕ) (line : List ℕ) (number : ℕ) (bad : Option 
 finds_found passes line number (Some found) seen is has = has.first
 finds_found passes line number None seen is has = absurd (false≢true is)
 
-pub finds_own : (passes : ℕ) (line : List ℕ) (number : ℕ) (own : Option BadLine) (seen : List ℕ) → MatchOption own (line_fault passes line ≡ None) (λ bad. (line_fault passes line ≡ Some bad.fault) × (bad.number ≡ number))
+pub finds_own : (passes : ℕ) (line : List ℕ) (number : ℕ) (own : Option BadLine) (seen : List ℕ)
+    → MatchOption own (line_fault passes line ≡ None) (λ bad. (line_fault passes line ≡ Some bad.fault)
+    × (bad.number ≡ number))
     → LooksOn (look_at passes line number None) seen → FindsBad passes seen own
 finds_own passes line number None seen none on = record {
   lines = on.lines;
@@ -180,7 +192,9 @@ looked_none passes = record { lines = []; rest = []; splits = record { whole = r
 
 -- ---- looks
 
-pub byte_looks : (passes : ℕ) (line : List ℕ) (number : ℕ) (bad : Option BadLine) (passes' : ℕ) (line' : List ℕ) (number' : ℕ) (bad' : Option BadLine) (b : ℕ) → b ≢ 10 → bad ≡ None → passes' ≡ passes → number' ≡ number → bad' ≡ bad → KeepsByte b line line'
+pub byte_looks : (passes : ℕ) (line : List ℕ) (number : ℕ) (bad : Option BadLine) (passes' : ℕ) (line' : List ℕ)
+    (number' : ℕ) (bad' : Option BadLine) (b : ℕ) → b ≢ 10 → bad ≡ None → passes' ≡ passes → number' ≡ number
+    → bad' ≡ bad → KeepsByte b line line'
     → LooksAt (look_at passes line number bad) (b ∷ []) (look_at passes' line' number' bad')
 byte_looks passes line number bad passes' line' number' bad' b other none is same kept keeps =
     subst (λ m. LooksAt (look_at passes line number bad) (b ∷ []) (look_at m line' number' bad')) (sym is)
@@ -189,8 +203,11 @@ byte_looks passes line number bad passes' line' number' bad' b other none is sam
     (subst (λ x. LooksAt (look_at passes line number x) (b ∷ []) (look_at passes line' number x)) (sym none)
     (refl, λ seen on. byte_looked passes line line' number b seen other keeps on))))
 
-pub end_looks : (passes : ℕ) (line : List ℕ) (number : ℕ) (bad : Option BadLine) (line' : List ℕ) (number' : ℕ) (own : Option BadLine) (b : ℕ) → b ≡ 10 → bad ≡ None → line' ≡ [] → number' ≡ (number + 1) % 2 ^ 64
-    → MatchOption own (line_fault passes line ≡ None) (λ (bad : BadLine). (line_fault passes line ≡ Some bad.fault) × (bad.number ≡ number)) → LooksAt (look_at passes line number bad) (b ∷ []) (look_at passes line' number' own)
+pub end_looks : (passes : ℕ) (line : List ℕ) (number : ℕ) (bad : Option BadLine) (line' : List ℕ) (number' : ℕ)
+    (own : Option BadLine) (b : ℕ) → b ≡ 10 → bad ≡ None → line' ≡ [] → number' ≡ (number + 1) % 2 ^ 64
+    → MatchOption own (line_fault passes line ≡ None) (λ (bad : BadLine). (line_fault passes line ≡ Some bad.fault)
+        × (bad.number ≡ number)) → LooksAt (look_at passes line number bad) (b ∷ [])
+        (look_at passes line' number' own)
 end_looks passes line number bad line' number' own b ten none cleared after is =
     subst (λ x. LooksAt (look_at passes line number bad) (x ∷ []) (look_at passes line' number' own)) (sym ten)
     (subst (λ l. LooksAt (look_at passes line number bad) (10 ∷ []) (look_at passes l number' own)) (sym cleared)

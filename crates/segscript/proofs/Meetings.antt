@@ -1,5 +1,6 @@
 -- What the passes of a server have seen, and what they learn where two of them meet.
-use Rattle.std.proofs.Common.{◌≡◌, ◌≢◌, ◌⊎◌, ◌<◌, ℕ, zero, suc, All, List, [], ◌∷◌, ◌++◌, get_or, length, set, slice_get, take, Option, Some, refl, append-nil, sym, ap, subst, ◌∙◌, inl, inr, ⊎_elim, arith}
+use Rattle.std.proofs.Common.{◌≡◌, ◌≢◌, ◌⊎◌, ◌<◌, ℕ, zero, suc, All, List, [], ◌∷◌, ◌++◌, get_or, length, set,
+    slice_get, take, Option, Some, refl, append-nil, sym, ap, subst, ◌∙◌, inl, inr, ⊎_elim, arith}
 use Rattle.std.proofs.Math.Seq.{take-append_seam}
 use Rattle.std.proofs.lemmas.List.{length-set, set-append_left, set-append_right}
 use Rattle.std.proofs.lemmas.Option.{get_or_from_slice_get, same_Some, slice_get-get_or, slice_get_within}
@@ -79,7 +80,9 @@ module _ (b : Board) (first second : ℕ) (old new : List Pass) (met : HaveMet b
   met_learn quiet n p at = ⊎_elim
       (λ here. (met.one', ap (slice_get new) here ∙ met.is_first, subst (λ x. OnlyLearns b x met.one') (same_Some met.one p (sym met.was_first ∙ ap (slice_get old) (sym here) ∙ at)) met.meets.first))
       (λ apart. ⊎_elim
-      (λ here. (met.other', ap (slice_get new) here ∙ met.is_second, subst (λ x. OnlyLearns b x met.other') (same_Some met.other p (sym met.was_second ∙ ap (slice_get old) (sym here) ∙ at)) met.meets.second))
+      (λ here. (met.other', ap (slice_get new) here
+          ∙ met.is_second, subst (λ x. OnlyLearns b x met.other') (same_Some met.other p (sym met.was_second
+          ∙ ap (slice_get old) (sym here) ∙ at)) met.meets.second))
       (λ other. (p, met.others n apart other ∙ at, learns_nothing b p (quiet n p at)))
       (same_or_apart n second))
       (same_or_apart n first)
@@ -190,7 +193,9 @@ learned_sees b old new q learn sees n p at = let is = learn n p at in seen_on p 
 
 -- ---- the pass of a turn catches up
 
-pub catches_up : (b : Board) (last place : ℕ) (old new : List Pass) → last ≢ place → ((n : ℕ) (p : Pass) → slice_get old n ≡ Some p → IsQuiet b p) → HaveMet b last place old new → CatchesUp b last place old new
+pub catches_up : (b : Board) (last place : ℕ) (old new : List Pass) → last ≢ place
+    → ((n : ℕ) (p : Pass) → slice_get old n ≡ Some p → IsQuiet b p) → HaveMet b last place old new
+    → CatchesUp b last place old new
 catches_up b last place old new apart quiet met = record {
   long = met.long;
   learn = met_learn b last place old new met quiet;

@@ -115,7 +115,8 @@ module _ (shape : Shape) where
       let one = closed first in
       let other = closed second in
       first.number
-      ∙ ap (λ k. k + 1) (one_number shape.passes first.lines second.lines first.bad one.0 second.bad other.0 first.served.turns second.served.turns first.each first.served.says first.unbroken first.is_bad
+      ∙ ap (λ k. k + 1) (one_number shape.passes first.lines second.lines first.bad one.0 second.bad other.0
+          first.served.turns second.served.turns first.each first.served.says first.unbroken first.is_bad
       second.each second.served.says second.unbroken second.is_bad (sym one.1 ∙ other.1))
       ∙ sym second.number
 
@@ -178,7 +179,8 @@ module _ (shape : Shape) where
 
   -- ---- runs whose devices never failed
 
-  module _ {R : Type 0} (hands : R → List ℕ → R → Type 0) (is_at_end : R → Type 0) (Wrote : List ℕ → Type 0) (before flushes : ℕ) (old new : R) (script : List ℕ) (all : HandsOut hands is_at_end old new script)
+  module _ {R : Type 0} (hands : R → List ℕ → R → Type 0) (is_at_end : R → Type 0) (Wrote : List ℕ
+      → Type 0) (before flushes : ℕ) (old new : R) (script : List ℕ) (all : HandsOut hands is_at_end old new script)
       (read write : Bool) (working : read ≡ false) (writing : write ≡ false)
     where
       pub ends_at_bad : (text : List ℕ) (n : ℕ) (result : Result (Unit {0}) RunFault) → read ≡ is_read_fault result → write ≡ is_write_fault result → is_make_fault result ≡ false

@@ -114,4 +114,7 @@ pub pair_fits : (passes : ℕ) (k : List ℕ) (m : ℕ) → IsKeyWord k × IsNum
 pair_fits passes k m fits = both passes part.Key (part.Moment ∷ []) (k) (moment_word m ∷ []) fits.0 (both passes part.Moment [] (moment_word m) [] (m, fits.1, refl) (no_more passes))
 
 pub triple_fits : (passes : ℕ) (k v : List ℕ) (m : ℕ) → IsKeyWord k × IsValueWord v × IsNumber m → SaysAll passes (part.Key ∷ part.Value ∷ part.Moment ∷ []) (k ∷ value_word v ∷ moment_word m ∷ [])
-triple_fits passes k v m fits = both passes part.Key (part.Value ∷ part.Moment ∷ []) (k) (value_word v ∷ moment_word m ∷ []) fits.0 (both passes part.Value (part.Moment ∷ []) (value_word v) (moment_word m ∷ []) (v, fits.1, refl) (both passes part.Moment [] (moment_word m) [] (m, fits.2, refl) (no_more passes)))
+triple_fits passes k v m fits = both passes part.Key (part.Value ∷ part.Moment ∷ []) (k)
+    (value_word v ∷ moment_word m ∷ []) fits.0
+    (both passes part.Value (part.Moment ∷ []) (value_word v) (moment_word m ∷ []) (v, fits.1, refl)
+    (both passes part.Moment [] (moment_word m) [] (m, fits.2, refl) (no_more passes)))

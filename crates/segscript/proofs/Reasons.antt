@@ -52,19 +52,25 @@ line_fits passes said may =
     subst (λ v. SaysAll passes (part.Pass ∷ part.Command ∷ parts_behind v) (line_words said)) (sym (named_self (verb said.1))) (line_says passes said may)
 
 -- the three tests of a line before its words
-no_fault : (long empty many : Bool) (rest : Option LineFault) → (if long then Some fault.TooLong else (if empty then None else (if many then Some (fault.Extra 8) else rest))) ≡ None → (long ≡ false) × ((empty ≡ true) ⊎ (rest ≡ None))
+no_fault : (long empty many : Bool) (rest : Option LineFault)
+    → (if long then Some fault.TooLong else (if empty then None else (if many then Some (fault.Extra 8) else rest)))
+    ≡ None → (long ≡ false) × ((empty ≡ true) ⊎ (rest ≡ None))
 no_fault true empty many rest e = absurd (cc)
 no_fault false true many rest e = (refl, inl refl)
 no_fault false false true rest e = absurd (cc)
 no_fault false false false rest e = (refl, inr e)
 
-none_of : (long empty many : Bool) (rest : Option LineFault) → long ≡ false → many ≡ false → rest ≡ None → (if long then Some fault.TooLong else (if empty then None else (if many then Some (fault.Extra 8) else rest))) ≡ None
+none_of : (long empty many : Bool) (rest : Option LineFault) → long ≡ false → many ≡ false → rest ≡ None
+    → (if long then Some fault.TooLong else (if empty then None else (if many then Some (fault.Extra 8) else rest)))
+    ≡ None
 none_of true empty many rest short few none = absurd (true≢false short)
 none_of false true many rest short few none = refl
 none_of false false true rest short few none = absurd (true≢false few)
 none_of false false false rest short few none = none
 
-empty_none : (long empty many : Bool) (rest : Option LineFault) → long ≡ false → empty ≡ true → (if long then Some fault.TooLong else (if empty then None else (if many then Some (fault.Extra 8) else rest))) ≡ None
+empty_none : (long empty many : Bool) (rest : Option LineFault) → long ≡ false → empty ≡ true
+    → (if long then Some fault.TooLong else (if empty then None else (if many then Some (fault.Extra 8) else rest)))
+    ≡ None
 empty_none true empty many rest short is = absurd (true≢false short)
 empty_none false true many rest short is = refl
 empty_none false false many rest short is = absurd (true≢false (sym is))
@@ -89,7 +95,10 @@ is_bad passes line some = elim (cases_lt 128 (length line)) [
   where
     nonempty : (0 < length line) ⊎ (length line ≤ 0) → length line ≤ 128 → 0 < length line
     nonempty (inl has) short = has
-    nonempty (inr none) short = absurd (true≢false (sym some ∙ ap is_some (empty_none (nat_lt 128 (length line)) (length line == 0) (nat_lt 7 (length (spaces line))) (words_fault passes 1 (line_parts (spaces line)) (spaces line)) (le-ltb _ _ short) (eq-eqb (length line) 0 (omega arith)))))
+    nonempty (inr none) short = absurd (true≢false (sym some
+        ∙ ap is_some (empty_none (nat_lt 128 (length line)) (length line == 0) (nat_lt 7 (length (spaces line)))
+        (words_fault passes 1 (line_parts (spaces line)) (spaces line)) (le-ltb _ _ short)
+        (eq-eqb (length line) 0 (omega arith)))))
 
 pub has_fault : (passes : ℕ) (line : List ℕ) → IsBad passes line → IsSome (line_fault passes line)
 has_fault passes line bad = by (line_fault passes line) refl

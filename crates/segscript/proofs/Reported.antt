@@ -61,7 +61,9 @@ module _ (passes : ℕ) where
     is_bad : IsBad passes bad
     whole : seen ++ 10 ∷ [] ≡ flat_map ended lines ++ (bad ++ 10 ∷ more)
 
-  close : (seen : List ℕ) (lines : List (List ℕ)) (line after : List ℕ) → seen ≡ flat_map ended lines ++ (line ++ after) → IsLine line → IsBad passes line → ((more : List ℕ) × (after ≡ 10 ∷ more)) ⊎ (after ≡ []) → Closed seen lines
+  close : (seen : List ℕ) (lines : List (List ℕ)) (line after : List ℕ)
+      → seen ≡ flat_map ended lines ++ (line ++ after) → IsLine line → IsBad passes line
+      → ((more : List ℕ) × (after ≡ 10 ∷ more)) ⊎ (after ≡ []) → Closed seen lines
   close seen lines line after whole unbroken bad (inl (more, is)) = record {
     bad = line;
     more = more ++ 10 ∷ [];

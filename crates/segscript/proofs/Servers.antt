@@ -62,10 +62,12 @@ new_first b (p ∷ passes) each = starts_fresh b p (each 0 p refl).0
 
 -- ---- a server that ends: its holds go one after another, the last first
 
-pub last_idle : (b : Board) (passes : List Pass) (holds : List (Option Hold)) (hold : Option Hold) (p : Pass) → AreInOrder b passes (holds ++ hold ∷ []) → slice_get passes (length holds) ≡ Some p → IsIdle b hold p
+pub last_idle : (b : Board) (passes : List Pass) (holds : List (Option Hold)) (hold : Option Hold) (p : Pass)
+    → AreInOrder b passes (holds ++ hold ∷ []) → slice_get passes (length holds) ≡ Some p → IsIdle b hold p
 last_idle b passes holds hold p in_order at = (in_order (length holds) p hold at (last_of holds hold)).0
 
-pub rest_in_order : (b : Board) (passes : List Pass) (holds : List (Option Hold)) (hold : Option Hold) (q : Pass) → AreInOrder b passes (holds ++ hold ∷ []) → AreInOrder b (set passes (length holds) q) holds
+pub rest_in_order : (b : Board) (passes : List Pass) (holds : List (Option Hold)) (hold : Option Hold) (q : Pass)
+    → AreInOrder b passes (holds ++ hold ∷ []) → AreInOrder b (set passes (length holds) q) holds
 rest_in_order b passes holds hold q in_order n x kept e k =
     let within = slice_get_within holds n kept k in
     in_order n x kept (sym (elsewhere passes (length holds) n q (λ same. omega arith)) ∙ e) (front_of holds (hold ∷ []) n kept k)

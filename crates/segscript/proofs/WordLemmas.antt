@@ -1,5 +1,7 @@
 -- A line is cut at its spaces, and no word of a script has one.
-use Rattle.std.proofs.Common.{zero, suc, ◌≡◌, ◌≢◌, ℕ, ◌+◌, ◌-◌, ◌<◌, ◌≤◌, ◌^◌, List, [], ◌∷◌, ◌++◌, length, get_or, take, drop, map, eqb, false, refl, sym, ◌∙◌, ap, arith, rules, inl, inr, append_assoc, length-append, length-drop, length-take}
+use Rattle.std.proofs.Common.{zero, suc, ◌≡◌, ◌≢◌, ℕ, ◌+◌, ◌-◌, ◌<◌, ◌≤◌, ◌^◌, List, [], ◌∷◌, ◌++◌, length, get_or,
+    take, drop, map, eqb, false, refl, sym, ◌∙◌, ap, arith, rules, inl, inr, append_assoc, length-append,
+    length-drop, length-take}
 use Rattle.std.specs.List.{slice_split, All, AllByRecursion, join_with_byte}
 use Rattle.std.specs.Prelude.{decimal}
 use Rattle.std.specs.Int.{IsInRange}
@@ -32,7 +34,9 @@ clear line start i order within none k d h =
       | inr f ↦ f.0
     ]
 
-pub spaces-drop : (line : List ℕ) (start i : ℕ) → start ≤ i → i < length line → NoSpace line start i → get_or line i 0 ≡ 32 → spaces (drop start line) ≡ take (i - start) (drop start line) ∷ spaces (drop (i + 1) line)
+pub spaces-drop : (line : List ℕ) (start i : ℕ) → start ≤ i → i < length line → NoSpace line start i
+    → get_or line i 0 ≡ 32 → spaces (drop start line) ≡ take (i - start) (drop start line) ∷ spaces
+    (drop (i + 1) line)
 spaces-drop line start i order within none space =
     ap spaces (seam line start i order within space) ∙ slice_split_at (λ b. eqb b 32) (take (i - start) (drop start line)) 32 (drop (i + 1) line) (clear line start i order (omega arith) none) refl
 
@@ -52,7 +56,9 @@ pub record Cut (line : List ℕ) (ws : List (List ℕ)) (start i : ℕ) : Type 0
 pub cut-start : (line : List ℕ) → Cut line [] 0 0
 cut-start line = record { order = omega arith; clear = λ k low high. absurd (omega arith); whole = refl }
 
-pub cut-space : {X : Type 0} (f : X → List ℕ) (line : List ℕ) (ws : List X) (w : X) (start i : ℕ) → Cut line (map f ws) start i → i < length line → get_or line i 0 ≡ 32 → f w ≡ take (i - start) (drop start line) → Cut line (map f (ws ++ w ∷ [])) (i + 1) (i + 1)
+pub cut-space : {X : Type 0} (f : X → List ℕ) (line : List ℕ) (ws : List X) (w : X) (start i : ℕ)
+    → Cut line (map f ws) start i → i < length line → get_or line i 0 ≡ 32
+    → f w ≡ take (i - start) (drop start line) → Cut line (map f (ws ++ w ∷ [])) (i + 1) (i + 1)
 cut-space f line ws w start i cut within space word = record {
   order = omega arith;
   clear = λ k low high. absurd (omega arith);
@@ -66,7 +72,8 @@ cut-other line ws start i cut other = record {
   whole = cut.whole;
 }
 
-pub cut-end : {X : Type 0} (f : X → List ℕ) (line : List ℕ) (ws : List X) (w : X) (start i : ℕ) → Cut line (map f ws) start i → i ≡ length line → f w ≡ drop start line → map f (ws ++ w ∷ []) ≡ spaces line
+pub cut-end : {X : Type 0} (f : X → List ℕ) (line : List ℕ) (ws : List X) (w : X) (start i : ℕ)
+    → Cut line (map f ws) start i → i ≡ length line → f w ≡ drop start line → map f (ws ++ w ∷ []) ≡ spaces line
 cut-end f line ws w start i cut end word =
     let o = cut.order in
     simp map-append (rw word (rw (← spaces-last line start (omega arith) (rw end at cut.clear)) cut.whole))
@@ -100,7 +107,9 @@ spaces-join w (v ∷ ws) first more =
     slice_split_at (λ b. eqb b 32) w 32 (join_with_byte 32 (v ∷ ws)) first refl ∙ ap (λ r. w ∷ r) (spaces-join v ws more.0 more.1)
 
 pub moment_plain : (m : ℕ) → m < 2 ^ 32 → IsSpaceless (moment_word m)
-moment_plain m small k d within = elim k as (λ k. k < length (moment_word m) → eqb (get_or (moment_word m) k d) 32 ≡ false) [ zero ↦ λ w. refl | suc j ↦ λ w. decimal_word m small j d (omega arith) ] within
+moment_plain m small k d within = elim k as (λ k. k < length (moment_word m)
+    → eqb (get_or (moment_word m) k d) 32 ≡ false) [ zero ↦ λ w. refl
+    | suc j ↦ λ w. decimal_word m small j d (omega arith) ] within
 
 pub pass_plain : (p : ℕ) → p < 2 ^ 32 → IsSpaceless (pass_word p)
 pass_plain p small k d within = elim k as (λ k. k < length (pass_word p) → eqb (get_or (pass_word p) k d) 32 ≡ false) [ zero ↦ λ w. refl | suc j ↦ λ w. decimal_word p small j d (omega arith) ] within

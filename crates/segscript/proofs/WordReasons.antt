@@ -1,5 +1,6 @@
 -- A word has a fault exactly if it is not what its place in a line asks for.
-use Rattle.std.proofs.Common.{◌≡◌, ◌≢◌, ℕ, ◌+◌, ◌<◌, ◌≤◌, ◌^◌, Bool, true, false, inl, inr, ◌⊎◌, List, [], ◌∷◌, length, drop, codes, refl, sym, ◌∙◌, ap, subst, arith, Option, Some, None, true≢false, get_or, map}
+use Rattle.std.proofs.Common.{◌≡◌, ◌≢◌, ℕ, ◌+◌, ◌<◌, ◌≤◌, ◌^◌, Bool, true, false, inl, inr, ◌⊎◌, List, [], ◌∷◌,
+    length, drop, codes, refl, sym, ◌∙◌, ap, subst, arith, Option, Some, None, true≢false, get_or, map}
 use Rattle.std.specs.Prelude.{◌==◌, ◌&&◌, not, nat_lt, if◌then◌else◌, slice_index, decimal}
 use Rattle.std.specs.List.{list_all, AllByRecursion}
 use Rattle.std.specs.Char.{is_ascii_digit}
@@ -109,7 +110,9 @@ number_fits n small =
     no_length : (xs : List ℕ) → 0 < length xs → (length xs == 0) ≡ false
     no_length xs some = ne_eqb (length xs) 0 (λ z. omega arith)
 
-    leading : (xs : List ℕ) → ((slice_index xs 0 == 48) ≡ true) × (slice_index xs 0 ≡ 48) ⊎ ((slice_index xs 0 == 48) ≡ false) × (slice_index xs 0 ≢ 48) → (slice_index xs 0 ≡ 48 → length xs ≡ 1) → has_leading_zero xs ≡ false
+    leading : (xs : List ℕ) → ((slice_index xs 0 == 48) ≡ true) × (slice_index xs 0 ≡ 48)
+        ⊎ ((slice_index xs 0 == 48) ≡ false) × (slice_index xs 0 ≢ 48) → (slice_index xs 0 ≡ 48 → length xs ≡ 1)
+        → has_leading_zero xs ≡ false
     leading xs (inl t) one = let e : length xs ≡ 1 = one t.1 in and_right _ _ (le-ltb 1 (length xs) (omega arith))
     leading xs (inr f) one = and_left _ _ f.0
 
@@ -120,10 +123,13 @@ number_value n small = (decimal_is_IsNumeral n (omega (arith, small))).1
 pub read_some : (ds : List ℕ) (n : ℕ) → IsNumber n × (ds ≡ decimal n) → (number_fault ds ≡ None) × (digits_value 10 ds ≡ n)
 read_some ds n read = (rw read.1 (number_fits n read.0), ap (digits_value 10) read.1 ∙ number_value n read.0)
 
-pub read_none : (ds : List ℕ) (a b : Bool) → a ≡ are_no_digits ds → a ≡ false → b ≡ has_leading_zero ds → b ≡ false → ((n : ℕ) → IsNumber n → ds ≡ decimal n → ⊥) → number_fault ds ≡ Some why.LargeNumber
+pub read_none : (ds : List ℕ) (a b : Bool) → a ≡ are_no_digits ds → a ≡ false → b ≡ has_leading_zero ds → b ≡ false
+    → ((n : ℕ) → IsNumber n → ds ≡ decimal n → ⊥) → number_fault ds ≡ Some why.LargeNumber
 read_none ds a b is off is' off' none = by (nat_lt (digits_value 10 ds) (2 ^ 32)) refl
   where
-    large : (x y z : Bool) → x ≡ false → y ≡ false → z ≡ false → (if x then Some why.NoNumber else (if y then Some why.LeadingZero else (if z then None else Some why.LargeNumber))) ≡ Some why.LargeNumber
+    large : (x y z : Bool) → x ≡ false → y ≡ false → z ≡ false
+        → (if x then Some why.NoNumber else (if y then Some why.LeadingZero else
+        (if z then None else Some why.LargeNumber))) ≡ Some why.LargeNumber
     large true y z p q r = absurd (true≢false p)
     large false true z p q r = absurd (true≢false q)
     large false false true p q r = absurd (true≢false r)
@@ -180,7 +186,9 @@ named_word : (vs : List Verb) (w : List ℕ) → command_fault (named_among vs w
 named_word [] w e = absurd (cc)
 named_word (v ∷ vs) w e = by (bytes_eq w (verb_word v)) refl (named_word vs w) e
   where
-    by : (b : Bool) → bytes_eq w (verb_word v) ≡ b → (command_fault (named_among vs w) ≡ None → (x : Verb) × (w ≡ verb_word x)) → command_fault (if b then Some v else named_among vs w) ≡ None → (x : Verb) × (w ≡ verb_word x)
+    by : (b : Bool) → bytes_eq w (verb_word v) ≡ b
+        → (command_fault (named_among vs w) ≡ None → (x : Verb) × (w ≡ verb_word x))
+        → command_fault (if b then Some v else named_among vs w) ≡ None → (x : Verb) × (w ≡ verb_word x)
     by true is later _ = (v, (bytes_eq-Decides w (verb_word v)).0 is)
     by false _ later rest = later rest
 
@@ -204,13 +212,17 @@ pub no_command : (w : List ℕ) → ((v : Verb) → IsVerb v → w ≡ verb_word
 no_command w none = sym (ap command_fault (named_other commands w (λ v is. none v tt is)))
 
 -- the parts of a line, by its second word
-pub parts_of_words : (ws : List (Bor (List ℕ))) (d : Bor (List ℕ)) (r : Option Verb) → 2 ≤ length ws → ReadsAs IsVerb verb_word (get_or ws 1 d).now r → part.Pass ∷ part.Command ∷ parts_behind r ≡ line_parts (map (λ w. w.now) ws)
+pub parts_of_words : (ws : List (Bor (List ℕ))) (d : Bor (List ℕ)) (r : Option Verb) → 2 ≤ length ws
+    → ReadsAs IsVerb verb_word (get_or ws 1 d).now r
+    → part.Pass ∷ part.Command ∷ parts_behind r ≡ line_parts (map (λ w. w.now) ws)
 parts_of_words [] d r two read = absurd (omega arith)
 parts_of_words (p ∷ []) d r two read = absurd (omega arith)
 parts_of_words (p ∷ c ∷ ws) d r two read = ap (λ v. part.Pass ∷ part.Command ∷ parts_behind v) (verb_named c.now r read)
 
 -- one word more was looked at
-pub word_more : (passes i : ℕ) (ps : List Part) (ws : List (Bor (List ℕ))) (p : Part) (d : Bor (List ℕ)) (r : Option LineFault) → i < length ps → i < length ws → word_fault passes (get_or ps i p) (get_or ws i d).now ≡ None
+pub word_more : (passes i : ℕ) (ps : List Part) (ws : List (Bor (List ℕ))) (p : Part) (d : Bor (List ℕ))
+    (r : Option LineFault) → i < length ps → i < length ws
+    → word_fault passes (get_or ps i p) (get_or ws i d).now ≡ None
     → r ≡ words_fault passes (i + 1) (drop i ps) (map (λ w. w.now) (drop i ws)) → r ≡ words_fault passes (i + 1 + 1) (drop (i + 1) ps) (map (λ w. w.now) (drop (i + 1) ws))
 word_more passes i ps ws p d r a b none is =
     is ∙ rw (drop_more ps i p a, drop_more ws i d b, none) refl

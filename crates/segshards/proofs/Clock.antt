@@ -51,7 +51,9 @@ module _ (taken : ℕ → ℕ) (n : ℕ) where
   latest zero k le = let none = at_start in record { until = omega arith; is = omega (arith, none, le); next = λ lt. absurd (omega (arith, lt)) }
   latest (suc bound) k le = by_cases (cases_lt k (came taken n (suc bound))) (λ few. latest bound k few)
     where
-      by_cases : (c : (k < came taken n (suc bound)) ⊎ (came taken n (suc bound) ≤ k)) → (k ≤ came taken n bound → IsLatest bound k (when bound k)) → IsLatest (suc bound) k (⊎_elim (λ _. when bound k) (λ _. suc bound) c)
+      by_cases : (c : (k < came taken n (suc bound)) ⊎ (came taken n (suc bound) ≤ k))
+          → (k ≤ came taken n bound → IsLatest bound k (when bound k))
+          → IsLatest (suc bound) k (⊎_elim (λ _. when bound k) (λ _. suc bound) c)
       by_cases (inl lt) earlier =
           let up = (one_at_most bound).1 in
           let early = earlier (omega (arith, lt, up)) in

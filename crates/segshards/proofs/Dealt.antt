@@ -66,7 +66,9 @@ none_dealt shape indexes lists new = record {
 one_shorter : (client : one.Client) (old new : Vec Pass) (n count : ℕ) → is_taken client old new → length old.items + n ≡ count → length new.items + (n + 1) ≡ count
 one_shorter client old new n count taken long = let e = ap length taken in let parts = length-append new.items (client.member.pass ∷ []) in omega (arith, e, parts, long)
 
-taken_left : (clients : List one.Client) (old new : List (Vec Pass)) (n count : ℕ) → AreTaken clients old new → All (λ passes. length passes.items + n ≡ count) old → All (λ passes. length passes.items + (n + 1) ≡ count) new
+taken_left : (clients : List one.Client) (old new : List (Vec Pass)) (n count : ℕ) → AreTaken clients old new
+    → All (λ passes. length passes.items + n ≡ count) old
+    → All (λ passes. length passes.items + (n + 1) ≡ count) new
 unfolding AllThree
 taken_left [] [] [] n count taken left = All-nil (λ (l : Vec Pass). length l.items + (n + 1) ≡ count)
 taken_left [] [] (l ∷ new) n count taken left = absurd taken
@@ -94,7 +96,9 @@ still_has clients client shard k has = record {
 }
 
 -- one client more has the last pass of each list
-pub one_dealt : (shape : Shape) (indexes : List Index) (old new : List (Vec Pass)) (clients : List Client) (client : Client) (n : ℕ) → AreDealt shape indexes old clients n → AreTaken client.shards.items old new → AreDealt shape indexes new (clients ++ client ∷ []) (n + 1)
+pub one_dealt : (shape : Shape) (indexes : List Index) (old new : List (Vec Pass)) (clients : List Client)
+    (client : Client) (n : ℕ) → AreDealt shape indexes old clients n → AreTaken client.shards.items old new
+    → AreDealt shape indexes new (clients ++ client ∷ []) (n + 1)
 one_dealt shape indexes old new clients client n were taken = record {
   left = taken_left client.shards.items old new n shape.passes taken were.left;
   each = λ s i at k below. ⊎_elim
@@ -116,9 +120,12 @@ one_dealt shape indexes old new clients client n were taken = record {
 }
 
 -- no pass is left
-pub all_dealt : (shape : Shape) (indexes : List Index) (lists : List (Vec Pass)) (clients : List Client) (n : ℕ) → AreDealt shape indexes lists clients n → n ≡ shape.passes → All (IsNewClient indexes) clients → AreAllClients indexes clients
+pub all_dealt : (shape : Shape) (indexes : List Index) (lists : List (Vec Pass)) (clients : List Client) (n : ℕ)
+    → AreDealt shape indexes lists clients n → n ≡ shape.passes → All (IsNewClient indexes) clients
+    → AreAllClients indexes clients
 all_dealt shape indexes lists clients n are end new = record {
-  of = λ place client there. zip_weaker IsNewOf (λ i c. c.index.now ≡ i) indexes client.shards.items (λ i c starts. starts.1.index) (all_at (IsNewClient indexes) clients place client new there).shards;
+  of = λ place client there. zip_weaker IsNewOf (λ i c. c.index.now ≡ i) indexes client.shards.items
+      (λ i c starts. starts.1.index) (all_at (IsNewClient indexes) clients place client new there).shards;
   all = λ s i at k below. ⊎_elim
       (λ (left : IsLeft lists s k).
       let long = all_at (λ (l : Vec Pass). length l.items + n ≡ shape.passes) lists s left.passes are.left left.there in
@@ -129,7 +136,8 @@ all_dealt shape indexes lists clients n are end new = record {
 }
 
 -- a list is empty
-pub none_left : (shape : Shape) (indexes : List Index) (lists : List (Vec Pass)) (clients : List Client) (n : ℕ) → AreDealt shape indexes lists clients n → Any (λ passes. passes.items ≡ []) lists → n ≡ shape.passes
+pub none_left : (shape : Shape) (indexes : List Index) (lists : List (Vec Pass)) (clients : List Client) (n : ℕ)
+    → AreDealt shape indexes lists clients n → Any (λ passes. passes.items ≡ []) lists → n ≡ shape.passes
 none_left shape indexes lists clients n are empty =
     let long = are.left empty.0 empty.1 empty.2 in
     let same = subst (λ (l : Vec Pass). length l.items + n ≡ shape.passes) empty.3 long in

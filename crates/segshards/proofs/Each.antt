@@ -29,7 +29,9 @@ pub one_longer : {X : Type 0} (xs ys : List X) (n : ℕ) (x : X) → n < length 
 one_longer xs ys n x below long same is = take_more xs n x below ∙ ap (λ k. take n xs ++ k ∷ []) (sym (is ∙ same_there xs ys n x below long same))
 
 -- two lists, the second made of the first in place
-pub zip_next : {X : Type 0} (R : X → X → Type 0) (xs ys : List X) (n : ℕ) (x y : X) → n < length xs → length ys ≡ length xs → drop n ys ≡ drop n xs → x ≡ get_or ys n x → AllZip R (take n xs) (take n ys) → R x y → AllZip R (take (n + 1) xs) (take (n + 1) (set ys n y))
+pub zip_next : {X : Type 0} (R : X → X → Type 0) (xs ys : List X) (n : ℕ) (x y : X) → n < length xs
+    → length ys ≡ length xs → drop n ys ≡ drop n xs → x ≡ get_or ys n x → AllZip R (take n xs) (take n ys) → R x y
+    → AllZip R (take (n + 1) xs) (take (n + 1) (set ys n y))
 zip_next R xs ys n x y below long same is were one =
     subst (λ l. AllZip R l (take (n + 1) (set ys n y))) (sym (one_longer xs ys n x below long same is))
     (subst (λ l. AllZip R (take n xs ++ x ∷ []) l) (sym (take_more_set ys n y (omega (arith, below, long))))
@@ -39,7 +41,9 @@ pub three_none : {A B C : Type 0} (R : A → B → C → Type 0) → AllThree R 
 unfolding AllThree
 three_none R = tt
 
-three_push : {A B C : Type 0} (R : A → B → C → Type 0) (ones : List A) (others : List B) (thirds : List C) (a : A) (b : B) (c : C) → AllThree R ones others thirds → R a b c → AllThree R (ones ++ a ∷ []) (others ++ b ∷ []) (thirds ++ c ∷ [])
+three_push : {A B C : Type 0} (R : A → B → C → Type 0) (ones : List A) (others : List B) (thirds : List C) (a : A)
+    (b : B) (c : C) → AllThree R ones others thirds → R a b c
+    → AllThree R (ones ++ a ∷ []) (others ++ b ∷ []) (thirds ++ c ∷ [])
 unfolding AllThree
 three_push R [] [] [] a b c were one = (one, tt)
 three_push R [] [] (z ∷ thirds) a b c were one = absurd were
@@ -49,14 +53,18 @@ three_push R (x ∷ ones) (y ∷ others) [] a b c were one = absurd were
 three_push R (x ∷ ones) (y ∷ others) (z ∷ thirds) a b c were one = (were.0, three_push R ones others thirds a b c were.1 one)
 
 -- the same with what was answered at each place
-pub three_next : {A X : Type 0} (R : A → X → X → Type 0) (each : List A) (xs ys : List X) (n : ℕ) (a : A) (x y : X) → n < length xs → length ys ≡ length xs → drop n ys ≡ drop n xs → x ≡ get_or ys n x → AllThree R each (take n xs) (take n ys) → R a x y → AllThree R (each ++ a ∷ []) (take (n + 1) xs) (take (n + 1) (set ys n y))
+pub three_next : {A X : Type 0} (R : A → X → X → Type 0) (each : List A) (xs ys : List X) (n : ℕ) (a : A) (x y : X)
+    → n < length xs → length ys ≡ length xs → drop n ys ≡ drop n xs → x ≡ get_or ys n x
+    → AllThree R each (take n xs) (take n ys) → R a x y
+    → AllThree R (each ++ a ∷ []) (take (n + 1) xs) (take (n + 1) (set ys n y))
 three_next R each xs ys n a x y below long same is were one =
     subst (λ l. AllThree R (each ++ a ∷ []) l (take (n + 1) (set ys n y))) (sym (one_longer xs ys n x below long same is))
     (subst (λ l. AllThree R (each ++ a ∷ []) (take n xs ++ x ∷ []) l) (sym (take_more_set ys n y (omega (arith, below, long))))
     (three_push R each (take n xs) (take n ys) a x y were one))
 
 -- at the end of the lists it is so of all
-pub all_three : {A X : Type 0} (R : A → X → X → Type 0) (each : List A) (xs ys : List X) (n : ℕ) → n ≡ length xs → length ys ≡ length xs → AllThree R each (take n xs) (take n ys) → AllThree R each xs ys
+pub all_three : {A X : Type 0} (R : A → X → X → Type 0) (each : List A) (xs ys : List X) (n : ℕ) → n ≡ length xs
+    → length ys ≡ length xs → AllThree R each (take n xs) (take n ys) → AllThree R each xs ys
 all_three R each xs ys n end long made =
     subst (λ l. AllThree R each l ys) (ap (λ m. take m xs) end ∙ take-length xs)
     (subst (λ l. AllThree R each (take n xs) l) (ap (λ m. take m ys) (end ∙ sym long) ∙ take-length ys) made)

@@ -50,7 +50,8 @@ one_quiet i client old new of quiet added =
     (All-cons (IsQuiet (board_of i)) client.member.pass [] (subst (λ j. IsQuiet (board_of j) client.member.pass) of client.is_member.0) (All-nil (IsQuiet (board_of i)))))
 
 -- the lists with the passes of one client more
-pub added_quiet : (indexes : List Index) (clients : List one.Client) (old new : List (Vec Pass)) → AllZip is_of indexes clients → AreOfShards indexes old → AreAdded clients old new → AreOfShards indexes new
+pub added_quiet : (indexes : List Index) (clients : List one.Client) (old new : List (Vec Pass))
+    → AllZip is_of indexes clients → AreOfShards indexes old → AreAdded clients old new → AreOfShards indexes new
 unfolding AllThree
 added_quiet [] [] [] [] of quiet added = tt
 added_quiet [] [] [] (l ∷ new) of quiet added = absurd added
@@ -87,7 +88,9 @@ now_have (c ∷ clients) (k ∷ old) (l ∷ new) added =
     (subst (λ ps. Contains ps c.member.pass) (sym added.0) (Contains-push k.items c.member.pass), now_have clients old new added.1)
 
 -- in the end there are all passes of each shard
-pub all_of_shards : (indexes : List Index) (clients : List Client) (lists : List (Vec Pass)) → AreAllClients indexes clients → AreOfShards indexes lists → All (have_passes lists) clients → AreAllOfShards indexes lists
+pub all_of_shards : (indexes : List Index) (clients : List Client) (lists : List (Vec Pass))
+    → AreAllClients indexes clients → AreOfShards indexes lists → All (have_passes lists) clients
+    → AreAllOfShards indexes lists
 all_of_shards indexes clients lists are quiet have = zip_from (λ i passes. AreAllQuiet (board_of i) passes.items) indexes lists (as_long indexes lists quiet) (λ n i passes at_i at. record {
   quiet = λ place p there. all_at (IsQuiet (board_of i)) passes.items place p (zip_both (λ j ps. All (IsQuiet (board_of j)) ps.items) indexes lists n i passes quiet at_i at) there;
   all = λ k below.
@@ -107,9 +110,12 @@ no_lists [] are = refl
 no_lists (l ∷ lists) are = absurd are
 
 -- one of what is left came to the shards
-pub one_came : {W A : Type 0} (f : W → A) (whole now : List W) (n : W) (x : A) (left rest all : List A) → now ≡ whole ++ n ∷ [] → f n ≡ x → left ≡ x ∷ rest → map f whole ++ left ≡ all → map f now ++ rest ≡ all
+pub one_came : {W A : Type 0} (f : W → A) (whole now : List W) (n : W) (x : A) (left rest all : List A)
+    → now ≡ whole ++ n ∷ [] → f n ≡ x → left ≡ x ∷ rest → map f whole ++ left ≡ all → map f now ++ rest ≡ all
 one_came f whole now n x left rest all pushed is steps was =
-    ap (λ l. map f l ++ rest) pushed ∙ (ap (λ l. l ++ rest) (map-append f whole (n ∷ [])) ∙ (append_assoc (map f whole) (f n ∷ []) rest ∙ (ap (λ y. map f whole ++ y ∷ rest) is ∙ (ap (λ l. map f whole ++ l) (sym steps) ∙ was))))
+    ap (λ l. map f l ++ rest) pushed ∙ (ap (λ l. l ++ rest) (map-append f whole (n ∷ []))
+        ∙ (append_assoc (map f whole) (f n ∷ []) rest
+        ∙ (ap (λ y. map f whole ++ y ∷ rest) is ∙ (ap (λ l. map f whole ++ l) (sym steps) ∙ was))))
 
 -- nothing is left
 pub all_came : {W A : Type 0} (f : W → A) (whole : List W) (left all : List A) → left ≡ [] → map f whole ++ left ≡ all → map f whole ≡ all

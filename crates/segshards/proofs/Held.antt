@@ -44,7 +44,8 @@ pub takes_hold : (key : List ℕ) (told answer : HoldAnswer) (old new : Client) 
     → HoldsKey key told old new
 takes_hold key told answer old new place was mid is none same at there sets call shards clock holds =
     subst (λ h. HoldsBy h key told old new) (sym (none_held old.holds none)) (record {
-      calls = calls_shard (shard_of (length old.shards.items) key) (made.HoldsKey key told) old new place was mid is at.0 at.1 there sets (subst (λ t. of_one.MakesCall (made.HoldsKey key t) mid is) same call) shards clock;
+      calls = calls_shard (shard_of (length old.shards.items) key) (made.HoldsKey key told) old new place was mid is
+          at.0 at.1 there sets (subst (λ t. of_one.MakesCall (made.HoldsKey key t) mid is) same call) shards clock;
       holds = holds ∙ ap (holds_after told) at.0;
     })
 

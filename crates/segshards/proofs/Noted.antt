@@ -16,7 +16,9 @@ same_note was is note same of = subst (λ client. is_note_of client note) same o
 abbrev pub of_same : one.Client → one.Client → Type 0
 of_same client other = other.index.now ≡ client.index.now
 
-meet_push : (olds others news nexts : List one.Client) (old other new next : one.Client) → MeetAll olds others news nexts → MeetInShard old other new next → MeetAll (olds ++ old ∷ []) (others ++ other ∷ []) (news ++ new ∷ []) (nexts ++ next ∷ [])
+meet_push : (olds others news nexts : List one.Client) (old other new next : one.Client)
+    → MeetAll olds others news nexts → MeetInShard old other new next
+    → MeetAll (olds ++ old ∷ []) (others ++ other ∷ []) (news ++ new ∷ []) (nexts ++ next ∷ [])
 unfolding MeetAll
 meet_push [] [] [] [] old other new next were one = (one, tt)
 meet_push [] [] [] (d ∷ nexts) old other new next were one = absurd were

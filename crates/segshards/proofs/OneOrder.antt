@@ -1,6 +1,7 @@
 -- Calls of all shards stand in one order: each has a point of the run of all shards,
 -- since it has one of the run of its own.
-use Rattle.std.proofs.Common.{◌≡◌, ◌≢◌, ℕ, suc, ◌+◌, ◌*◌, ◌<◌, ◌≤◌, ◌==◌, Bool, true, false, All, IsPermutation, List, [], ◌∷◌, ◌++◌, length, length-append, map, sym, refl, ap, ◌∙◌, subst, inl, inr, ⊎_elim, arith}
+use Rattle.std.proofs.Common.{◌≡◌, ◌≢◌, ℕ, suc, ◌+◌, ◌*◌, ◌<◌, ◌≤◌, ◌==◌, Bool, true, false, All, IsPermutation,
+    List, [], ◌∷◌, ◌++◌, length, length-append, map, sym, refl, ap, ◌∙◌, subst, inl, inr, ⊎_elim, arith}
 use Rattle.std.proofs.lemmas.Bool.{cases_lt, eqb-true}
 use Rattle.std.proofs.lemmas.List.Elements.{All-cons, All-head, All-nil, All-tail}
 use Rattle.std.proofs.lemmas.List.Sorted.{All-permutation, IsPermutation-map, IsPermutation-sym}
@@ -33,7 +34,9 @@ Pointed z world call = (point : ℕ) × IsPlaced z world (record { call = call; 
 all_pointed : (z : Shape) (world : ℕ → World) (order : List Placed) → All (IsPlaced z world) order → All (Pointed z world) (map (λ placed. placed.call) order)
 all_pointed z world [] all = All-nil (Pointed z world)
 all_pointed z world (placed ∷ order) all =
-    All-cons (Pointed z world) placed.call (map (λ placed. placed.call) order) (placed.point, All-head (IsPlaced z world) placed order all) (all_pointed z world order (All-tail (IsPlaced z world) placed order all))
+    All-cons (Pointed z world) placed.call (map (λ placed. placed.call) order) (placed.point,
+        All-head (IsPlaced z world) placed order all)
+        (all_pointed z world order (All-tail (IsPlaced z world) placed order all))
 
 -- ---- a call takes a step
 
@@ -81,9 +84,13 @@ module _ (z : Shape) (count : ℕ) (world : ℕ → ℕ → World) (steps : ℕ)
   own_point : (it : ShardCall) → IsShardCallOf z count world steps it → Pointed z (worlds_of it.shard) (own_call it)
   own_point it is =
       let n = it.shard in
-      let all = linearizable z (worlds_of n) (steps_of n steps) (own_call it ∷ []) (own_run z count world steps run n is.0) (All-cons (IsCallOf z (worlds_of n) (steps_of n steps)) (own_call it) [] (is_own it is) (All-nil (IsCallOf z (worlds_of n) (steps_of n steps)))) in
+      let all = linearizable z (worlds_of n) (steps_of n steps) (own_call it ∷ [])
+          (own_run z count world steps run n is.0) (All-cons (IsCallOf z (worlds_of n) (steps_of n steps))
+          (own_call it) [] (is_own it is) (All-nil (IsCallOf z (worlds_of n) (steps_of n steps)))) in
       All-head (Pointed z (worlds_of n)) (own_call it) []
-      (All-permutation (Pointed z (worlds_of n)) (map (λ (p : Placed). p.call) all.order) (own_call it ∷ []) (IsPermutation-sym (own_call it ∷ []) (map (λ (p : Placed). p.call) all.order) all.all) (all_pointed z (worlds_of n) all.order all.each))
+      (All-permutation (Pointed z (worlds_of n)) (map (λ (p : Placed). p.call) all.order) (own_call it ∷ [])
+          (IsPermutation-sym (own_call it ∷ []) (map (λ (p : Placed). p.call) all.order) all.all)
+          (all_pointed z (worlds_of n) all.order all.each))
 
   -- ---- its point in the run of all
 
@@ -103,7 +110,9 @@ module _ (z : Shape) (count : ℕ) (world : ℕ → ℕ → World) (steps : ℕ)
       let own = latest run.taken n steps k (omega (arith, le, up)) in let is = latest run.taken n to k le in let until = is.until in
       same_world z count world steps run n (when run.taken n steps k) (when run.taken n to k) own.until (omega (arith, until, in_run)) (own.is ∙ sym is.is)
 
-  all_point : (n pass from to : ℕ) (effect : Effect) (k : ℕ) → from ≤ to → to ≤ steps → 2 * steps_of n from ≤ linear.place effect k → linear.place effect k ≤ 2 * steps_of n to → OwnRight n pass effect k → HasPoint n pass from to effect
+  all_point : (n pass from to : ℕ) (effect : Effect) (k : ℕ) → from ≤ to → to ≤ steps
+      → 2 * steps_of n from ≤ linear.place effect k → linear.place effect k ≤ 2 * steps_of n to
+      → OwnRight n pass effect k → HasPoint n pass from to effect
   all_point n pass from to (gets_value key now read) k le in_run low high right =
       let few : k ≤ steps_of n to = omega (arith, high) in
       let is = latest run.taken n to k few in let until = is.until in
@@ -129,7 +138,9 @@ module _ (z : Shape) (count : ℕ) (world : ℕ → ℕ → World) (steps : ℕ)
       let early = before run.taken n to k t is few in
       let onward = since run.taken n to k t from is le (omega (arith, low)) in
       let own = latest run.taken n steps (suc k) (let up = grows run.taken n to steps in_run in omega (arith, few, up)) in
-      let next : worlds_of n (suc k) ≡ world n (suc t) = same_world z count world steps run n (when run.taken n steps (suc k)) (suc t) own.until (omega (arith, early, in_run)) (own.is ∙ sym (is.next early)) in record {
+      let next : worlds_of n (suc k) ≡ world n (suc t) =
+          same_world z count world steps run n (when run.taken n steps (suc k)) (suc t) own.until
+          (omega (arith, early, in_run)) (own.is ∙ sym (is.next early)) in record {
         point = t;
         since = omega (arith, onward);
         until = omega (arith, early);
@@ -150,7 +161,9 @@ module _ (z : Shape) (count : ℕ) (world : ℕ → ℕ → World) (steps : ℕ)
   placed it is =
       let own = own_point it is in
       let at = all_point it.shard it.call.pass it.call.began it.call.returned it.call.effect own.0 is.1.in_time.0 is.1.in_time.1 own.1.since own.1.until own.1.right in
-      (record { shard = it.shard; placed = record { call = it.call; point = at.point } }, refl, (record { since = at.since; until = at.until; right = at.right }, takes_step z (world it.shard) steps it.call is.1, is.1.in_time.1))
+      (record { shard = it.shard; placed = record { call = it.call; point = at.point } }, refl,
+          (record { since = at.since; until = at.until; right = at.right },
+          takes_step z (world it.shard) steps it.call is.1, is.1.in_time.1))
 
   record ArePlaced (calls : List ShardCall) : Type 0 where
     pub placed : List ShardPlaced
@@ -196,9 +209,12 @@ module _ (z : Shape) (count : ℕ) (world : ℕ → ℕ → World) (steps : ℕ)
   abbrev place_of : ShardPlaced → ℕ
   place_of it = linear.place it.placed.call.effect it.placed.point
 
-  own_points : (a b : ShardPlaced) → IsSound a → IsSound b → (point : ℕ) → place_of a ≡ 2 * point + 1 → place_of b ≡ 2 * point + 1 → (a.placed.call.pass ≡ b.placed.call.pass) × (b.placed.call.began < a.placed.call.returned)
+  own_points : (a b : ShardPlaced) → IsSound a → IsSound b → (point : ℕ) → place_of a ≡ 2 * point + 1
+      → place_of b ≡ 2 * point + 1 → (a.placed.call.pass ≡ b.placed.call.pass)
+      × (b.placed.call.began < a.placed.call.returned)
   own_points a b s t point here here' = let high = s.0.until in let low = t.0.since in let end = s.2 in (
-    one_writer a.shard b.shard a.placed.call.pass b.placed.call.pass a.placed.call.effect b.placed.call.effect a.placed.point b.placed.point point (omega (arith, here, high, end)) here here' s.0.right t.0.right,
+    one_writer a.shard b.shard a.placed.call.pass b.placed.call.pass a.placed.call.effect b.placed.call.effect
+        a.placed.point b.placed.point point (omega (arith, here, high, end)) here here' s.0.right t.0.right,
     omega (arith, here, here', high, low),
   )
 
@@ -209,7 +225,9 @@ module _ (z : Shape) (count : ℕ) (world : ℕ → ℕ → World) (steps : ℕ)
 
   all_precede : (a : ShardPlaced) (l : List ShardPlaced) → IsSound a → All IsSound l → All (Comes a) l → All (MayPrecede a.placed) (map (λ it. it.placed) l)
   all_precede a [] s t c = All-nil (MayPrecede a.placed)
-  all_precede a (b ∷ l) s t c = All-cons (MayPrecede a.placed) b.placed (map (λ (it : ShardPlaced). it.placed) l) (precedes a b s (All-head IsSound b l t) (All-head (Comes a) b l c)) (all_precede a l s (All-tail IsSound b l t) (All-tail (Comes a) b l c))
+  all_precede a (b ∷ l) s t c = All-cons (MayPrecede a.placed) b.placed (map (λ (it : ShardPlaced). it.placed) l)
+      (precedes a b s (All-head IsSound b l t) (All-head (Comes a) b l c))
+      (all_precede a l s (All-tail IsSound b l t) (All-tail (Comes a) b l c))
 
   ordered : (l : List ShardPlaced) → All IsSound l → Sorted l → IsOrdered (map (λ it. it.placed) l)
   ordered [] s c = tt

@@ -15,16 +15,22 @@ use Rattle.segshards.specs.Shards.{AreOfShards}
 abbrev QuietIn : Index → Vec Pass → Type 0
 QuietIn i passes = All (IsQuiet (board_of i)) passes.items
 
-pub one_more : (indexes : List Index) (lists : List (Vec Pass)) (i : Index) (passes : Vec Pass) → AreOfShards indexes lists → All (IsQuiet (board_of i)) passes.items → AreOfShards (indexes ++ i ∷ []) (lists ++ passes ∷ [])
+pub one_more : (indexes : List Index) (lists : List (Vec Pass)) (i : Index) (passes : Vec Pass)
+    → AreOfShards indexes lists → All (IsQuiet (board_of i)) passes.items
+    → AreOfShards (indexes ++ i ∷ []) (lists ++ passes ∷ [])
 one_more indexes lists i passes are quiet = zip_push QuietIn indexes lists i passes are quiet
 
-pub quiet_at : (indexes : List Index) (lists : List (Vec Pass)) (n : ℕ) (i : Index) (passes : Vec Pass) → AreOfShards indexes lists → n < length indexes → i ≡ get_or indexes n i → passes ≡ get_or lists n passes → All (IsQuiet (board_of i)) passes.items
+pub quiet_at : (indexes : List Index) (lists : List (Vec Pass)) (n : ℕ) (i : Index) (passes : Vec Pass)
+    → AreOfShards indexes lists → n < length indexes → i ≡ get_or indexes n i → passes ≡ get_or lists n passes
+    → All (IsQuiet (board_of i)) passes.items
 quiet_at [] lists n i passes are below is_i is_passes = absurd (omega (arith, below))
 quiet_at (j ∷ indexes) [] n i passes are below is_i is_passes = absurd are
 quiet_at (j ∷ indexes) (l ∷ lists) zero i passes are below is_i is_passes = subst (λ k. QuietIn k passes) (sym is_i) (subst (QuietIn j) (sym is_passes) are.0)
 quiet_at (j ∷ indexes) (l ∷ lists) (suc n) i passes are below is_i is_passes = quiet_at indexes lists n i passes are.1 (omega (arith, below)) is_i is_passes
 
-pub set_at : (indexes : List Index) (lists : List (Vec Pass)) (n : ℕ) (i : Index) (passes : Vec Pass) → AreOfShards indexes lists → n < length indexes → i ≡ get_or indexes n i → All (IsQuiet (board_of i)) passes.items → AreOfShards indexes (set lists n passes)
+pub set_at : (indexes : List Index) (lists : List (Vec Pass)) (n : ℕ) (i : Index) (passes : Vec Pass)
+    → AreOfShards indexes lists → n < length indexes → i ≡ get_or indexes n i
+    → All (IsQuiet (board_of i)) passes.items → AreOfShards indexes (set lists n passes)
 set_at [] lists n i passes are below is_i quiet = absurd (omega (arith, below))
 set_at (j ∷ indexes) [] n i passes are below is_i quiet = absurd are
 set_at (j ∷ indexes) (l ∷ lists) zero i passes are below is_i quiet = (subst (λ k. QuietIn k passes) is_i quiet, are.1)
@@ -37,7 +43,9 @@ abbrev pub IsNewOf : Index → Client → Type 0
 IsNewOf i client = (p : Pass) × Starts i (Some 0) p client
 
 -- one client more, of the index at this place
-pub one_client : (indexes : List Index) (clients : List Client) (n : ℕ) (i : Index) (p : Pass) (client : Client) → n < length indexes → i ≡ get_or indexes n i → AreNewClients (take n indexes) clients → Starts i (Some 0) p client → AreNewClients (take (n + 1) indexes) (clients ++ client ∷ [])
+pub one_client : (indexes : List Index) (clients : List Client) (n : ℕ) (i : Index) (p : Pass) (client : Client)
+    → n < length indexes → i ≡ get_or indexes n i → AreNewClients (take n indexes) clients
+    → Starts i (Some 0) p client → AreNewClients (take (n + 1) indexes) (clients ++ client ∷ [])
 one_client indexes clients n i p client below is were starts =
     subst (λ l. AreNewClients l (clients ++ client ∷ [])) (sym (subst (λ k. take (n + 1) indexes ≡ take n indexes ++ k ∷ []) (sym is) (take_more indexes n i below)))
     (zip_push IsNewOf (take n indexes) clients i client were (p, starts))

@@ -30,7 +30,8 @@ zip_there R (a ∷ xs) (b ∷ ys) zero x y zip below is_x is_y = subst (λ k. R 
 zip_there R (a ∷ xs) (b ∷ ys) (suc n) x y zip below is_x is_y = zip_there R xs ys n x y zip.1 (omega (arith, below)) is_x is_y
 
 -- two lists are as long as each other, and it is so at each place
-pub zip_from : {A B : Type 0} (R : A → B → Type 0) (xs : List A) (ys : List B) → length ys ≡ length xs → ((n : ℕ) (x : A) (y : B) → slice_get xs n ≡ Some x → slice_get ys n ≡ Some y → R x y) → AllZip R xs ys
+pub zip_from : {A B : Type 0} (R : A → B → Type 0) (xs : List A) (ys : List B) → length ys ≡ length xs
+    → ((n : ℕ) (x : A) (y : B) → slice_get xs n ≡ Some x → slice_get ys n ≡ Some y → R x y) → AllZip R xs ys
 zip_from R [] [] long at = tt
 zip_from R [] (b ∷ ys) long at = absurd (omega (arith, long))
 zip_from R (a ∷ xs) [] long at = absurd (omega (arith, long))
@@ -40,7 +41,8 @@ one_on : (n : ℕ) → suc (n + 1) ≡ suc n + 1
 one_on n = omega arith
 
 -- the first of the rest stands beside the first of the other list
-pub zip_first : {A B : Type 0} (R : A → B → Type 0) (xs : List A) (n : ℕ) (ys : List B) (y : B) (d : A) → AllZip R (drop n xs) (y ∷ ys) → (n < length xs) × R (get_or xs n d) y × AllZip R (drop (n + 1) xs) ys
+pub zip_first : {A B : Type 0} (R : A → B → Type 0) (xs : List A) (n : ℕ) (ys : List B) (y : B) (d : A)
+    → AllZip R (drop n xs) (y ∷ ys) → (n < length xs) × R (get_or xs n d) y × AllZip R (drop (n + 1) xs) ys
 zip_first R [] zero ys y d zip = absurd zip
 zip_first R [] (suc n) ys y d zip = absurd zip
 zip_first R (x ∷ xs) zero ys y d zip = (omega arith, zip.0, zip.1)
@@ -59,7 +61,9 @@ zip_ends R (x ∷ xs) zero zip = absurd zip
 zip_ends R (x ∷ xs) (suc n) zip = let rest = zip_ends R xs n zip in omega (arith, rest)
 
 -- what stands beside one of the second list
-pub three_at : {A B C : Type 0} (R : A → B → C → Type 0) (xs : List A) (ys : List B) (zs : List C) (n : ℕ) (y : B) → AllThree R xs ys zs → slice_get ys n ≡ Some y → (x : A) × (z : C) × (slice_get xs n ≡ Some x) × (slice_get zs n ≡ Some z) × R x y z
+pub three_at : {A B C : Type 0} (R : A → B → C → Type 0) (xs : List A) (ys : List B) (zs : List C) (n : ℕ) (y : B)
+    → AllThree R xs ys zs → slice_get ys n ≡ Some y → (x : A) × (z : C) × (slice_get xs n ≡ Some x)
+    × (slice_get zs n ≡ Some z) × R x y z
 unfolding AllThree
 three_at R [] [] [] n y three at = absurd (none-some y at)
 three_at R [] [] (c ∷ zs) n y three at = absurd three
@@ -75,7 +79,8 @@ all_at P xs n x all at = subst P (get_or_from_slice_get xs n x x at) (all n x (s
 
 -- a list that was gone through up to here
 pub gone_through : {A : Type 0} (xs ys zs : List A) (y : A) → xs ≡ ys ++ y ∷ zs → (length ys < length xs) × (slice_get xs (length ys) ≡ Some y)
-gone_through xs ys zs y is = (let long = ap length is in let parts = length-append ys (y ∷ zs) in omega (arith, long, parts), subst (λ l. slice_get l (length ys) ≡ Some y) (sym is) (there_behind ys zs y))
+gone_through xs ys zs y is = (let long = ap length is in let parts = length-append ys (y ∷ zs) in
+    omega (arith, long, parts), subst (λ l. slice_get l (length ys) ≡ Some y) (sym is) (there_behind ys zs y))
   where
     there_behind : {A : Type 0} (ys zs : List A) (y : A) → slice_get (ys ++ y ∷ zs) (length ys) ≡ Some y
     there_behind [] zs y = refl

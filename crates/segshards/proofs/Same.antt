@@ -27,7 +27,8 @@ seen_there f (a ∷ xs) (b ∷ ys) zero x same at = (b, refl, same_head (f b) (f
 seen_there f (a ∷ xs) (b ∷ ys) (suc n) x same at = seen_there f xs ys n x (same_tail (f b) (f a) (map f ys) (map f xs) same) at
 
 -- what goes by how the elements are seen goes from the one list to the other
-pub zip_seen : {X A B : Type 0} (f : A → B) (R : X → A → Type 0) (is : List X) (xs ys : List A) → ((i : X) (x y : A) → f y ≡ f x → R i x → R i y) → map f ys ≡ map f xs → AllZip R is xs → AllZip R is ys
+pub zip_seen : {X A B : Type 0} (f : A → B) (R : X → A → Type 0) (is : List X) (xs ys : List A)
+    → ((i : X) (x y : A) → f y ≡ f x → R i x → R i y) → map f ys ≡ map f xs → AllZip R is xs → AllZip R is ys
 zip_seen f R [] [] [] moves same zip = tt
 zip_seen f R [] [] (y ∷ ys) moves same zip = absurd (let long = ap length same in omega (arith, long))
 zip_seen f R [] (x ∷ xs) ys moves same zip = absurd zip
@@ -79,7 +80,9 @@ called_same Made old place was mid is keeps there sets made =
 pub each_same : (Made : Board → Member → Member → Type 0) (xs ys : List one.Client) → KeepsNumber Made → AllZip (of_one.MakesCall Made) xs ys → map seat_of ys ≡ map seat_of xs
 each_same Made xs ys keeps = zip_maps seat_of (of_one.MakesCall Made) xs ys (λ x y. call_same Made x y keeps)
 
-pub answers_same : {A : Type 0} (Made : A → Board → Member → Member → Type 0) (each : List A) (xs ys : List one.Client) → ((a : A) → KeepsNumber (Made a)) → AllThree (λ a. of_one.MakesCall (Made a)) each xs ys → map seat_of ys ≡ map seat_of xs
+pub answers_same : {A : Type 0} (Made : A → Board → Member → Member
+    → Type 0) (each : List A) (xs ys : List one.Client) → ((a : A) → KeepsNumber (Made a))
+    → AllThree (λ a. of_one.MakesCall (Made a)) each xs ys → map seat_of ys ≡ map seat_of xs
 answers_same Made each xs ys keeps = three_maps seat_of (λ a. of_one.MakesCall (Made a)) each xs ys (λ a x y. call_same (Made a) x y (keeps a))
 
 -- two clients that met in each shard
@@ -107,7 +110,9 @@ still_of : (indexes : List Index) (old new : Client) → IsSame old new → IsCl
 still_of indexes old new same of = zip_seen seat_of (λ i one. one.index.now ≡ i) indexes old.shards.items new.shards.items (λ i x y. index_same i x y) same of
 
 -- the one has the pass that the other had
-still_has : (clients : List Client) (place shard n : ℕ) (old new : Client) (its : one.Client) → slice_get clients place ≡ Some new → IsSame old new → slice_get old.shards.items shard ≡ Some its → number its.member.pass ≡ n → HasPass clients shard n
+still_has : (clients : List Client) (place shard n : ℕ) (old new : Client) (its : one.Client)
+    → slice_get clients place ≡ Some new → IsSame old new → slice_get old.shards.items shard ≡ Some its
+    → number its.member.pass ≡ n → HasPass clients shard n
 still_has clients place shard n old new its there same at is =
     let seen = seen_there seat_of old.shards.items new.shards.items shard its same at in record {
       place = place;

@@ -30,7 +30,8 @@ no_fault keys passes BadRows range few is = is
 no_fault keys passes TooLarge range few is = let many = is.1 in absurd (omega (arith, few, many))
 
 -- the number of shards, from the steps that make it
-pub counted : (keys threads writers a b d share count : ℕ) → count ≡ max share 1 → share ≡ div_ceil (a * b) d → a ≡ keys → b ≡ threads → d ≡ 262144 * writers → count ≡ max (div_ceil (keys * threads) (262144 * writers)) 1
+pub counted : (keys threads writers a b d share count : ℕ) → count ≡ max share 1 → share ≡ div_ceil (a * b) d
+    → a ≡ keys → b ≡ threads → d ≡ 262144 * writers → count ≡ max (div_ceil (keys * threads) (262144 * writers)) 1
 counted keys threads writers a b d share count is_count is_share is_a is_b is_d = rw (is_count, is_share, is_a, is_b, is_d) refl
 
 -- there are no more shards of more keys each
@@ -47,7 +48,10 @@ fewer_of_more x w some = by (cases_lt (div_ceil x (200000 * w)) (div_ceil x (262
         absurd (omega (arith, large, small, step, spread))
 
 -- no more shards than are needed, from the steps that make their number
-pub as_needed : (keys threads writers a b d count least wanted : ℕ) → AreWriters threads writers → least ≡ max (div_ceil (keys * threads) (262144 * writers)) 1 → count ≤ max least wanted → wanted ≡ div_ceil (a * b) d → a ≡ keys → b ≡ threads → d ≡ 200000 * writers → count ≤ max 1 (div_ceil (keys * threads) (200000 * writers))
+pub as_needed : (keys threads writers a b d count least wanted : ℕ) → AreWriters threads writers
+    → least ≡ max (div_ceil (keys * threads) (262144 * writers)) 1 → count ≤ max least wanted
+    → wanted ≡ div_ceil (a * b) d → a ≡ keys → b ≡ threads → d ≡ 200000 * writers
+    → count ≤ max 1 (div_ceil (keys * threads) (200000 * writers))
 as_needed keys threads writers a b d count least wanted are is_least few is_wanted is_a is_b is_d =
     let fewer = fewer_of_more (keys * threads) writers are.1.0 in
     let wanted_is : wanted ≡ div_ceil (keys * threads) (200000 * writers) = rw (is_wanted, is_a, is_b, is_d) refl in
@@ -109,7 +113,9 @@ module _ (keys threads writers least count each : ℕ) (are : AreWriters threads
       two_rows =
           let room : 2 * wide ≤ threads * rows.segments_each * rows.rows = rw are_rows.1 at are_rows.2.rows in
           let times : (2 * wide) * writers ≤ (threads * rows.segments_each * rows.rows) * writers = mul-le-mul_right writers room in
-          let less : 2 * each < writers * (rows.segments_each * rows.rows) + 1 = less_each (2 * each) (writers * (rows.segments_each * rows.rows) + 1) threads (omega (arith, times, wide_times.0, are.0.0)) in
+          let less : 2 * each < writers * (rows.segments_each * rows.rows) + 1 =
+              less_each (2 * each) (writers * (rows.segments_each * rows.rows) + 1) threads
+              (omega (arith, times, wide_times.0, are.0.0)) in
           omega (arith, less)
 
       pub room : HasRoomForWriters each writers made

@@ -25,7 +25,9 @@ of_rows_long f row zero = refl
 of_rows_long f row (suc count) = ap suc (of_rows_long f (suc row) count)
 
 -- what is sound is so with other frequencies, if there are as many
-sound_with : (shape : Shape) (frequencies : ℕ → List ℕ) (state : State) → ((segment : ℕ) → length (frequencies segment) ≡ length (state.filling segment).keys) → IsSound shape state → IsSound shape (with_frequencies frequencies state)
+sound_with : (shape : Shape) (frequencies : ℕ → List ℕ) (state : State)
+    → ((segment : ℕ) → length (frequencies segment) ≡ length (state.filling segment).keys) → IsSound shape state
+    → IsSound shape (with_frequencies frequencies state)
 sound_with shape frequencies state long sound = record {
   items = sound.items;
   ordered = sound.ordered;
@@ -49,11 +51,15 @@ hit_with frequencies key (Some item) state = λ i. record state { filling = λ s
     raised = raised_in key (state.filling item.segment)
 
     by : (segment : ℕ) (here : Bool) → (here ≡ true → item.segment ≡ segment)
-        → ◌≡◌ {A = Filling} (record (cond here (raised_in key (state.filling item.segment)) (state.filling segment)) { frequencies = frequencies segment }) (record (state.filling segment) { frequencies = frequencies segment })
+        → ◌≡◌ {A = Filling} (record (cond here (raised_in key (state.filling item.segment)) (state.filling segment))
+            { frequencies = frequencies segment }) (record (state.filling segment) { frequencies =
+            frequencies segment })
     by segment true is = ap {B = Filling} (λ s. record (state.filling s) { frequencies = frequencies segment }) (is refl)
     by segment false is = refl
 
-if_hit_with : (frequencies : ℕ → List ℕ) (locked : Bool) (key : List ℕ) (found : Option Cached) (state : State) → with_frequencies frequencies (cond locked state (after_hit key found state)) ≡ with_frequencies frequencies state
+if_hit_with : (frequencies : ℕ → List ℕ) (locked : Bool) (key : List ℕ) (found : Option Cached) (state : State)
+    → with_frequencies frequencies (cond locked state (after_hit key found state)) ≡ with_frequencies frequencies
+    state
 if_hit_with frequencies true key found state = refl
 if_hit_with frequencies false key found state = hit_with frequencies key found state
 
@@ -65,7 +71,8 @@ module _ (b : Board) (p q : Pass) (was : IsAlone b p) (on : GoesOn b p q) (undra
 
   at_frequencies : state_at b.shape q ≡ with_frequencies (frequencies_in q) (state_at b.shape p)
   at_frequencies = let widths = same_widths b p q was on undrawn in
-      at_state b.shape q (with_frequencies (frequencies_in q) (state_at b.shape p)) (ap (after b.shape) same) (λ segment. ap (λ (x : PlainPart). or_empty (state_in (own_segment x segment))) nothing.plain)
+      at_state b.shape q (with_frequencies (frequencies_in q) (state_at b.shape p)) (ap (after b.shape) same)
+          (λ segment. ap (λ (x : PlainPart). or_empty (state_in (own_segment x segment))) nothing.plain)
       (λ segment. ap (λ h. keys_stored_in h segment) same) (λ segment. refl) (ap (λ (x : PlainPart). x.current) nothing.plain) widths.wide widths.drawn
       (ap (λ (m : Memo). option_map item_of m.holding) nothing.memo) (ap (λ (x : PlainPart). x.locked) nothing.plain)
 
@@ -85,7 +92,8 @@ module _ (b : Board) (p q : Pass) (was : IsAlone b p) (on : GoesOn b p q) (undra
 pub exactly : (b : Board) (command : Command) (told : Answer) (p q : Pass) → ServesAlone b command told p q → ServesButFrequencies b command told p q
 exactly b command told p q served = (served.0, state_at b.shape q, served.1, ((λ segment. ((state_at b.shape q).filling segment).frequencies), refl))
 
-pub get_served : (b : Board) (p q : Pass) (key : List ℕ) (draw now : ℕ) (told : GetAnswer) → IsAlone b p → ReadsKey b key draw now told p q → ServesButFrequencies b (command.Get key now) (answer.Get told) p q
+pub get_served : (b : Board) (p q : Pass) (key : List ℕ) (draw now : ℕ) (told : GetAnswer) → IsAlone b p
+    → ReadsKey b key draw now told p q → ServesButFrequencies b (command.Get key now) (answer.Get told) p q
 get_served b p q key draw now told was is =
     let found = present (after b.shape (seen p)) now key in (
       still_alone b p q was is.on is.costs.looks.draws_nothing is.keeps,
@@ -94,7 +102,8 @@ get_served b p q key draw now told was is =
       (frequencies_in q, at_frequencies b p q was is.on is.costs.looks.draws_nothing is.keeps ∙ sym (hit_with (frequencies_in q) key found (state_at b.shape p))),
     )
 
-pub gets_served : (b : Board) (p q : Pass) (key : List ℕ) (draw now : ℕ) (told : GetsAnswer) → IsAlone b p → ReadsVersion b key draw now told p q → ServesButFrequencies b (command.Gets key now) (answer.Gets told) p q
+pub gets_served : (b : Board) (p q : Pass) (key : List ℕ) (draw now : ℕ) (told : GetsAnswer) → IsAlone b p
+    → ReadsVersion b key draw now told p q → ServesButFrequencies b (command.Gets key now) (answer.Gets told) p q
 gets_served b p q key draw now told was is =
     let found = present (after b.shape (seen p)) now key in
     let locked = is_locked b.shape (state_at b.shape p) key in (

@@ -1,5 +1,7 @@
 -- What evictions of a segment's keys, one entry for each, leave of a cache: it is without these keys, each of which stood in the segment before them.
-use Rattle.std.proofs.Common.{◌≡◌, ◌≢◌, ℕ, ◌+◌, ◌||◌, not, Bool, true, false, cond, List, [], ◌∷◌, ◌++◌, length, filter, count_by, is_some, IsSomeAnd, Option, Some, None, refl, sym, ap, subst, ◌∙◌, arith, append_assoc, eqb, eq-eqb}
+use Rattle.std.proofs.Common.{◌≡◌, ◌≢◌, ℕ, ◌+◌, ◌||◌, not, Bool, true, false, cond, List, [], ◌∷◌, ◌++◌, length,
+    filter, count_by, is_some, IsSomeAnd, Option, Some, None, refl, sym, ap, subst, ◌∙◌, arith, append_assoc, eqb,
+    eq-eqb}
 use Rattle.std.specs.List.{AllByRecursion, list_any}
 use Rattle.std.specs.List.Sorted.{IsStrictlySortedBy}
 use Rattle.std.specs.Map.{lookup, keys_of}
@@ -33,7 +35,8 @@ filter_twice p r [] = refl
 filter_twice {X = X} p r (x ∷ xs) = by (p x) (r x) refl (filter_twice p r xs)
   where
     by : (s t : Bool) → p x ≡ s → filter (λ y. not (p y)) (filter (λ y. not (r y)) xs) ≡ filter (λ y. not (p y || r y)) xs
-        → filter (λ y. not (p y)) (cond (not t) (x ∷ filter (λ y. not (r y)) xs) (filter (λ y. not (r y)) xs)) ≡ cond (not (s || t)) (x ∷ filter (λ y. not (p y || r y)) xs) (filter (λ y. not (p y || r y)) xs)
+        → filter (λ y. not (p y)) (cond (not t) (x ∷ filter (λ y. not (r y)) xs) (filter (λ y. not (r y)) xs)) ≡
+            cond (not (s || t)) (x ∷ filter (λ y. not (p y || r y)) xs) (filter (λ y. not (p y || r y)) xs)
     by true true is rest = rest
     by false true is rest = rest
     by true false is rest = ap (λ v. cond (not v) (x ∷ filter (λ y. not (p y)) (filter (λ y. not (r y)) xs)) (filter (λ y. not (p y)) (filter (λ y. not (r y)) xs))) is ∙ rest
@@ -69,7 +72,9 @@ each_item P (e ∷ items) sorted found = (
   each_item P items sorted.1 (λ key item is. found key item (by key item (is_at (key_cmp key) e.0) refl is)),
 )
   where
-    by : (key : List ℕ) (item : Cached) (here : Bool) → is_at (key_cmp key) e.0 ≡ here → lookup (is_at (key_cmp key)) items ≡ Some item → cond here (Some e.1) (lookup (is_at (key_cmp key)) items) ≡ Some item
+    by : (key : List ℕ) (item : Cached) (here : Bool) → is_at (key_cmp key) e.0 ≡ here
+        → lookup (is_at (key_cmp key)) items ≡ Some item
+        → cond here (Some e.1) (lookup (is_at (key_cmp key)) items) ≡ Some item
     by key item true same is = absurd (none-some item (sym (above_absent key items (subst (λ k. Above k (keys_of items)) (sym (same_key key e.0 same)) sorted.0)) ∙ is))
     by key item false same is = is
 
@@ -100,13 +105,17 @@ module _ (shape : Shape) (pass segment : ℕ) (history : List Entry) where
       pass segment
       (ap (λ items. record (after shape history) { items = items }) (sym (filter_all (after shape history).items)))
       (λ key more all rest. ap (without key) rest
-      ∙ ap (λ items. record (after shape history) { items = items }) (filter_twice (λ (e : List ℕ × Cached). is_at (key_cmp key) e.0) (λ (e : List ℕ × Cached). is_evicted more e.0) (after shape history).items))
+      ∙ ap (λ items. record (after shape history) { items = items })
+          (filter_twice (λ (e : List ℕ × Cached). is_at (key_cmp key) e.0)
+          (λ (e : List ℕ × Cached). is_evicted more e.0) (after shape history).items))
 
   standing_left : (key : List ℕ) (evictions : List Entry) → AreEvictions pass segment evictions
       → standing (after shape (evictions ++ history)) key ≡ cond (is_evicted evictions key) None (standing (after shape history) key)
   standing_left key = by_eviction (λ evictions. standing (after shape (evictions ++ history)) key ≡ cond (is_evicted evictions key) None (standing (after shape history) key)) pass segment
       refl
-      (λ other more all rest. standing-without other (after shape (more ++ history)) key ∙ (ap (λ o. cond (not (is_at (key_cmp other) key)) o None) rest ∙ by (is_at (key_cmp other) key) (is_evicted more key)))
+      (λ other more all rest. standing-without other (after shape (more ++ history)) key
+          ∙ (ap (λ o. cond (not (is_at (key_cmp other) key)) o None) rest
+          ∙ by (is_at (key_cmp other) key) (is_evicted more key)))
     where
       by : (here gone : Bool) → cond (not here) (cond gone None (standing (after shape history) key)) None ≡ cond (here || gone) None (standing (after shape history) key)
       by true gone = refl
@@ -128,7 +137,9 @@ module _ (shape : Shape) (pass segment : ℕ) (history : List Entry) where
       subst (λ o. IsSomeAnd o (λ item. item.segment ≡ segment)) (sym (standing_left key evictions all ∙ ap (λ gone. cond gone None (standing (after shape history) key)) stays)) stands
 
   -- each key that was evicted stood in the segment
-  pub stood_in : (key : List ℕ) (evictions : List Entry) → AreEvictions pass segment evictions → IsLegal shape (evictions ++ history) → is_evicted evictions key ≡ true → StandsIn (after shape history) key segment
+  pub stood_in : (key : List ℕ) (evictions : List Entry) → AreEvictions pass segment evictions
+      → IsLegal shape (evictions ++ history) → is_evicted evictions key ≡ true
+      → StandsIn (after shape history) key segment
   stood_in key = by_eviction (λ evictions. IsLegal shape (evictions ++ history) → is_evicted evictions key ≡ true → StandsIn (after shape history) key segment) pass segment
       (λ legal gone. absurd (false≢true gone))
       (λ other more all rest legal gone. by other more (is_at (key_cmp other) key) refl gone (stood_before other more all legal.1.0).1 (rest legal.0))
@@ -146,7 +157,8 @@ module _ (shape : Shape) (pass segment : ℕ) (history : List Entry) where
       (λ key more all rest legal.
       let before = rest legal.0 in
       let one = count_without (λ k. true) key (after shape (more ++ history)).items (sorted-after shape (more ++ history)) in
-      let there : if_there (is_some (lookup (is_at (key_cmp key)) (after shape (more ++ history)).items)) 1 ≡ 1 = ap (λ b. if_there b 1) (is_there (standing (after shape (more ++ history)) key) legal.1.0) in
+      let there : if_there (is_some (lookup (is_at (key_cmp key)) (after shape (more ++ history)).items)) 1 ≡ 1 =
+          ap (λ b. if_there b 1) (is_there (standing (after shape (more ++ history)) key) legal.1.0) in
       let now = count_keys (without key (after shape (more ++ history))).items in
       let then = count_keys (after shape (more ++ history)).items in
       omega arith)

@@ -1,5 +1,7 @@
 -- With one pass, an evict is served as the model says.
-use Rattle.std.proofs.Common.{◌≡◌, ◌≢◌, ℕ, ◌+◌, ◌&&◌, not, Bool, true, false, cond, List, ◌++◌, length, filter, count_by, IsSomeAnd, Option, Some, None, option_map, refl, sym, ap, subst, ◌∙◌, inl, inr, ⊎_elim, arith, eqb, eq-eqb}
+use Rattle.std.proofs.Common.{◌≡◌, ◌≢◌, ℕ, ◌+◌, ◌&&◌, not, Bool, true, false, cond, List, ◌++◌, length, filter,
+    count_by, IsSomeAnd, Option, Some, None, option_map, refl, sym, ap, subst, ◌∙◌, inl, inr, ⊎_elim, arith, eqb,
+    eq-eqb}
 use Rattle.std.specs.Prelude.{◌↔◌, MatchBool}
 use Rattle.std.specs.List.{list_any}
 use Rattle.std.proofs.lemmas.Bool.{false≢true, cases_Bool, eqb-true}
@@ -33,7 +35,8 @@ use Rattle.segsolo.proofs.AlonePass.{frequencies_as, more_seen, at_state, not_ow
 use Rattle.segsolo.proofs.AloneRows.{bring_nothing, frequencies_kept, served, still_named}
 use Rattle.segsolo.proofs.AloneRefills.{with_at-same, with_at-other, by_segment}
 use Rattle.segsolo.proofs.AloneWidths.{same_widths}
-use Rattle.segsolo.proofs.AloneEvictions.{is_evicted, filter_alike, any_of, each_item, items_left, stood_before, stands_still, evictions_unstored, stood_in, length_left, stored_still, evicts_none, on_the_way}
+use Rattle.segsolo.proofs.AloneEvictions.{is_evicted, filter_alike, any_of, each_item, items_left, stood_before,
+    stands_still, evictions_unstored, stood_in, length_left, stored_still, evicts_none, on_the_way}
 use Rattle.segcore.proofs.Caches.{one_test}
 use Rattle.segmodel.proofs.LawLemmas.{count_by-append}
 
@@ -56,7 +59,9 @@ rest_of x = ((λ s. used_in (own_segment x s)), x.current, x.locked)
 rest_emptied : (p q : Pass) (segment : ℕ) → q.plain ≡ with_state segment Evicted (ended segment p.plain) → rest_of q.plain ≡ rest_of (ended segment p.plain)
 rest_emptied p q segment now = ap rest_of now ∙ (λ i. ((λ s. used_kept (ended segment p.plain) segment Evicted s i), but_for segment p.plain.current, p.plain.locked))
 
-module _ (b : Board) (p q : Pass) (segment count : ℕ) (was : IsAlone b p) (on : GoesOn b p q) (undrawn : DrawsNothing p q) (unraised : RaisesNothing p q) (takes : TakesOut segment count p q) (rest : rest_of q.plain ≡ rest_of (ended segment p.plain)) where
+module _ (b : Board) (p q : Pass) (segment count : ℕ) (was : IsAlone b p) (on : GoesOn b p q)
+    (undrawn : DrawsNothing p q) (unraised : RaisesNothing p q) (takes : TakesOut segment count p q)
+    (rest : rest_of q.plain ≡ rest_of (ended segment p.plain)) where
   more : seen q ≡ takes.evictions ++ seen p
   more = more_seen b p q takes.evictions was on.quiet takes.entries
 
@@ -70,7 +75,10 @@ module _ (b : Board) (p q : Pass) (segment count : ℕ) (was : IsAlone b p) (on 
       by : (lock : Option Locked) → locked p ≡ lock → is_locked b.shape (state_at b.shape p) key ≡ true → ⊥
       by None free here = false≢true (sym (ap (λ o. is_named o (bucket_of b.shape key)) (was.quiet.locks ∙ ap (option_map (λ (l : Locked). l.bucket)) free)) ∙ here)
       by (Some lock) held here =
-          let same : lock.bucket ≡ bucket_of b.shape key = eqb-true lock.bucket (bucket_of b.shape key) (sym (ap (λ o. is_named o (bucket_of b.shape key)) (was.quiet.locks ∙ ap (option_map (λ (l : Locked). l.bucket)) held)) ∙ here) in
+          let same : lock.bucket ≡ bucket_of b.shape key =
+              eqb-true lock.bucket (bucket_of b.shape key)
+              (sym (ap (λ o. is_named o (bucket_of b.shape key)) (was.quiet.locks
+              ∙ ap (option_map (λ (l : Locked). l.bucket)) held)) ∙ here) in
           let before = (none_since b p lock was.quiet held).1 in
           let now = (none_since b q lock on.quiet (ap (λ (m : Memo). m.locked) takes.memo ∙ held)).1 in
           let all : entries_of b.shape lock.bucket (seen q) ≡ entries_of b.shape lock.bucket takes.evictions + entries_of b.shape lock.bucket (seen p) =
@@ -110,13 +118,18 @@ module _ (b : Board) (p q : Pass) (segment count : ℕ) (was : IsAlone b p) (on 
   evicted_here key item is gone = in_segment (standing (after b.shape (seen p)) key) segment key item is (stood_in b.shape (number p) segment (seen p) key takes.evictions takes.all is_legal gone)
 
   -- the state with a segment told anew, and some items taken out
-  at_taken : (goes : List ℕ × Cached → Bool) (filling : ℕ → Filling) → ((key : List ℕ) (item : Cached) → standing (after b.shape (seen p)) key ≡ Some item → is_evicted takes.evictions key ≡ goes (key, item))
+  at_taken : (goes : List ℕ × Cached → Bool) (filling : ℕ → Filling)
+      → ((key : List ℕ) (item : Cached) → standing (after b.shape (seen p)) key ≡ Some item
+      → is_evicted takes.evictions key ≡ goes (key, item))
       → ((s : ℕ) → or_empty (state_of q s) ≡ (filling s).state) → ((s : ℕ) → keys_stored_in (seen p) s ≡ (filling s).keys)
       → ((s : ℕ) → frequencies_in p s ≡ (filling s).frequencies) → state_at b.shape q ≡ record (taken_out segment goes (state_at b.shape p)) { filling = filling }
   at_taken goes filling same states keys frequencies =
       let widths = same_widths b p q was on undrawn in
       at_state b.shape q (record (taken_out segment goes (state_at b.shape p)) { filling = filling })
-      (cache_left goes same) states (λ s. keys_then s ∙ keys s) (λ s. frequencies_as p q s (frequencies_kept b p q was on takes.evictions takes.entries (bring_nothing takes.evictions (evictions_unstored (number p) segment takes.evictions takes.all)) unraised) (keys_then s) ∙ frequencies s)
+      (cache_left goes same) states (λ s. keys_then s
+          ∙ keys s) (λ s. frequencies_as p q s (frequencies_kept b p q was on takes.evictions takes.entries
+          (bring_nothing takes.evictions (evictions_unstored (number p) segment takes.evictions takes.all))
+          unraised) (keys_then s) ∙ frequencies s)
       (ap (λ r. r.1) rest) widths.wide widths.drawn (ap (λ (m : Memo). option_map item_of m.holding) takes.memo) (ap (λ r. r.2) rest)
 
   -- ---- Evicted
@@ -139,7 +152,10 @@ module _ (b : Board) (p q : Pass) (segment count : ℕ) (was : IsAlone b p) (on 
     state_then : (s : ℕ) → or_empty (state_of q s) ≡ (with_at (state_at b.shape p).filling segment emptied s).state
     state_then = by_segment (λ s. or_empty (state_of q s) ≡ (with_at (state_at b.shape p).filling segment emptied s).state) segment
         (ap or_empty (emptied_state segment p q before now) ∙ sym (ap (λ (f : Filling). f.state) (with_at-same (state_at b.shape p).filling segment segment emptied refl)))
-        (λ s ne. ap (λ (x : PlainPart). or_empty (state_in (own_segment x s))) now ∙ (ap or_empty (state_apart (ended segment p.plain) segment Evicted s (λ e. ne (sym e))) ∙ sym (ap (λ (f : Filling). f.state) (with_at-other (state_at b.shape p).filling segment s emptied ne))))
+        (λ s ne. ap (λ (x : PlainPart). or_empty (state_in (own_segment x s))) now
+            ∙ (ap or_empty (state_apart (ended segment p.plain) segment Evicted s (λ e. ne (sym e)))
+            ∙ sym (ap (λ (f : Filling). f.state) (with_at-other (state_at b.shape p).filling segment s emptied
+            ne))))
 
     same_keys : (s : ℕ) → keys_stored_in (seen p) s ≡ (with_at (state_at b.shape p).filling segment emptied s).keys
     same_keys s = by (eqb segment s) (eqb-true segment s)
@@ -208,12 +224,16 @@ module _ (b : Board) (p q : Pass) (segment count : ℕ) (was : IsAlone b p) (on 
 
 module _ (b : Board) (p q : Pass) (segment : ℕ) (was : IsAlone b p) (on : GoesOn b p q) (undrawn : DrawsNothing p q) (unraised : RaisesNothing p q) where
   -- a command on an own segment
-  own_serves : (told : EvictAnswer) (state : SegState) → CountsRows q → NamesLastRows b.shape q → state_of p segment ≡ Some state → ServesEvict b.shape (state_at b.shape p) segment state told (state_at b.shape q)
+  own_serves : (told : EvictAnswer) (state : SegState) → CountsRows q → NamesLastRows b.shape q
+      → state_of p segment ≡ Some state → ServesEvict b.shape (state_at b.shape p) segment state told
+      (state_at b.shape q)
       → ServesAlone b (command.Evict segment) (answer.Evict told) p q
   own_serves told state counts names is serves = served b (command.Evict segment) (answer.Evict told) p q was on.quiet counts names (
     told,
     refl,
-    subst (λ (own : Bool). MatchBool own (ServesEvict b.shape (state_at b.shape p) segment (or_empty (state_of p segment)) told (state_at b.shape q)) (IsGiven evict.NotYours (state_at b.shape p) told (state_at b.shape q)))
+    subst (λ (own : Bool). MatchBool own (ServesEvict b.shape (state_at b.shape p) segment
+        (or_empty (state_of p segment)) told (state_at b.shape q))
+        (IsGiven evict.NotYours (state_at b.shape p) told (state_at b.shape q)))
         (sym (own_is b p segment state was is))
         (subst (λ o. ServesEvict b.shape (state_at b.shape p) segment (or_empty o) told (state_at b.shape q)) (sym is) serves),
   )
@@ -235,7 +255,10 @@ module _ (b : Board) (p q : Pass) (segment : ℕ) (was : IsAlone b p) (on : Goes
 
   evict_serves : (told : EvictAnswer) → IsEvictAnswer b.shape segment told p q → ((told ≡ evict.NotYours) ↔ (state_of p segment ≡ None)) → ServesAlone b (command.Evict segment) (answer.Evict told) p q
   evict_serves (evict.Evicted count) (inl (before, takes, now, empty)) not_yours =
-      own_serves (evict.Evicted count) InUse (counts b p q segment count was on undrawn unraised takes (rest_emptied p q segment now)) (names count takes) before (evicts_all b p q segment count was on undrawn unraised takes (rest_emptied p q segment now) before now empty)
+      own_serves (evict.Evicted count) InUse (counts b p q segment count was on undrawn unraised takes
+          (rest_emptied p q segment now)) (names count takes) before
+          (evicts_all b p q segment count was on undrawn unraised takes (rest_emptied p q segment now) before now
+          empty)
   evict_serves (evict.Evicted count) (inr (other, zero, same)) not_yours = by (state_of p segment) refl
     where
       by : (kept : Option SegState) → state_of p segment ≡ kept → ServesAlone b (command.Evict segment) (answer.Evict (evict.Evicted count)) p q
@@ -244,11 +267,15 @@ module _ (b : Board) (p q : Pass) (segment : ℕ) (was : IsAlone b p) (on : Goes
   evict_serves evict.NotYours same not_yours = served b (command.Evict segment) (answer.Evict evict.NotYours) p q was on.quiet (still same) (still_names same) (
     evict.NotYours,
     refl,
-    subst (λ (own : Bool). MatchBool own (ServesEvict b.shape (state_at b.shape p) segment (or_empty (state_of p segment)) evict.NotYours (state_at b.shape q)) (IsGiven evict.NotYours (state_at b.shape p) evict.NotYours (state_at b.shape q)))
+    subst (λ (own : Bool). MatchBool own (ServesEvict b.shape (state_at b.shape p) segment
+        (or_empty (state_of p segment)) evict.NotYours (state_at b.shape q))
+        (IsGiven evict.NotYours (state_at b.shape p) evict.NotYours (state_at b.shape q)))
         (sym (not_own b p segment was (not_yours.0 refl))) (refl, ap (state_at b.shape) same),
   )
   evict_serves (evict.Busy count) (before, takes, now, barred) not_yours =
-      own_serves (evict.Busy count) InUse (counts b p q segment count was on undrawn unraised takes (ap rest_of now)) (names count takes) before (evicts_some b p q segment count was on undrawn unraised takes (ap rest_of now) now barred)
+      own_serves (evict.Busy count) InUse (counts b p q segment count was on undrawn unraised takes
+          (ap rest_of now)) (names count takes) before
+          (evicts_some b p q segment count was on undrawn unraised takes (ap rest_of now) now barred)
 
 pub serves_evict : (b : Board) (p q : Pass) (segment : ℕ) (told : EvictAnswer) → IsAlone b p → GoesOn b p q → DrawsNothing p q → RaisesNothing p q
     → IsEvictAnswer b.shape segment told p q → ((told ≡ evict.NotYours) ↔ (state_of p segment ≡ None)) → ServesAlone b (command.Evict segment) (answer.Evict told) p q

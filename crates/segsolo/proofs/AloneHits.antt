@@ -1,5 +1,7 @@
 -- With one pass, a hit with the draw 0 raises the frequency of the row that the key's item names, as the model does.
-use Rattle.std.proofs.Common.{◌≡◌, ℕ, ◌+◌, ◌<◌, ◌≤◌, ◌%◌, ◌&&◌, ◌||◌, nat_lt, Bool, true, false, cond, eqb, List, [], ◌∷◌, ◌++◌, length, Option, Some, None, option_map, refl, sym, ap, subst, ◌∙◌, inl, inr, append_assoc, arith, eq-eqb}
+use Rattle.std.proofs.Common.{◌≡◌, ℕ, ◌+◌, ◌<◌, ◌≤◌, ◌%◌, ◌&&◌, ◌||◌, nat_lt, Bool, true, false, cond, eqb, List,
+    [], ◌∷◌, ◌++◌, length, Option, Some, None, option_map, refl, sym, ap, subst, ◌∙◌, inl, inr, append_assoc, arith,
+    eq-eqb}
 use Rattle.std.proofs.lemmas.Bool.{and_from, cases_lt, eqb-true, false≢true, lt-ltb}
 use Rattle.std.proofs.lemmas.List.{append_cancel_right}
 use Rattle.std.proofs.lemmas.Option.{none-some, same_Some}
@@ -119,14 +121,18 @@ module _ (b : Board) (p q : Pass) (was : IsAlone b p) (on : GoesOn b p q) (nothi
     stands = ap (λ h. standing (after b.shape h) key) (sym (then hit.at hit.since before)) ∙ hit.had.stands;
     last = sym (last_then hit.at hit.since before key) ∙ hit.had.last;
     raises = record {
-      here = now_at hit.segment hit.row ∙ (ap (λ t. cond t (hit.frequency + 1) (frequency_in (marked p) hit.segment hit.row)) (and_from (eqb hit.segment hit.segment) (eqb hit.row hit.row) (eq-eqb hit.segment hit.segment refl) (eq-eqb hit.row hit.row refl))
+      here = now_at hit.segment hit.row ∙ (ap (λ t. cond t (hit.frequency + 1)
+          (frequency_in (marked p) hit.segment hit.row))
+          (and_from (eqb hit.segment hit.segment) (eqb hit.row hit.row) (eq-eqb hit.segment hit.segment refl)
+          (eq-eqb hit.row hit.row refl))
           ∙ (sym (raises_low hit.frequency hit.counted) ∙ ap higher (sym (sym (frequency_then hit.at hit.since before none_first hit.segment hit.row) ∙ hit.had.had))));
       others = λ s r apart. now_at s r ∙ ap (λ t. cond t (hit.frequency + 1) (frequency_in (marked p) s r)) (elsewhere hit.segment hit.row s r apart);
     };
   }
     where
       before : Begins hit.at (trace q)
-      before = (hit.raise.0 ++ Bumped (number p) hit.segment hit.row (hit.frequency + 1) ∷ [], hit.raise.1 ∙ sym (append_assoc hit.raise.0 (Bumped (number p) hit.segment hit.row (hit.frequency + 1) ∷ []) hit.at))
+      before = (hit.raise.0 ++ Bumped (number p) hit.segment hit.row (hit.frequency + 1) ∷ [], hit.raise.1
+          ∙ sym (append_assoc hit.raise.0 (Bumped (number p) hit.segment hit.row (hit.frequency + 1) ∷ []) hit.at))
 
       marks_then : List Mark
       marks_then = mark.bumped hit.segment hit.row (hit.frequency + 1) ∷ mark.marked hit.at
@@ -149,7 +155,10 @@ module _ (b : Board) (p q : Pass) (was : IsAlone b p) (on : GoesOn b p q) (nothi
 
       bring_second : BringNothing (entries second.0)
       bring_second = subst BringNothing (sym (append_cancel_right (entries second.0) [] (event.seen hit.at)
-          (ap (λ h. entries second.0 ++ h) (sym (entries_marked hit.at)) ∙ (sym (entries_joined second.0 marks_then) ∙ (sym (ap entries second.1) ∙ (entries_marked (trace q) ∙ (same ∙ sym (then hit.at hit.since before)))))))) tt
+          (ap (λ h. entries second.0 ++ h) (sym (entries_marked hit.at))
+              ∙ (sym (entries_joined second.0 marks_then)
+              ∙ (sym (ap entries second.1) ∙ (entries_marked (trace q)
+              ∙ (same ∙ sym (then hit.at hit.since before)))))))) tt
 
       now_at : (s r : ℕ) → frequency_in (marked q) s r ≡ cond (eqb hit.segment s && eqb hit.row r) (hit.frequency + 1) (frequency_in (marked p) s r)
       now_at s r = ap (λ marks. frequency_in marks s r) second.1
@@ -234,7 +243,8 @@ module _ (b : Board) (p q : Pass) (was : IsAlone b p) (on : GoesOn b p q) (nothi
 
     at_hit : state_at b.shape q ≡ record (state_at b.shape p) { filling = new }
     at_hit = let widths = same_widths b p q was on undrawn in
-        at_state b.shape q (record (state_at b.shape p) { filling = new }) (ap (after b.shape) same) states_then keys_then frequencies_then (ap (λ (x : PlainPart). x.current) nothing.plain) widths.wide widths.drawn
+        at_state b.shape q (record (state_at b.shape p) { filling = new }) (ap (after b.shape) same) states_then
+            keys_then frequencies_then (ap (λ (x : PlainPart). x.current) nothing.plain) widths.wide widths.drawn
         (ap (λ (m : Memo). option_map item_of m.holding) nothing.memo) (ap (λ (x : PlainPart). x.locked) nothing.plain)
 
 -- a hit leaves the state that the model's hit leaves
@@ -242,11 +252,16 @@ pub hit_leaves : (b : Board) (p q : Pass) (key value : List ℕ) (now : ℕ) →
     → reads (after b.shape (seen p)) now key ≡ Some value → state_at b.shape q ≡ after_hit key (present (after b.shape (seen p)) now key) (state_at b.shape p)
 hit_leaves b p q key value now was on undrawn nothing raises is = by (present (after b.shape (seen p)) now key) refl is
   where
-    by : (found : Option Cached) → present (after b.shape (seen p)) now key ≡ found → option_map (λ (item : Cached). item.value) found ≡ Some value → state_at b.shape q ≡ after_hit key found (state_at b.shape p)
+    by : (found : Option Cached) → present (after b.shape (seen p)) now key ≡ found
+        → option_map (λ (item : Cached). item.value) found ≡ Some value
+        → state_at b.shape q ≡ after_hit key found (state_at b.shape p)
     by None found none = absurd (none-some value none)
     by (Some x) found read =
         let item = raises_item b p q was on nothing key value (raises_since b.shape key value 0 p q raises) in
-        let one : x ≡ cached value item.segment = same_Some x (cached value item.segment) (sym (stood (after b.shape (seen p)).deadline now (standing (after b.shape (seen p)) key) x found) ∙ item.stands) in
+        let one : x ≡ cached value item.segment =
+            same_Some x (cached value item.segment) (sym
+            (stood (after b.shape (seen p)).deadline now (standing (after b.shape (seen p)) key) x found)
+            ∙ item.stands) in
         at_hit b p q was on nothing undrawn key value item ∙ sym (ap (λ y. after_hit key (Some y) (state_at b.shape p)) one)
 
 -- and a miss leaves the state as it was

@@ -1,5 +1,7 @@
 -- With one pass, a keep is served as the model says.
-use Rattle.std.proofs.Common.{◌≡◌, ◌≢◌, ◌⊎◌, ℕ, zero, suc, ◌+◌, ◌<◌, ◌≤◌, ◌==◌, ◌&&◌, add-one, Bool, true, false, cond, not, List, [], drop, get_or, length, Option, Some, None, unwrap_or, refl, sym, ap, ◌∙◌, subst, inl, inr, ⊎_elim, arith, eq-eqb}
+use Rattle.std.proofs.Common.{◌≡◌, ◌≢◌, ◌⊎◌, ℕ, zero, suc, ◌+◌, ◌<◌, ◌≤◌, ◌==◌, ◌&&◌, add-one, Bool, true, false,
+    cond, not, List, [], drop, get_or, length, Option, Some, None, unwrap_or, refl, sym, ap, ◌∙◌, subst, inl, inr,
+    ⊎_elim, arith, eq-eqb}
 use Rattle.std.proofs.lemmas.Bool.{cases_eq, lt-leb, ne_eqb}
 use Rattle.std.proofs.lemmas.Option.{none-some, same_Some}
 use Rattle.std.proofs.Math.ListN.{drop_of_length-le}
@@ -90,7 +92,9 @@ module _ (b : Board) (segment into cutoff row count : ℕ) (p q : Pass) (was : I
   leaves : LeavesItsItem b segment row cutoff p q → GoesOnTo b segment into cutoff row count count p q
   leaves is = ⊎_elim
       (λ none. gone_then none nothing same)
-      (λ some. passed (seldom b segment cutoff row p was within some.0 (names_then b segment cutoff row p was within q is.on unraised nothing (λ frequency. frequency < cutoff) some.0 some.1)) nothing same)
+      (λ some. passed (seldom b segment cutoff row p was within some.0
+          (names_then b segment cutoff row p was within q is.on unraised nothing (λ frequency. frequency < cutoff)
+          some.0 some.1)) nothing same)
       is.answer.3
     where
       nothing : ChangesNothing p q
@@ -119,7 +123,10 @@ module _ (b : Board) (segment into cutoff row count : ℕ) (p q : Pass) (was : I
           let same = stays b p q was on undrawn unraised nothing in
           let full_then : has_room b.shape p ≡ false = subst (λ (x : PlainPart). has_room b.shape (record p { plain = x }) ≡ false) nothing.plain full in record {
             alone = same.alone;
-            end = ends b.shape segment into cutoff count (state_at b.shape p) keys frequencies row within long (often b segment cutoff row p was within owner (names_now b segment cutoff row p was within q on unraised nothing owner had)) (out_is ∙ ap not full_then)
+            end = ends b.shape segment into cutoff count (state_at b.shape p) keys frequencies row within long
+                (often b segment cutoff row p was within owner
+                (names_now b segment cutoff row p was within q on unraised nothing owner had)) (out_is
+                ∙ ap not full_then)
                 ∙ ap (λ s. (keep.NoRoom count, s)) (sym same.state);
           }
 
@@ -133,18 +140,24 @@ module _ (b : Board) (segment into cutoff row count : ℕ) (p q : Pass) (was : I
       let room : has_room b.shape p ≡ true = subst (λ (x : PlainPart). has_room b.shape (record p { plain = x }) ≡ true) nothing.plain is.answer.3 in record {
         alone = same.alone;
         end = blocks b.shape segment into cutoff count (state_at b.shape p) keys frequencies row within long (often b segment cutoff row p was within owner names) (out_is ∙ ap not room)
-            (ap (is_locked b.shape (state_at b.shape p)) (last_row b segment cutoff row p was within (λ frequency. cutoff ≤ frequency) owner names).0 ∙ locked_here b.shape p owner (own_lock owner is.answer.4.2))
+            (ap (is_locked b.shape (state_at b.shape p))
+                (last_row b segment cutoff row p was within (λ frequency. cutoff ≤ frequency) owner names).0
+                ∙ locked_here b.shape p owner (own_lock owner is.answer.4.2))
             ∙ ap (λ s. (keep.Busy count, s)) (sym same.state);
       }
     where
       -- only its own lock refuses it
-      own_lock : (owner : List ℕ) → (locked_of p ≡ Some (bucket_of b.shape owner)) ⊎ (passes.count (bounced (bucket_of b.shape owner)) p + 64 ≤ passes.count (bounced (bucket_of b.shape owner)) q) → locked_of p ≡ Some (bucket_of b.shape owner)
+      own_lock : (owner : List ℕ) → (locked_of p ≡ Some (bucket_of b.shape owner))
+          ⊎ (passes.count (bounced (bucket_of b.shape owner)) p + 64 ≤ passes.count
+          (bounced (bucket_of b.shape owner)) q) → locked_of p ≡ Some (bucket_of b.shape owner)
       own_lock owner (inl own) = own
       own_lock owner (inr met) = let none = bounced_alone b q (bucket_of b.shape owner) is.on.quiet.pass was.one in let many = met in absurd (omega arith)
 
   -- ---- its item is moved
 
-  module _ (on : GoesOn b p q) (undrawn : DrawsNothing p q) (unraised : RaisesNothing p q) (uses : UsesRows into 1 p q) (owner : List ℕ) (carries : CarriesItem b.shape segment row cutoff into p q owner) where
+  module _ (on : GoesOn b p q) (undrawn : DrawsNothing p q) (unraised : RaisesNothing p q)
+      (uses : UsesRows into 1 p q) (owner : List ℕ)
+      (carries : CarriesItem b.shape segment row cutoff into p q owner) where
     abbrev had : ℕ
     had = frequency_in (marked p) segment row
 
@@ -166,7 +179,9 @@ module _ (b : Board) (segment into cutoff row count : ℕ) (p q : Pass) (was : I
       used = ap (λ (s : State). length (s.filling segment).keys) is_moved.state ∙ ap (λ (f : Filling). length f.keys) rows_kept;
       rest = moves_on b.shape segment into cutoff count (state_at b.shape p) keys frequencies row within long (often b segment cutoff row p was within owner is_moved.names)
           (lt-leb b.shape.rows (length (keys_stored_in (seen p) into)) is_moved.fits) (ap (is_locked b.shape (state_at b.shape p)) key_is ∙ is_moved.free)
-          ∙ ((λ i. keep_rows b.shape segment into cutoff (drop (row + 1) (sym rows_kept i).keys) (drop (row + 1) (sym rows_kept i).frequencies) (count + 1) (moved_to (key_is i) (frequency_is b segment cutoff row p was within i) into (state_at b.shape p)))
+          ∙ ((λ i. keep_rows b.shape segment into cutoff (drop (row + 1) (sym rows_kept i).keys)
+              (drop (row + 1) (sym rows_kept i).frequencies) (count + 1)
+              (moved_to (key_is i) (frequency_is b segment cutoff row p was within i) into (state_at b.shape p)))
           ∙ (next_rows (count + 1) (moved_to owner had into (state_at b.shape p))
           ∙ ap (rows_left b segment into cutoff (suc row) (count + 1)) (sym is_moved.state)));
     }
@@ -323,7 +338,9 @@ module _ (b : Board) (p q : Pass) (segment cutoff : ℕ) (told : KeepAnswer) (wa
           let came = in_order b segment into cutoff p was target told q (is.costs.order into in_use target) in (
             came.0,
             into_is ∙ (ap (keep_into b.shape old segment cutoff) current
-                ∙ ((λ i. cond (not (ne_eqb segment into apart i) && eq-eqb (old.cache.deadline segment) (old.cache.deadline into) same i) (rows_left b segment into cutoff 0 0 old) (keep.NoRoom 0, old)) ∙ came.1)),
+                ∙ ((λ i. cond (not (ne_eqb segment into apart i) && eq-eqb (old.cache.deadline segment)
+                    (old.cache.deadline into) same i) (rows_left b segment into cutoff 0 0 old) (keep.NoRoom 0,
+                    old)) ∙ came.1)),
           )
 
       by_target : AnswersSo

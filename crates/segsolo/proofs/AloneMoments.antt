@@ -116,7 +116,9 @@ module _ (b : Board) (p q : Pass) (was : IsAlone b p) (on : GoesOn b p q) (unrai
   pub names_still : (segment row : ℕ) (IsSo : ℕ → Type 0) (key : List ℕ) (old : List Mark) → mine q ≡ mine p → Begins (marked p) old → (had : HadFrequency b.shape segment row IsSo old (marked q) key)
       → NamesRow b.shape segment row IsSo p key
   names_still segment row IsSo key old nothing since had = names b.shape segment row IsSo p key old (marked q) had
-      (still first.0 (marked p) had.moment first.1 (still had.to.0 had.moment (marked q) had.to.1 paired_now none.0 (omega (arith, raised, raised_alike))).before none.1 (omega (arith, raised, raised_alike)))
+      (still first.0 (marked p) had.moment first.1
+          (still had.to.0 had.moment (marked q) had.to.1 paired_now none.0
+          (omega (arith, raised, raised_alike))).before none.1 (omega (arith, raised, raised_alike)))
       (ap entries first.1 ∙ (entries_joined first.0 (marked p) ∙ ((λ i. none.1 i ++ entries (marked p)) ∙ entries_marked (trace p))))
     where
       first : Begins (marked p) had.moment

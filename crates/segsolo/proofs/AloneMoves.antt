@@ -1,9 +1,12 @@
 -- With one pass, whether the item of a row is to be moved, and the state that it is at once it was moved.
-use Rattle.std.proofs.Common.{◌≡◌, ◌≢◌, ◌⊎◌, ℕ, ◌+◌, ◌<◌, ◌≤◌, ◌&&◌, cond, eqb, nat_le, not, Bool, true, false, IsSomeAnd, List, [], ◌∷◌, ◌++◌, drop, get_or, length, Option, Some, None, option_map, refl, sym, ap, ◌∙◌, subst, ⊎_elim, arith, eq-eqb}
+use Rattle.std.proofs.Common.{◌≡◌, ◌≢◌, ◌⊎◌, ℕ, ◌+◌, ◌<◌, ◌≤◌, ◌&&◌, cond, eqb, nat_le, not, Bool, true, false,
+    IsSomeAnd, List, [], ◌∷◌, ◌++◌, drop, get_or, length, Option, Some, None, option_map, refl, sym, ap, ◌∙◌, subst,
+    ⊎_elim, arith, eq-eqb}
 use Rattle.std.specs.BTreeMap.{is_at}
 use Rattle.std.proofs.lemmas.Bool.{and_from, and_right, cases_Bool, cond-false, eqb-true, false≢true, le-leb, lt-leb}
 use Rattle.segmodel.specs.declared.entry.Entry.TheVariants as entry
-use Rattle.segmodel.specs.Words.{after, bucket_of, Cached, entries_of, Entry, is_among, is_last_of, is_locked, is_named, is_of, IsSound, key_cmp, moved_to, standing, stands_in, StandsIn, State, with_segment}
+use Rattle.segmodel.specs.Words.{after, bucket_of, Cached, entries_of, Entry, is_among, is_last_of, is_locked,
+    is_named, is_of, IsSound, key_cmp, moved_to, standing, stands_in, StandsIn, State, with_segment}
 use Rattle.segmodel.proofs.Counts.{both, count_by-cons}
 use Rattle.segmodel.proofs.Keeping.{in_there, IsKept-moved}
 use Rattle.segmodel.proofs.Moves.{standing-moved}
@@ -86,7 +89,9 @@ module _ (b : Board) (segment cutoff row : ℕ) (p : Pass) (alone : IsAlone b p)
       })
 
   pub gone : is_to_move segment cutoff row (state_at b.shape p) ≡ false
-  gone = ap (λ t. t && nat_le cutoff (get_or (frequencies_in p segment) row 0)) (⊎_elim (λ is. absurd (not_last is)) (λ no. no) (cases_Bool (is_last_of (state_at b.shape p) segment named_key keys_after)))
+  gone = ap (λ t. t && nat_le cutoff (get_or (frequencies_in p segment) row 0))
+      (⊎_elim (λ is. absurd (not_last is)) (λ no. no)
+      (cases_Bool (is_last_of (state_at b.shape p) segment named_key keys_after)))
 
 -- ---- a row that an item names
 
@@ -137,7 +142,8 @@ module _ (b : Board) (segment cutoff row : ℕ) (p : Pass) (was : IsAlone b p) (
     names_then IsSo owner (start, first, had) =
         names_still b p q was on unraised segment row IsSo owner (mark.marked start) nothing.entries (marked_begins (trace p) start (first.others, first.since)) had
 
-    pub names_now : (owner : List ℕ) → HadFrequency b.shape segment row (λ frequency. cutoff ≤ frequency) (marked q) (marked q) owner → NamesRow b.shape segment row (λ frequency. cutoff ≤ frequency) p owner
+    pub names_now : (owner : List ℕ) → HadFrequency b.shape segment row (λ frequency. cutoff ≤ frequency) (marked q)
+        (marked q) owner → NamesRow b.shape segment row (λ frequency. cutoff ≤ frequency) p owner
     names_now owner had = names_still b p q was on unraised segment row (λ frequency. cutoff ≤ frequency) owner (marked q) nothing.entries on.marked had
 
 -- ---- a row whose item is moved
@@ -151,7 +157,8 @@ pub record HasMoved (b : Board) (segment into cutoff row : ℕ) (p q : Pass) (ow
   pub free : is_locked b.shape (state_at b.shape p) owner ≡ false
 
 module _ (b : Board) (segment into cutoff row : ℕ) (p q : Pass) (was : IsAlone b p) (target : IsKeepTarget segment into p) (within : row < length (keys_stored_in (seen p) segment))
-    (on : GoesOn b p q) (undrawn : DrawsNothing p q) (unraised : RaisesNothing p q) (uses : UsesRows into 1 p q) (owner : List ℕ) (carries : CarriesItem b.shape segment row cutoff into p q owner) where
+    (on : GoesOn b p q) (undrawn : DrawsNothing p q) (unraised : RaisesNothing p q) (uses : UsesRows into 1 p q)
+        (owner : List ℕ) (carries : CarriesItem b.shape segment row cutoff into p q owner) where
   abbrev had : ℕ
   had = frequency_in (marked p) segment row
 

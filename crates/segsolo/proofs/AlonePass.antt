@@ -1,5 +1,6 @@
 -- The only pass of an index: its history is its own, its segments are those of the model, and a call that leaves it as it was leaves the state that it is at.
-use Rattle.std.proofs.Common.{◌≡◌, ◌≢◌, ℕ, ◌/◌, ◌<◌, nat_lt, true, false, List, [], ◌∷◌, ◌++◌, length, is_some, Option, Some, None, option_map, refl, sym, ap, subst, ◌∙◌, ⊎_elim, arith, length-append, eq-eqb}
+use Rattle.std.proofs.Common.{◌≡◌, ◌≢◌, ℕ, ◌/◌, ◌<◌, nat_lt, true, false, List, [], ◌∷◌, ◌++◌, length, is_some,
+    Option, Some, None, option_map, refl, sym, ap, subst, ◌∙◌, ⊎_elim, arith, length-append, eq-eqb}
 use Rattle.std.proofs.lemmas.Bool.{false≢true, cases_Bool, lt-ltb, ne_eqb}
 use Rattle.segword.specs.Words.{Shape}
 use Rattle.segmodel.specs.declared.entry.Entry.TheVariants.{Wrote}
@@ -122,7 +123,9 @@ counts_still p q counts same kept segment count is = counts segment count (sym (
 
 -- it changes the cache alone
 pub as_replied : (b : Board) (p q : Pass) (added : Entry) → IsAlone b p → IsQuiet b q → AddsEntry added p q → q.plain ≡ p.plain → memo q ≡ memo p
-    → ((segment : ℕ) → keys_stored_in (added ∷ seen p) segment ≡ keys_stored_in (seen p) segment) → SameWidths p q → SameFrequencies p q → state_at b.shape q ≡ record (state_at b.shape p) { cache = after b.shape (added ∷ seen p) }
+    → ((segment : ℕ) → keys_stored_in (added ∷ seen p) segment ≡ keys_stored_in (seen p) segment) → SameWidths p q
+        → SameFrequencies p q → state_at b.shape q ≡ record (state_at b.shape p) { cache =
+        after b.shape (added ∷ seen p) }
 as_replied b p q added was quiet adds plain same keeps widths frequencies =
     let more = more_seen b p q (added ∷ []) was quiet adds in
     at_state b.shape q (record (state_at b.shape p) { cache = after b.shape (added ∷ seen p) })

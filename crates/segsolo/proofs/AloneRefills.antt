@@ -60,7 +60,9 @@ module _ (b : Board) (p q : Pass) (segment deadline : ℕ) (was : IsAlone b p) (
       → ServesAlone b (command.Refill segment deadline) (answer.Refill given) p q
   still_serves given e nothing stays = served_still b (command.Refill segment deadline) (answer.Refill given) p q was on nothing (
     sym (ap answer.Refill e),
-    left b p q was on nothing (same_widths b p q was on undrawn) (frequencies_still b p q was on nothing.entries unraised) ∙ (sym stays ∙ sym (ap (λ g. after_refill segment deadline g (state_at b.shape p)) e)),
+    left b p q was on nothing (same_widths b p q was on undrawn)
+        (frequencies_still b p q was on nothing.entries unraised)
+        ∙ (sym stays ∙ sym (ap (λ g. after_refill segment deadline g (state_at b.shape p)) e)),
   )
 
   -- ---- Held
@@ -103,7 +105,8 @@ module _ (b : Board) (p q : Pass) (segment deadline : ℕ) (was : IsAlone b p) (
 
     frequencies_then : (s : ℕ) → frequencies_in q s ≡ (with_at (state_at b.shape p).filling segment begun s).frequencies
     frequencies_then s =
-        (λ i. of_rows (λ row. frequencies_kept b p q was on (entry.Refilled (number p) segment deadline ∷ []) refills.entry (refl, tt) unraised s row i) 0 (length (keys_then s i))) ∙ by (eqb segment s)
+        (λ i. of_rows (λ row. frequencies_kept b p q was on (entry.Refilled (number p) segment deadline ∷ [])
+            refills.entry (refl, tt) unraised s row i) 0 (length (keys_then s i))) ∙ by (eqb segment s)
       where
         by : (here : Bool) → of_rows (frequency_in (marked p) s) 0 (length (cond here begun ((state_at b.shape p).filling s)).keys) ≡ (cond here begun ((state_at b.shape p).filling s)).frequencies
         by true = refl
@@ -113,15 +116,24 @@ module _ (b : Board) (p q : Pass) (segment deadline : ℕ) (was : IsAlone b p) (
     at_refilled =
         let widths = same_widths b p q was on undrawn in
         at_state b.shape q (after_refill segment deadline refill.Refilled (state_at b.shape p))
-        (ap (after b.shape) more) state_then keys_then frequencies_then (ap (λ (x : PlainPart). x.current) refills.plain) widths.wide widths.drawn (ap (λ (m : Memo). option_map item_of m.holding) refills.memo) (ap (λ (x : PlainPart). x.locked) refills.plain)
+        (ap (after b.shape) more) state_then keys_then frequencies_then
+            (ap (λ (x : PlainPart). x.current) refills.plain) widths.wide widths.drawn
+            (ap (λ (m : Memo). option_map item_of m.holding) refills.memo)
+            (ap (λ (x : PlainPart). x.locked) refills.plain)
 
     counts : CountsRows q
     counts s count is = by_segment (λ s. used_of q s ≡ Some count → count ≡ length (with_at (state_at b.shape p).filling segment begun s).keys) segment
-        (λ is. same_Some count 0 (sym is ∙ refills_used segment deadline p q refills) ∙ sym (ap (λ (f : Filling). length f.keys) (with_at-same (state_at b.shape p).filling segment segment begun refl)))
-        (λ s ne is. was.used s count (sym (other_used segment deadline p q refills s (λ e. ne (sym e))) ∙ is) ∙ sym (ap (λ (f : Filling). length f.keys) (with_at-other (state_at b.shape p).filling segment s begun ne)))
+        (λ is. same_Some count 0 (sym is ∙ refills_used segment deadline p q refills)
+            ∙ sym (ap (λ (f : Filling). length f.keys)
+            (with_at-same (state_at b.shape p).filling segment segment begun refl)))
+        (λ s ne is. was.used s count (sym (other_used segment deadline p q refills s (λ e. ne (sym e))) ∙ is)
+            ∙ sym (ap (λ (f : Filling). length f.keys)
+            (with_at-other (state_at b.shape p).filling segment s begun ne)))
         s is ∙ ap (λ (keys : List (List ℕ)). length keys) (sym (keys_then s))
 
-  refill_serves : (given : RefillAnswer) → IsRefillAnswer segment deadline given p q → ((given ≡ refill.NotYours) ↔ (state_of p segment ≡ None)) → ((given ≡ refill.NotEvicted) ↔ (state_of p segment ≡ Some InUse))
+  refill_serves : (given : RefillAnswer) → IsRefillAnswer segment deadline given p q
+      → ((given ≡ refill.NotYours) ↔ (state_of p segment ≡ None))
+      → ((given ≡ refill.NotEvicted) ↔ (state_of p segment ≡ Some InUse))
       → (state_of p segment ≡ Some Evicted → is_held_in (holding p) segment ≡ true → given ≡ refill.Held) → ServesAlone b (command.Refill segment deadline) (answer.Refill given) p q
   refill_serves refill.NotYours same not_yours_where in_use held = still_serves refill.NotYours (not_yours (not_yours_where.0 refl)) (unchanged p q same) refl
   refill_serves refill.NotEvicted same not_yours_where in_use held = still_serves refill.NotEvicted (of_own InUse (in_use.0 refl)) (unchanged p q same) refl

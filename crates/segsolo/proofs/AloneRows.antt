@@ -1,5 +1,6 @@
 -- What a call of a lone pass leaves of the rows that items name, and of their frequencies, by the entries that it added.
-use Rattle.std.proofs.Common.{◌≡◌, ◌≢◌, ℕ, ◌+◌, ◌<◌, nat_lt, cond, Bool, true, false, List, [], ◌∷◌, ◌++◌, not, length, is_some, IsSomeAnd, Some, None, refl, sym, ap, ◌∙◌, subst, inl, inr, ◌⊎◌, ⊎_elim, arith, eqb}
+use Rattle.std.proofs.Common.{◌≡◌, ◌≢◌, ℕ, ◌+◌, ◌<◌, nat_lt, cond, Bool, true, false, List, [], ◌∷◌, ◌++◌, not,
+    length, is_some, IsSomeAnd, Some, None, refl, sym, ap, ◌∙◌, subst, inl, inr, ◌⊎◌, ⊎_elim, arith, eqb}
 use Rattle.std.specs.BTreeMap.{is_at}
 use Rattle.std.proofs.lemmas.Bool.{cases_Bool, cases_eq, cond-true, cond-false, ne_eqb}
 use Rattle.std.proofs.lemmas.List.{append_cancel_right}
@@ -65,7 +66,8 @@ module _ (b : Board) (p q : Pass) (was : IsAlone b p) (on : GoesOn b p q) where
   lasts_kept added more none key = ap (λ marks. last_at marks key) on.marked.1 ∙ keeps_lasts on.marked.0 (marked p) paired (subst BringNothing (sym (added_entries added more)) none) key
 
   -- and no frequency was raised
-  pub frequencies_kept : (added : List Entry) → mine q ≡ added ++ mine p → BringNothing added → RaisesNothing p q → (segment row : ℕ) → frequency_in (marked q) segment row ≡ frequency_in (marked p) segment row
+  pub frequencies_kept : (added : List Entry) → mine q ≡ added ++ mine p → BringNothing added → RaisesNothing p q
+      → (segment row : ℕ) → frequency_in (marked q) segment row ≡ frequency_in (marked p) segment row
   frequencies_kept added more none still segment row = ap (λ marks. frequency_in marks segment row) on.marked.1
       ∙ keeps_frequencies on.marked.0 (marked p) paired (subst BringNothing (sym (added_entries added more)) none) (none_raised still) segment row
 
@@ -77,7 +79,9 @@ module _ (b : Board) (p q : Pass) (was : IsAlone b p) (on : GoesOn b p q) where
   frequencies_replied added more none still = frequencies_kept (added ∷ []) more (none, tt) still
 
   -- where one entry brings an item
-  pub item_brought : (added : Entry) (key : List ℕ) (segment : ℕ) → mine q ≡ added ∷ mine p → brings added ≡ Some (key, segment, Some 1) → RaisesNothing p q → BringsItem key segment 1 (marked p) (marked q)
+  pub item_brought : (added : Entry) (key : List ℕ) (segment : ℕ) → mine q ≡ added ∷ mine p
+      → brings added ≡ Some (key, segment, Some 1) → RaisesNothing p q
+      → BringsItem key segment 1 (marked p) (marked q)
   item_brought added key segment more is still = subst (BringsItem key segment 1 (marked p)) (sym on.marked.1)
       (brings_item on.marked.0 (marked p) added key segment (marked_paired (trace p)) paired is (added_entries (added ∷ []) more) (none_raised still)
       (subst mark.IsOrderly on.marked.1 (orderly b.shape (trace q) on.quiet.pass.lawful)))
@@ -85,7 +89,9 @@ module _ (b : Board) (p q : Pass) (was : IsAlone b p) (on : GoesOn b p q) where
 -- ---- rows
 
 -- a key that stands names a row of its segment
-pub row_in : (b : Board) (p : Pass) (key value : List ℕ) (segment row : ℕ) → IsQuiet b p → standing (after b.shape (seen p)) key ≡ Some (cached value segment) → last_at (marked p) key ≡ Some (slot key segment row) → row < b.shape.rows
+pub row_in : (b : Board) (p : Pass) (key value : List ℕ) (segment row : ℕ) → IsQuiet b p
+    → standing (after b.shape (seen p)) key ≡ Some (cached value segment)
+    → last_at (marked p) key ≡ Some (slot key segment row) → row < b.shape.rows
 row_in b p key value segment row quiet stands last =
     let at = stands_at b.shape (trace p) key value segment quiet.pass.valid quiet.pass.lawful stands in
     subst (λ r. r < b.shape.rows) (ap (λ (s : Slot). s.row) (same_Some (slot key segment at.row) (slot key segment row) (sym at.last ∙ last))) at.names.in_segment.1
@@ -138,7 +144,8 @@ stood_before shape cache (entry.Evicted pass taken segment) key item none stands
 stood_before shape cache (entry.Moved pass moving from to) key item none stands = absurd (none-some (moving, to, None) (sym none))
 stood_before shape cache (entry.Refilled pass segment deadline) key item none stands = stands
 
-all_stood : (shape : Shape) (added history : List Entry) (key : List ℕ) (item : Cached) → AreUnstored added → standing (after shape (added ++ history)) key ≡ Some item → standing (after shape history) key ≡ Some item
+all_stood : (shape : Shape) (added history : List Entry) (key : List ℕ) (item : Cached) → AreUnstored added
+    → standing (after shape (added ++ history)) key ≡ Some item → standing (after shape history) key ≡ Some item
 all_stood shape [] history key item none stands = stands
 all_stood shape (added ∷ more) history key item none stands = all_stood shape more history key item none.1 (stood_before shape (after shape (more ++ history)) added key item none.0.0 stands)
 
@@ -171,7 +178,9 @@ refilled_named b p q segment deadline was on more key value s row stands last =
     (was.rows key value s row stood (sym (lasts_kept b p q was on (entry.Refilled (number p) segment deadline ∷ []) more (refl, tt) key) ∙ last))
 
 -- where an item comes into a segment
-pub brought_named : (b : Board) (p q : Pass) (key : List ℕ) (frequency segment : ℕ) → IsAlone b p → IsQuiet b q → (brought : BringsItem key segment frequency (marked p) (marked q)) → brought.row ≡ length (keys_stored_in (seen p) segment)
+pub brought_named : (b : Board) (p q : Pass) (key : List ℕ) (frequency segment : ℕ) → IsAlone b p → IsQuiet b q
+    → (brought : BringsItem key segment frequency (marked p) (marked q))
+    → brought.row ≡ length (keys_stored_in (seen p) segment)
     → keys_stored_in (seen q) segment ≡ keys_stored_in (seen p) segment ++ key ∷ []
     → ((other : ℕ) → other ≢ segment → keys_stored_in (seen q) other ≡ keys_stored_in (seen p) other)
     → ((other : List ℕ) → key ≢ other → standing (after b.shape (seen q)) other ≡ standing (after b.shape (seen p)) other)

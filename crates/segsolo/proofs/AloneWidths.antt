@@ -1,5 +1,6 @@
 -- With one pass, chains are as many buckets wider as it drew: none, or one for a new key that found no empty word, as the model has it.
-use Rattle.std.proofs.Common.{◌≡◌, ◌≢◌, ℕ, ◌+◌, ◌*◌, ◌≤◌, ◌==◌, ◌&&◌, not, Bool, true, false, cond, List, [], ◌∷◌, is_some, Option, Some, None, refl, sym, ap, subst, ◌∙◌, inl, inr, ⊎_elim, arith, eqb, eq-eqb}
+use Rattle.std.proofs.Common.{◌≡◌, ◌≢◌, ℕ, ◌+◌, ◌*◌, ◌≤◌, ◌==◌, ◌&&◌, not, Bool, true, false, cond, List, [], ◌∷◌,
+    is_some, Option, Some, None, refl, sym, ap, subst, ◌∙◌, inl, inr, ⊎_elim, arith, eqb, eq-eqb}
 use Rattle.std.specs.List.Sorted.{IsStrictlySortedBy}
 use Rattle.std.specs.Map.{keys_of}
 use Rattle.std.proofs.lemmas.Bool.{cases_eq, ne_eqb, eqb-true, and_left, and_right, lt-ltb}
@@ -71,7 +72,9 @@ pub record Grows (shape : Shape) (p q : Pass) (request : Request) : Type 0 where
 
 -- a new key that was put, where the chain stays, has a word, so that one was left
 had_word : (shape : Shape) (state : State) (request : Request) (segment : ℕ) → IsStrictlySortedBy key_cmp (keys_of state.cache.items)
-    → keys_in shape (put shape (key_of request) (value_of request) segment state.cache) (bucket_of shape (key_of request)) ≤ 6 * state.width (bucket_of shape (key_of request)) + 1 → lacks_word shape state request ≡ false
+    → keys_in shape (put shape (key_of request) (value_of request) segment state.cache)
+        (bucket_of shape (key_of request)) ≤ 6 * state.width (bucket_of shape (key_of request)) + 1
+        → lacks_word shape state request ≡ false
 had_word shape state request segment sorted most = by (standing state.cache (key_of request)) refl
   where
     bucket : ℕ
@@ -97,7 +100,8 @@ module _ (b : Board) (p q : Pass) (request : Request) (segment : ℕ) (was : IsA
       same : SameWidths p q
       same = same_widths b p q was on undrawn
 
-      few : keys_in b.shape (put b.shape (key_of request) (value_of request) segment (after b.shape (seen p))) (bucket_of b.shape (key_of request)) ≤ 6 * width (marked q) (bucket_of b.shape (key_of request)) + 1
+      few : keys_in b.shape (put b.shape (key_of request) (value_of request) segment (after b.shape (seen p)))
+          (bucket_of b.shape (key_of request)) ≤ 6 * width (marked q) (bucket_of b.shape (key_of request)) + 1
       few = subst (λ h. keys_in b.shape (after b.shape h) (bucket_of b.shape (key_of request)) ≤ 6 * width (marked q) (bucket_of b.shape (key_of request)) + 1) more
           (keys_fit b q (bucket_of b.shape (key_of request)) on.quiet)
 
@@ -176,5 +180,9 @@ module _ (b : Board) (p q : Pass) (request : Request) (segment : ℕ) (was : IsA
         | inr other ↦ grows.others bucket other
       ]))
       (λ (one, adds, need). grown_one grows.others one adds (mark.marked need.at)
-      (marked_begins (trace p) need.at need.since, marked_begins need.at (trace q) (begins_on need.at (Drew (number p) (bucket_of b.shape (key_of request)) need.depth need.overflow ∷ need.at) (trace q) (Drew (number p) (bucket_of b.shape (key_of request)) need.depth need.overflow ∷ [], refl) need.draw)) need.could)
+      (marked_begins (trace p) need.at need.since,
+          marked_begins need.at (trace q) (begins_on need.at
+          (Drew (number p) (bucket_of b.shape (key_of request)) need.depth need.overflow ∷ need.at) (trace q)
+          (Drew (number p) (bucket_of b.shape (key_of request)) need.depth need.overflow ∷ [], refl) need.draw))
+          need.could)
       grows.own

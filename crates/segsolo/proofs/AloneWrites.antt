@@ -41,7 +41,8 @@ use Rattle.segsolo.proofs.Rows.{at_other}
 use Rattle.segsolo.proofs.AloneWidths.{same_widths, Grows, grown}
 
 -- a request that is answered otherwise than Stored would put no new key
-adds_nothing : (request : Request) (here stands : Bool) (version : ℕ) → (stands ≡ false → here ≡ false) → is_store request ≡ true → reply_to request here version ≢ reply.Stored → adds_key request stands ≡ false
+adds_nothing : (request : Request) (here stands : Bool) (version : ℕ) → (stands ≡ false → here ≡ false)
+    → is_store request ≡ true → reply_to request here version ≢ reply.Stored → adds_key request stands ≡ false
 adds_nothing (Set key value now) here stands version there store other = absurd (other refl)
 adds_nothing (Add key value now) true true version there store other = refl
 adds_nothing (Add key value now) true false version there store other = absurd (false≢true (sym (there refl)))
@@ -52,7 +53,9 @@ adds_nothing (Delete key now) here stands version there store other = refl
 
 -- ---- a request that is stored
 
-module _ (b : Board) (p q : Pass) (request : Request) (segment : ℕ) (was : IsAlone b p) (more : seen q ≡ Wrote (number p) request reply.Stored (Some segment) ∷ seen p) (uses : UsesRow segment p q) where
+module _ (b : Board) (p q : Pass) (request : Request) (segment : ℕ) (was : IsAlone b p)
+    (more : seen q ≡ Wrote (number p) request reply.Stored (Some segment) ∷ seen p) (uses : UsesRow segment p q)
+    where
   stored_so : (s : ℕ) → keys_stored_in (seen q) s ≡ cond (eqb segment s) (keys_stored_in (seen p) s ++ key_of request ∷ []) (keys_stored_in (seen p) s)
   stored_so s = ap (λ h. keys_stored_in h s) more
 
@@ -79,8 +82,12 @@ module _ (b : Board) (p q : Pass) (request : Request) (segment : ℕ) (was : IsA
     row_is : brought.row ≡ length (keys_stored_in (seen p) segment)
     row_is = next_row b p q (key_of request) segment brought.row (length (keys_stored_in (seen p) segment)) was.quiet on.quiet
         (row_in b q (key_of request) (value_of request) segment brought.row on.quiet
-        (stands_now (key_of request) ∙ cond-true (is_at (key_cmp (key_of request)) (key_of request)) (Some (cached (value_of request) segment)) (standing (after b.shape (seen p)) (key_of request)) (at_self (key_of request)))
-        (brought.lasts (key_of request) ∙ cond-true (same_key (key_of request) (key_of request)) (Some (slot (key_of request) segment brought.row)) (last_at (marked p) (key_of request)) (same_true (key_of request) (key_of request) refl)))
+        (stands_now (key_of request) ∙ cond-true (is_at (key_cmp (key_of request)) (key_of request))
+            (Some (cached (value_of request) segment)) (standing (after b.shape (seen p)) (key_of request))
+            (at_self (key_of request)))
+        (brought.lasts (key_of request) ∙ cond-true (same_key (key_of request) (key_of request))
+            (Some (slot (key_of request) segment brought.row)) (last_at (marked p) (key_of request))
+            (same_true (key_of request) (key_of request) refl)))
         used (used_more b p q (key_of request) 1 segment was stored_so used row_used) brought.unlinked brought.linked
 
     frequencies_as_model : (s : ℕ) → frequencies_in q s ≡ (filling s).frequencies
@@ -88,7 +95,9 @@ module _ (b : Board) (p q : Pass) (request : Request) (segment : ℕ) (was : IsA
 
     stored_named : NamesLastRows b.shape q
     stored_named = named b p q (key_of request) 1 segment was stored_so used row_used on.quiet brought row_is
-        (λ other ne. stands_now other ∙ cond-false (is_at (key_cmp other) (key_of request)) (Some (cached (value_of request) segment)) (standing (after b.shape (seen p)) other) (at_other other (key_of request) (λ e. ne (sym e))))
+        (λ other ne. stands_now other ∙ cond-false (is_at (key_cmp other) (key_of request))
+            (Some (cached (value_of request) segment)) (standing (after b.shape (seen p)) other)
+            (at_other other (key_of request) (λ e. ne (sym e))))
 
   -- the state with one bucket more in the chain, where a word lacks
   longer : Bool → State
@@ -113,7 +122,9 @@ module _ (b : Board) (p q : Pass) (request : Request) (segment : ℕ) (was : IsA
         width = (longer (lacks_word b.shape (state_at b.shape p) request)).width;
         drawn = (longer (lacks_word b.shape (state_at b.shape p) request)).drawn;
       })
-      (ap (after b.shape) more) (state_then b p q (key_of request) 1 segment was stored_so used row_used) (keys_then b p q (key_of request) 1 segment was stored_so used row_used) frequencies (ap (λ (x : PlainPart). x.current) uses.plain) grows.wide grows.drawn
+      (ap (after b.shape) more) (state_then b p q (key_of request) 1 segment was stored_so used row_used)
+          (keys_then b p q (key_of request) 1 segment was stored_so used row_used) frequencies
+          (ap (λ (x : PlainPart). x.current) uses.plain) grows.wide grows.drawn
       (ap (λ (m : Memo). option_map item_of m.holding) uses.memo) (ap (λ (x : PlainPart). x.locked) uses.plain)
       ∙ (placed_alike (lacks_word b.shape (state_at b.shape p) request) ∙ sym (ap (λ current. stored b.shape request current (state_at b.shape p)) uses.current))
 
@@ -156,7 +167,9 @@ module _ (b : Board) (p q : Pass) (request : Request) (store : is_store request 
     refused : told ≢ write.Stored → ChangesNothing p q → ServesStore b.shape (state_at b.shape p) request told (state_at b.shape p) → ServesAlone b (command.Write request) (answer.Write told) p q
     refused unstored nothing serves = served_still b (command.Write request) (answer.Write told) p q was is.on nothing
         (stores.serves_write b.shape (state_at b.shape p) (state_at b.shape q) request told store
-        (subst (ServesStore b.shape (state_at b.shape p) request told) (sym (left b p q was is.on nothing (same_widths b p q was is.on (undrawn told is unstored)) (frequencies_still b p q was is.on nothing.entries is.costs.enters.raises_nothing))) serves))
+        (subst (ServesStore b.shape (state_at b.shape p) request told)
+            (sym (left b p q was is.on nothing (same_widths b p q was is.on (undrawn told is unstored))
+            (frequencies_still b p q was is.on nothing.entries is.costs.enters.raises_nothing))) serves))
 
     -- replied by an entry that stores nothing
     replied : (r : Reply) → told ≢ write.NoRoom → told ≢ write.Busy → r ≢ reply.Stored → reply_of_write told ≡ Some r → AddsReply request r p q
@@ -171,7 +184,9 @@ module _ (b : Board) (p q : Pass) (request : Request) (store : is_store request 
         (and_left (lacks_word b.shape (state_at b.shape p) request) (not (may_chain b.shape (state_at b.shape p) (bucket_of b.shape (key_of request))))
         (and_left (adds_key request (is_some (standing (after b.shape (seen p)) (key_of request)))) _
         (adds_nothing request (is_some (present (after b.shape (seen p)) (moment_of request) (key_of request))) (is_some (standing (after b.shape (seen p)) (key_of request)))
-        ((after b.shape (seen p)).version (bucket_of b.shape (key_of request))) (absent_unless_stands (after b.shape (seen p)) (moment_of request) (key_of request)) store (λ e. unstored (was_replied ∙ e)))))
+        ((after b.shape (seen p)).version (bucket_of b.shape (key_of request)))
+            (absent_unless_stands (after b.shape (seen p)) (moment_of request) (key_of request)) store
+            (λ e. unstored (was_replied ∙ e)))))
         r was_replied is_reply (same_state ∙ sym stays)))
       where
         was_replied : r ≡ reply_in b.shape (after b.shape (seen p)) request
@@ -192,16 +207,24 @@ module _ (b : Board) (p q : Pass) (request : Request) (store : is_store request 
       (stored_named b p q request segment was more uses is.on is.answer.1 is.costs.enters.raises_nothing)
       (stores.serves_write b.shape (state_at b.shape p) (state_at b.shape q) request write.Stored store
       (serves_replied b.shape (state_at b.shape p) request write.Stored (state_at b.shape q) (has_rows write.Stored is (λ e. cc)) (unlocked write.Stored is (λ e. cc) (λ e. cc)) grows.fits
-      reply.Stored (reply_then b p q request reply.Stored (Some segment) is.on.quiet more) refl (at_stored b p q request segment was more uses (frequencies_as_model b p q request segment was more uses is.on is.answer.1 is.costs.enters.raises_nothing) grows)))
+      reply.Stored (reply_then b p q request reply.Stored (Some segment) is.on.quiet more) refl
+          (at_stored b p q request segment was more uses
+          (frequencies_as_model b p q request segment was more uses is.on is.answer.1
+          is.costs.enters.raises_nothing) grows)))
   write_serves write.NotStored is = replied write.NotStored is reply.NotStored (λ e. cc) (λ e. cc) (λ e. cc) refl is.answer (λ s. refl) refl refl
   write_serves write.Exists is = replied write.Exists is reply.Exists (λ e. cc) (λ e. cc) (λ e. cc) refl is.answer (λ s. refl) refl refl
   write_serves write.NotFound is = replied write.NotFound is reply.NotFound (λ e. cc) (λ e. cc) (λ e. cc) refl is.answer (λ s. refl) refl refl
   write_serves write.NoRoom is = refused write.NoRoom is (λ e. cc) (unchanged p q is.answer) (refused_rows (out_of_rows b p was ∙ ap not (is.no_room.0 refl)))
   write_serves write.BucketFull is =
       refused write.BucketFull is (λ e. cc) is.answer.0 (refused_word (has_rows write.BucketFull is (λ e. cc)) (unlocked write.BucketFull is (λ e. cc) (λ e. cc))
-      (none_left b.shape p q request (same_seen b p q was is.on.quiet is.answer.0.entries) (same_widths b p q was is.on (undrawn write.BucketFull is (λ e. cc))) (full_since b.shape (key_of request) p q is.answer.2) is.answer.1))
+      (none_left b.shape p q request (same_seen b p q was is.on.quiet is.answer.0.entries)
+          (same_widths b p q was is.on (undrawn write.BucketFull is (λ e. cc)))
+          (full_since b.shape (key_of request) p q is.answer.2) is.answer.1))
   write_serves write.Busy is =
-      refused write.Busy is (λ e. cc) is.answer.0 (refused_lock (has_rows write.Busy is (λ e. cc)) (locked_here b.shape p (key_of request) (busy_by_lock b p q (bucket_of b.shape (key_of request)) was.quiet is.on.quiet was.one is.answer.1)))
+      refused write.Busy is (λ e. cc) is.answer.0
+          (refused_lock (has_rows write.Busy is (λ e. cc))
+          (locked_here b.shape p (key_of request) (busy_by_lock b p q (bucket_of b.shape (key_of request)) was.quiet
+          is.on.quiet was.one is.answer.1)))
 
 -- ---- served
 

@@ -28,7 +28,9 @@ keeps_lasts (entered pass segment ∷ more) old paired none key = keeps_lasts mo
 keeps_lasts (left pass segment ∷ more) old paired none key = keeps_lasts more old paired none key
 
 -- and they have the frequencies that they had, if none was raised
-pub keeps_frequencies : (more old : List Mark) → IsPaired None (more ++ old) → BringNothing (entries more) → all_raised more ≡ 0 → (segment row : ℕ) → frequency_in (more ++ old) segment row ≡ frequency_in old segment row
+pub keeps_frequencies : (more old : List Mark) → IsPaired None (more ++ old) → BringNothing (entries more)
+    → all_raised more ≡ 0 → (segment row : ℕ)
+    → frequency_in (more ++ old) segment row ≡ frequency_in old segment row
 keeps_frequencies [] old paired none still segment row = refl
 keeps_frequencies (enters added ∷ more) old paired none still segment row = keeps_frequencies more old (subst (λ brought. IsPaired brought (more ++ old)) none.0 paired) none.1 still segment row
 keeps_frequencies (at key other number position frequency ∷ more) old paired none still segment row = absurd paired
@@ -62,7 +64,8 @@ pub record BringsItem (key : List ℕ) (segment frequency : ℕ) (old new : List
   pub lasts : (other : List ℕ) → last_at new other ≡ cond (same_key key other) (Some (slot other segment row)) (last_at old other)
   pub frequencies : (s r : ℕ) → frequency_in new s r ≡ cond (eqb segment s && eqb row r) frequency (frequency_in old s r)
 
-not_refilled : (added : Entry) (marks : List Mark) (brought : List ℕ × ℕ × Option ℕ) (segment row : ℕ) → brings added ≡ Some brought → linked_in (enters added ∷ marks) segment row ≡ linked_in marks segment row
+not_refilled : (added : Entry) (marks : List Mark) (brought : List ℕ × ℕ × Option ℕ) (segment row : ℕ)
+    → brings added ≡ Some brought → linked_in (enters added ∷ marks) segment row ≡ linked_in marks segment row
 not_refilled (entry.Wrote pass request told of) marks brought segment row is = refl
 not_refilled (entry.Evicted pass key from) marks brought segment row is = refl
 not_refilled (entry.Moved pass key from to) marks brought segment row is = refl
@@ -109,10 +112,18 @@ brings_item (enters other ∷ more) old added key segment settled paired is one 
 brings_item (at k s row position f ∷ more) old added key segment settled paired is one still orderly = absurd paired
 brings_item (bumped s row f ∷ more) old added key segment settled paired is one still orderly = absurd (omega (arith, still))
 brings_item (drawn bucket ∷ more) old added key segment settled paired is one still orderly =
-    let rest = brings_item more old added key segment settled paired is one still orderly.0 in record { row = rest.row; unlinked = rest.unlinked; linked = rest.linked; lasts = rest.lasts; frequencies = rest.frequencies }
+    let rest = brings_item more old added key segment settled paired is one still orderly.0 in
+        record { row = rest.row; unlinked = rest.unlinked; linked = rest.linked; lasts = rest.lasts;
+        frequencies = rest.frequencies }
 brings_item (chained bucket ∷ more) old added key segment settled paired is one still orderly =
-    let rest = brings_item more old added key segment settled paired is one still orderly.0 in record { row = rest.row; unlinked = rest.unlinked; linked = rest.linked; lasts = rest.lasts; frequencies = rest.frequencies }
+    let rest = brings_item more old added key segment settled paired is one still orderly.0 in
+        record { row = rest.row; unlinked = rest.unlinked; linked = rest.linked; lasts = rest.lasts;
+        frequencies = rest.frequencies }
 brings_item (entered pass s ∷ more) old added key segment settled paired is one still orderly =
-    let rest = brings_item more old added key segment settled paired is one still orderly.0 in record { row = rest.row; unlinked = rest.unlinked; linked = rest.linked; lasts = rest.lasts; frequencies = rest.frequencies }
+    let rest = brings_item more old added key segment settled paired is one still orderly.0 in
+        record { row = rest.row; unlinked = rest.unlinked; linked = rest.linked; lasts = rest.lasts;
+        frequencies = rest.frequencies }
 brings_item (left pass s ∷ more) old added key segment settled paired is one still orderly =
-    let rest = brings_item more old added key segment settled paired is one still orderly.0 in record { row = rest.row; unlinked = rest.unlinked; linked = rest.linked; lasts = rest.lasts; frequencies = rest.frequencies }
+    let rest = brings_item more old added key segment settled paired is one still orderly.0 in
+        record { row = rest.row; unlinked = rest.unlinked; linked = rest.linked; lasts = rest.lasts;
+        frequencies = rest.frequencies }

@@ -25,7 +25,8 @@ IsPaired (Some brought) [] = ⊥
 IsPaired None (enters added ∷ marks) = IsPaired (brings added) marks
 IsPaired None (at key segment row position frequency ∷ marks) = ⊥
 IsPaired None (_ ∷ marks) = IsPaired None marks
-IsPaired (Some brought) (at key segment row position frequency ∷ marks) = ((key ≡ brought.0) × (segment ≡ brought.1) × MatchOption brought.2 (Unit {0}) (λ first. frequency ≡ first)) × IsPaired None marks
+IsPaired (Some brought) (at key segment row position frequency ∷ marks) = ((key ≡ brought.0) × (segment ≡ brought.1)
+    × MatchOption brought.2 (Unit {0}) (λ first. frequency ≡ first)) × IsPaired None marks
 IsPaired (Some brought) (_ ∷ marks) = ⊥
 
 -- a reply that names no segment brings none

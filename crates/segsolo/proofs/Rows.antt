@@ -39,7 +39,9 @@ last_still key other (stored ∷ keys) (suc row) ne is = last_still key other ke
 -- for one row more
 more_rows : (f : ℕ → ℕ) (from count : ℕ) → of_rows f from (suc count) ≡ of_rows f from count ++ f (from + count) ∷ []
 more_rows f from zero = ap (λ n. f n ∷ []) (let none : from ≡ from + 0 = omega arith in none)
-more_rows f from (suc count) = ap (λ xs. f from ∷ xs) (more_rows f (suc from) count ∙ ap (λ n. of_rows f (suc from) count ++ f n ∷ []) (let same : suc from + count ≡ from + suc count = omega arith in same))
+more_rows f from (suc count) = ap (λ xs. f from ∷ xs) (more_rows f (suc from) count
+    ∙ ap (λ n. of_rows f (suc from) count ++ f n ∷ []) (let same : suc from + count ≡ from + suc count =
+    omega arith in same))
 
 -- of two functions that agree below a row
 below_alike : (f g : ℕ → ℕ) (from count : ℕ) → ((row : ℕ) → row < from + count → g row ≡ f row) → of_rows g from count ≡ of_rows f from count
@@ -80,7 +82,8 @@ one_last key (stored ∷ keys) zero (suc other) is also = absurd (false≢true (
 one_last key (stored ∷ keys) (suc row) zero is also = absurd (false≢true (sym also.1 ∙ among_last key keys row is))
 one_last key (stored ∷ keys) (suc row) (suc other) is also = ap suc (one_last key keys row other is also)
 
-pub raised_last : (f g : ℕ → ℕ) (key : List ℕ) (keys : List (List ℕ)) (row from : ℕ) → IsLastRow key keys row → ((other : ℕ) → other ≢ from + row → g other ≡ f other) → g (from + row) ≡ higher (f (from + row))
+pub raised_last : (f g : ℕ → ℕ) (key : List ℕ) (keys : List (List ℕ)) (row from : ℕ) → IsLastRow key keys row
+    → ((other : ℕ) → other ≢ from + row → g other ≡ f other) → g (from + row) ≡ higher (f (from + row))
     → of_rows g from (length keys) ≡ raised key keys (of_rows f from (length keys))
 raised_last f g key [] row from is same up = absurd is
 raised_last f g key (stored ∷ keys) zero from is same up =

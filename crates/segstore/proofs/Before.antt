@@ -16,17 +16,20 @@ abbrev pub StandsIn : Shape → List Event → ℕ → Slot → Type 0
 StandsIn z h b a = (n : ℕ) × ((bucket_after z h b).items n ≡ item a)
 
 -- what an event left there stood there before, or its row wasn't linked
-pub one_before : (z : Shape) (e : Event) (h : List Event) (b n : ℕ) (a : Slot) → IsLawful z (e ∷ h) → (bucket_after z (e ∷ h) b).items n ≡ item a → StandsIn z h b a ⊎ ((row_after h a.segment a.row).linked ≡ None)
+pub one_before : (z : Shape) (e : Event) (h : List Event) (b n : ℕ) (a : Slot) → IsLawful z (e ∷ h)
+    → (bucket_after z (e ∷ h) b).items n ≡ item a → StandsIn z h b a ⊎ ((row_after h a.segment a.row).linked ≡ None)
 one_before z (Linked p q s r m) h b n a l is' = let e = Linked p q s r m in let u = bucket_after z h b in let new = slot (key_of q) s r in ⊎_elim
     (λ t. let now : cond (eqb m n) (item new) (u.items n) ≡ item a = ap (λ v. v.items n) (sym (cond-true (eqb (bucket_of z (key_of q)) b) (acts e u) u t)) ∙ is' in ⊎_elim
-    (λ hit. let same : new ≡ a = same_item new a (sym (cond-true (eqb m n) (item new) (u.items n) hit) ∙ now) in inr (subst (λ (x : Slot). (row_after h x.segment x.row).linked ≡ None) same l.1.suits.0.3))
+    (λ hit. let same : new ≡ a = same_item new a (sym (cond-true (eqb m n) (item new) (u.items n) hit) ∙ now) in
+        inr (subst (λ (x : Slot). (row_after h x.segment x.row).linked ≡ None) same l.1.suits.0.3))
     (λ miss. inl (n, sym (cond-false (eqb m n) (item new) (u.items n) miss) ∙ now))
     (cases_Bool (eqb m n)))
     (λ f. inl (n, ap (λ v. v.items n) (sym (cond-false (eqb (bucket_of z (key_of q)) b) (acts e u) u f)) ∙ is'))
     (cases_Bool (eqb (bucket_of z (key_of q)) b))
 one_before z (Relinked p k f i s r m) h b n a l is' = let e = Relinked p k f i s r m in let u = bucket_after z h b in let new = slot k s r in ⊎_elim
     (λ t. let now : cond (eqb m n) (item new) (u.items n) ≡ item a = ap (λ v. v.items n) (sym (cond-true (eqb (bucket_of z k) b) (acts e u) u t)) ∙ is' in ⊎_elim
-    (λ hit. let same : new ≡ a = same_item new a (sym (cond-true (eqb m n) (item new) (u.items n) hit) ∙ now) in inr (subst (λ (x : Slot). (row_after h x.segment x.row).linked ≡ None) same l.1.suits.0.3))
+    (λ hit. let same : new ≡ a = same_item new a (sym (cond-true (eqb m n) (item new) (u.items n) hit) ∙ now) in
+        inr (subst (λ (x : Slot). (row_after h x.segment x.row).linked ≡ None) same l.1.suits.0.3))
     (λ miss. inl (n, sym (cond-false (eqb m n) (item new) (u.items n) miss) ∙ now))
     (cases_Bool (eqb m n)))
     (λ off. inl (n, ap (λ v. v.items n) (sym (cond-false (eqb (bucket_of z k) b) (acts e u) u off)) ∙ is'))
@@ -51,7 +54,9 @@ one_before z (Chained p c m) h b n a l is' = let e = Chained p c m in let u = bu
 one_before z e h b n a l is' = inl (n, (is_calm z e h refl l (coherent z h l.0)).back b n a is')
 
 -- it stood at any moment at which its row was linked, where its segment wasn't filled anew since
-pub stood_before : (z : Shape) (more h : List Event) (b n : ℕ) (a : Slot) (k : List ℕ) → IsLawful z (more ++ h) → NoneRefills a.segment more → (row_after h a.segment a.row).linked ≡ Some k → (bucket_after z (more ++ h) b).items n ≡ item a → StandsIn z h b a
+pub stood_before : (z : Shape) (more h : List Event) (b n : ℕ) (a : Slot) (k : List ℕ) → IsLawful z (more ++ h)
+    → NoneRefills a.segment more → (row_after h a.segment a.row).linked ≡ Some k
+    → (bucket_after z (more ++ h) b).items n ≡ item a → StandsIn z h b a
 stood_before z [] h b n a k l none on is' = (n, is')
 stood_before z (e ∷ more) h b n a k l none on is' = ⊎_elim
     (λ before. stood_before z more h b before.0 a k l.0 none.1 on before.1)

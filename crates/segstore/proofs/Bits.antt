@@ -32,12 +32,16 @@ had_bit z (e ∷ more) h p b none held =
     (cases_Bool (is (bucket_at z e) b))))
     (cases_Bool (eqb (by e) p))
 
-pub bit_before : (b : Board) (own : List Event) (p q : Pass) (bucket : ℕ) → AddsEvents b own p q → NoneAt b.shape bucket own → HasBit b.shape (trace q) (number q) bucket → HasBit b.shape (trace p) (number p) bucket
+pub bit_before : (b : Board) (own : List Event) (p q : Pass) (bucket : ℕ) → AddsEvents b own p q
+    → NoneAt b.shape bucket own → HasBit b.shape (trace q) (number q) bucket
+    → HasBit b.shape (trace p) (number p) bucket
 bit_before b own p q bucket m none bit =
-    (bit.0, had_bit b.shape m.more (trace p) (number p) bucket (subst (NoneAt b.shape bucket) (sym m.adds) none) (ap (λ h. (bucket_after b.shape h bucket).holder) (sym m.goes_on) ∙ (bit.1 ∙ ap Some m.same)))
+    (bit.0, had_bit b.shape m.more (trace p) (number p) bucket (subst (NoneAt b.shape bucket) (sym m.adds) none)
+        (ap (λ h. (bucket_after b.shape h bucket).holder) (sym m.goes_on) ∙ (bit.1 ∙ ap Some m.same)))
 
 -- a call that gave back the bit of its bucket, and did nothing in another, leaves the pass no bit that it hadn't
-pub no_new_bit : (b : Board) (own : List Event) (p q : Pass) (home : ℕ) → AddsEvents b own p q → (bucket_after b.shape (trace q) home).holder ≡ None → ((other : ℕ) → home ≢ other → NoneAt b.shape other own)
+pub no_new_bit : (b : Board) (own : List Event) (p q : Pass) (home : ℕ) → AddsEvents b own p q
+    → (bucket_after b.shape (trace q) home).holder ≡ None → ((other : ℕ) → home ≢ other → NoneAt b.shape other own)
     → (bucket : ℕ) → HasBit b.shape (trace q) (number q) bucket → HasBit b.shape (trace p) (number p) bucket
 no_new_bit b own p q home m free none bucket bit = ⊎_elim
     (λ e. absurd (none-some (number q) (sym free ∙ (ap (λ x. (bucket_after b.shape (trace q) x).holder) e ∙ bit.1))))

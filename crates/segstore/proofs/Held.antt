@@ -14,20 +14,27 @@ pub record IsPairOf (row : Row) (key : List ℕ) : Type 0 where
   pub valid : IsKey key × IsValue value
   pub holds : Holds row key value
 
-by_link : (z : Shape) (p : ℕ) (q : Request) (t i n : ℕ) (h : List Event) (s r : ℕ) (k : List ℕ) → IsLawful z (Linked p q t i n ∷ h) → (eqb t s && eqb i r) ≡ true → (row_after (Linked p q t i n ∷ h) s r).linked ≡ Some k → IsPairOf (row_after (Linked p q t i n ∷ h) s r) k
+by_link : (z : Shape) (p : ℕ) (q : Request) (t i n : ℕ) (h : List Event) (s r : ℕ) (k : List ℕ)
+    → IsLawful z (Linked p q t i n ∷ h) → (eqb t s && eqb i r) ≡ true
+    → (row_after (Linked p q t i n ∷ h) s r).linked ≡ Some k → IsPairOf (row_after (Linked p q t i n ∷ h) s r) k
 by_link z p q t i n h s r k l hit on =
     let e = Linked p q t i n in let u = row_after h s r in
     let w = and_parts (eqb t s) (eqb i r) hit in
     let now = cond-true (eqb t s && eqb i r) (writes_row e u) u hit in
     let key : key_of q ≡ k = same_Some (key_of q) k (sym (ap (λ (x : Row). x.linked) now) ∙ on) in
-    let old : Holds u (key_of q) (value_of q) = subst (λ x. Holds (row_after h s x) (key_of q) (value_of q)) (eqb-true i r w.1) (subst (λ x. Holds (row_after h x i) (key_of q) (value_of q)) (eqb-true t s w.0) l.1.suits.1) in
+    let old : Holds u (key_of q) (value_of q) =
+        subst (λ x. Holds (row_after h s x) (key_of q) (value_of q)) (eqb-true i r w.1)
+        (subst (λ x. Holds (row_after h x i) (key_of q) (value_of q)) (eqb-true t s w.0) l.1.suits.1) in
     subst (IsPairOf (row_after (e ∷ h) s r)) key (record {
       value = value_of q;
       valid = (l.1.suits.5, l.1.suits.6);
       holds = λ place lt. ap (λ (x : Row). x.words place) now ∙ old place lt;
     })
 
-by_move : (z : Shape) (p : ℕ) (q : List ℕ) (f g t i n : ℕ) (h : List Event) (s r : ℕ) (k : List ℕ) → IsLawful z (Relinked p q f g t i n ∷ h) → (eqb t s && eqb i r) ≡ true → (row_after (Relinked p q f g t i n ∷ h) s r).linked ≡ Some k → IsPairOf (row_after (Relinked p q f g t i n ∷ h) s r) k
+by_move : (z : Shape) (p : ℕ) (q : List ℕ) (f g t i n : ℕ) (h : List Event) (s r : ℕ) (k : List ℕ)
+    → IsLawful z (Relinked p q f g t i n ∷ h) → (eqb t s && eqb i r) ≡ true
+    → (row_after (Relinked p q f g t i n ∷ h) s r).linked ≡ Some k
+    → IsPairOf (row_after (Relinked p q f g t i n ∷ h) s r) k
 by_move z p q f g t i n h s r k l hit on =
     let e = Relinked p q f g t i n in
     let w = and_parts (eqb t s) (eqb i r) hit in
@@ -51,7 +58,8 @@ linked_pair z (Relinked p q f g t i n ∷ h) s r k l on = let e = Relinked p q f
     (cases_Bool (eqb t s && eqb i r))
 linked_pair z (Filled p t i place w ∷ h) s r k l on = let e = Filled p t i place w in let u = row_after h s r in ⊎_elim
     (λ hit. let x = and_parts (eqb t s) (eqb i r) hit in
-    absurd (none-some k (sym l.1.suits.0.3 ∙ ((λ j. (row_after h (eqb-true t s x.0 j) (eqb-true i r x.1 j)).linked) ∙ (ap (λ (y : Row). y.linked) (sym (cond-true (eqb t s && eqb i r) (writes_row e u) u hit)) ∙ on)))))
+    absurd (none-some k (sym l.1.suits.0.3 ∙ ((λ j. (row_after h (eqb-true t s x.0 j) (eqb-true i r x.1 j)).linked)
+        ∙ (ap (λ (y : Row). y.linked) (sym (cond-true (eqb t s && eqb i r) (writes_row e u) u hit)) ∙ on)))))
     (λ miss. let same = cond-false (eqb t s && eqb i r) (writes_row e u) u miss in
     subst (λ x. IsPairOf x k) (sym same) (linked_pair z h s r k l.0 (ap (λ (x : Row). x.linked) (sym same) ∙ on)))
     (cases_Bool (eqb t s && eqb i r))

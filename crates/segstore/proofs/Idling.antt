@@ -67,7 +67,9 @@ took_none b own p q m takes meets = record {
 }
 
 -- 64 tries were in vain
-pub gave_up : (b : Board) (p q : Pass) (bucket : ℕ) → IsQuiet b p → bucket < b.shape.buckets → TakesBucket b bucket false p q → q.plain ≡ p.plain → memo q ≡ memo p → GoesOn b p q × ChangesNothing p q × IsBusy bucket p q × DrawsNothing p q × ReadsNothing p q
+pub gave_up : (b : Board) (p q : Pass) (bucket : ℕ) → IsQuiet b p → bucket < b.shape.buckets
+    → TakesBucket b bucket false p q → q.plain ≡ p.plain → memo q ≡ memo p → GoesOn b p q × ChangesNothing p q
+    × IsBusy bucket p q × DrawsNothing p q × ReadsNothing p q
 gave_up b p q bucket quiet within tried plain same = ⊎_elim
     (λ t. let idle = goes_idle b [] p q quiet t.1 (idles_none b p) plain same in
     (idle.0, idle.1, inl (quiet.bits bucket (has b p bucket within t.0), took_none b [] p q t.1 refl (λ c. refl)), moved_undrawn b [] p q t.1 tt, no_reader b [] p q t.1 tt))

@@ -1,5 +1,7 @@
 -- What a pass keeps of its own segments stays so over its calls: those that link and refill nothing, a link of its next row, and a refilling.
-use Rattle.std.proofs.Common.{◌≡◌, ◌≢◌, ℕ, ◌+◌, ◌*◌, ◌/◌, ◌%◌, ◌<◌, Bool, true, false, cond, eqb, nat_lt, ◌&&◌, is_some, IsSome, List, [], ◌∷◌, ◌++◌, Option, Some, None, refl, sym, ap, ◌∙◌, subst, ⊎_elim, arith, mod-lt, div-add-mod', mul_comm, unwrap_or}
+use Rattle.std.proofs.Common.{◌≡◌, ◌≢◌, ℕ, ◌+◌, ◌*◌, ◌/◌, ◌%◌, ◌<◌, Bool, true, false, cond, eqb, nat_lt, ◌&&◌,
+    is_some, IsSome, List, [], ◌∷◌, ◌++◌, Option, Some, None, refl, sym, ap, ◌∙◌, subst, ⊎_elim, arith, mod-lt,
+    div-add-mod', mul_comm, unwrap_or}
 use Rattle.std.proofs.lemmas.Bool.{cases_Bool, cases_eq, cases_lt, lt-ltb, le-ltb, cond-true, cond-false, eq-eqb, ne_eqb, false≢true}
 use Rattle.std.proofs.lemmas.Nat.{mul-add-lt}
 use Rattle.std.proofs.lemmas.Option.{same_Some, none-some}
@@ -20,7 +22,9 @@ use Rattle.segbase.specs.declared.pass.PlainPart.{PlainPart}
 use Rattle.segbase.specs.Words.{with_deadline, AddsAtOnce, AddsEvents, Board, current_of, IsPassOf, number, own_of, deadline_of, deadline_in}
 use Rattle.segbase.specs.Words.{own_segment, OwnSegment, Pass, seen, state_in, state_of, trace}
 use Rattle.segbase.specs.Words.{used_in, used_of, with_current, with_state, with_used}
-use Rattle.segbase.proofs.Known.{state_set, used_set, state_apart, used_apart, state_kept, used_kept, owner_stated, owner_counted, deadline_set, owner_lasting, state_lasting, used_lasting, deadline_counted, deadline_apart, deadline_stated}
+use Rattle.segbase.proofs.Known.{state_set, used_set, state_apart, used_apart, state_kept, used_kept, owner_stated,
+    owner_counted, deadline_set, owner_lasting, state_lasting, used_lasting, deadline_counted, deadline_apart,
+    deadline_stated}
 use Rattle.segbase.proofs.Owned.{owner_of, owns_state, state_there, used_there, moved_still, deadline_there}
 use Rattle.segstore.specs.Refilling.{refilled, refilled_aside}
 use Rattle.segstore.specs.Segments.{KeepsSegments}
@@ -174,7 +178,8 @@ others_deadline b own p q s d of = own_deadline b.shape d.others (trace p) s d.b
 none_by_link : (z : Shape) (e : Event) (h : List Event) (s : ℕ) → IsLawful z (e ∷ h) → IsCalmIn s e → NoneStandsIn (after z (event.seen h)) s → NoneStandsIn (after z (event.seen (e ∷ h))) s
 none_by_link z e h s l calm none k is' = none k (stands_in z (event.seen h) k s (still_empty z h e s k l.1 (not_linked e s calm) (not_moved e s calm) (has_value z (event.seen (e ∷ h)) k s is')))
 
-own_empty : (z : Shape) (more h : List Event) (p s : ℕ) → IsLawful z (more ++ h) → AreCalmIn s (own_of p more) → owner z s ≡ p → NoneStandsIn (after z (event.seen h)) s → NoneStandsIn (after z (event.seen (more ++ h))) s
+own_empty : (z : Shape) (more h : List Event) (p s : ℕ) → IsLawful z (more ++ h) → AreCalmIn s (own_of p more)
+    → owner z s ≡ p → NoneStandsIn (after z (event.seen h)) s → NoneStandsIn (after z (event.seen (more ++ h))) s
 own_empty z [] h p s l calm own none = none
 own_empty z (e ∷ more) h p s l calm own none = ⊎_elim
     (λ t. let c = calm_parts s p e more t calm in
@@ -191,7 +196,9 @@ keeps b own p q m calm same k =
     let used : (s : ℕ) → used_of q s ≡ used_of p s = λ s i. used_in ((same i).0 s) in
     let lasts : (s : ℕ) → deadline_of q s ≡ deadline_of p s = λ s i. deadline_in ((same i).0 s) in record {
       few = λ s n there. k.few s n (sym (used s) ∙ there);
-      rows = λ s n r there lt. ap is_some (ap (λ h. (row_after h s r).linked) m.goes_on ∙ own_linked b.shape m.more (trace p) (number p) s r lawful (calmly s) (owns_used b q s n m.pass there ∙ m.same)) ∙ k.rows s n r (sym (used s) ∙ there) lt;
+      rows = λ s n r there lt. ap is_some (ap (λ h. (row_after h s r).linked) m.goes_on
+          ∙ own_linked b.shape m.more (trace p) (number p) s r lawful (calmly s) (owns_used b q s n m.pass there
+          ∙ m.same)) ∙ k.rows s n r (sym (used s) ∙ there) lt;
       deadlines = λ s n there. ap (λ h. (after b.shape (event.seen h)).deadline s) m.goes_on
           ∙ (same_cached b.shape (trace p) (m.more ++ trace p) s
           (deadline_lasts b.shape m.more (trace p) (number p) s lawful (calmly s) (owns_lasting b q s n m.pass there ∙ m.same))
@@ -208,7 +215,8 @@ keeps_plain b own p q m calm same = keeps b own p q m calm (ap stored_in same)
 -- ---- an item that comes to name the next row, and a refilling
 
 -- what one step leaves in the pass's own segments
-empty_then : (b : Board) (e : Event) (p q : Pass) (s : ℕ) → AddsAtOnce b (e ∷ []) p q → owner b.shape s ≡ number p → IsCalmIn s e → NoneStandsIn (after b.shape (seen p)) s → NoneStandsIn (after b.shape (seen q)) s
+empty_then : (b : Board) (e : Event) (p q : Pass) (s : ℕ) → AddsAtOnce b (e ∷ []) p q → owner b.shape s ≡ number p
+    → IsCalmIn s e → NoneStandsIn (after b.shape (seen p)) s → NoneStandsIn (after b.shape (seen q)) s
 empty_then b e p q s d own calm none =
     let old : List Event = d.others ++ trace p in
     subst (λ h. NoneStandsIn (after b.shape (event.seen h)) s) (sym d.now)
@@ -262,7 +270,9 @@ keeps_named_in b e p r segment row at d same in_use used lt is k =
     let q : Pass = record r { plain = with_used segment (row + 1) r.plain } in
     let own = owns_used b p segment row is used in
     let now : used_of q segment ≡ Some (row + 1) = used_set r.plain segment (row + 1) (known r segment row (same_used p r segment same ∙ used)) in
-    let old_used : (s u : ℕ) → segment ≢ s → used_of q s ≡ Some u → used_of p s ≡ Some u = λ s u other there. sym (used_apart r.plain segment (row + 1) s (λ e. other (sym e)) ∙ same_used p r s same) ∙ there in
+    let old_used : (s u : ℕ) → segment ≢ s → used_of q s ≡ Some u
+        → used_of p s ≡ Some u = λ s u other there. sym (used_apart r.plain segment (row + 1) s (λ e. other (sym e))
+        ∙ same_used p r s same) ∙ there in
     let lasts : (s : ℕ) → deadline_of q s ≡ deadline_of p s = λ s. deadline_counted r.plain segment (row + 1) s ∙ same_deadlines p r s same in
     let states : (s : ℕ) → state_of q s ≡ state_of p s = λ s. state_kept r.plain segment (row + 1) s ∙ same_states p r s same in record {
       few = λ s u there. ⊎_elim
@@ -332,7 +342,9 @@ module _ (x : PlainPart) (segment deadline : ℕ) where
   others_last s ne = deadline_counted taken segment 0 s ∙ (deadline_stated dated segment InUse s ∙ deadline_apart x segment deadline s ne)
 
 -- the segment was refilled, and is in use, with no row used
-pub keeps_refilled : (b : Board) (p r : Pass) (segment deadline : ℕ) (state : SegState) → AddsAtOnce b (Refilled (number p) segment deadline ∷ []) p r → r.plain ≡ p.plain → state_of p segment ≡ Some state → state ≢ InUse
+pub keeps_refilled : (b : Board) (p r : Pass) (segment deadline : ℕ) (state : SegState)
+    → AddsAtOnce b (Refilled (number p) segment deadline ∷ []) p r → r.plain ≡ p.plain
+    → state_of p segment ≡ Some state → state ≢ InUse
     → IsPassOf b p → KeepsSegments b p → KeepsSegments b (record r { plain = refilled_aside segment deadline r.plain })
 keeps_refilled b p r segment deadline state d same was other_state is k =
     let q : Pass = record r { plain = refilled_aside segment deadline r.plain } in let e = Refilled (number p) segment deadline in
@@ -341,17 +353,23 @@ keeps_refilled b p r segment deadline state d same was other_state is k =
     let known_owner : (s n : ℕ) → deadline_of q s ≡ Some n → owner b.shape s ≡ number p = (λ s n there. owns_lasting b q s n still.pass there ∙ still.same) in
     let now : state_of q segment ≡ Some InUse = refilled_state r.plain segment deadline there_now in
     let empty : used_of q segment ≡ Some 0 = refilled_used r.plain segment deadline there_now in
-    let old_used : (s u : ℕ) → segment ≢ s → used_of q s ≡ Some u → used_of p s ≡ Some u = λ s u other there. sym (others_used r.plain segment deadline s (λ x. other (sym x)) ∙ same_used p r s same) ∙ there in record {
+    let old_used : (s u : ℕ) → segment ≢ s → used_of q s ≡ Some u
+        → used_of p s ≡ Some u = λ s u other there. sym (others_used r.plain segment deadline s (λ x. other (sym x))
+        ∙ same_used p r s same) ∙ there in record {
       few = λ s u there. ⊎_elim
           (λ x. let y : 0 ≡ u = same_Some 0 u (sym empty ∙ (ap (used_of q) x ∙ there)) in omega arith)
           (λ other. k.few s u (old_used s u other there))
           (cases_eq segment s);
       rows = λ s u i there below. ⊎_elim
           (λ x. let y : 0 ≡ u = same_Some 0 u (sym empty ∙ (ap (used_of q) x ∙ there)) in
-          ap (λ (v : Row). is_some v.linked) (stepped_row b e p r s i d (ap (owner b.shape) (sym x) ∙ owns_stated b p segment state is was) ∙ cond-true (eqb segment s) (writes_row e (row_after (trace p) s i)) (row_after (trace p) s i) (eq-eqb segment s x))
+          ap (λ (v : Row). is_some v.linked) (stepped_row b e p r s i d (ap (owner b.shape) (sym x)
+              ∙ owns_stated b p segment state is was) ∙ cond-true (eqb segment s)
+              (writes_row e (row_after (trace p) s i)) (row_after (trace p) s i) (eq-eqb segment s x))
           ∙ (sym (le-ltb i 0 (omega arith)) ∙ ap (nat_lt i) y))
           (λ other. let before = old_used s u other there in
-          ap (λ (v : Row). is_some v.linked) (stepped_row b e p r s i d (owns_used b p s u is before) ∙ cond-false (eqb segment s) (writes_row e (row_after (trace p) s i)) (row_after (trace p) s i) (ne_eqb segment s other)) ∙ k.rows s u i before below)
+          ap (λ (v : Row). is_some v.linked) (stepped_row b e p r s i d (owns_used b p s u is before)
+              ∙ cond-false (eqb segment s) (writes_row e (row_after (trace p) s i)) (row_after (trace p) s i)
+              (ne_eqb segment s other)) ∙ k.rows s u i before below)
           (cases_eq segment s);
       deadlines = λ s n there. let lasts : segment_of.deadline_of (trace r) s ≡ cond (eqb segment s) deadline (segment_of.deadline_of (trace p) s) =
           ap (λ h. segment_of.deadline_of h s) d.now ∙ ap (cond (eqb segment s) deadline) (others_deadline b _ p r s d (known_owner s n there)) in ⊎_elim

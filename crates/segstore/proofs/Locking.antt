@@ -31,7 +31,9 @@ use Rattle.segstore.proofs.TakenBits.{took_one}
 use Rattle.segstore.proofs.Taking.{bounces_none}
 
 -- the pass may keep in mind what it holds, and that it has locked a bucket whose bit it has
-minds_lock : (b : Board) (p : Pass) (bucket : Option ℕ) (lock : Locked) → IfSome bucket (HasBit b.shape (trace p) (number p)) → option_map (lock_now p) bucket ≡ Some lock → HasLocked b.shape (trace p) (number p) lock
+minds_lock : (b : Board) (p : Pass) (bucket : Option ℕ) (lock : Locked)
+    → IfSome bucket (HasBit b.shape (trace p) (number p)) → option_map (lock_now p) bucket ≡ Some lock
+    → HasLocked b.shape (trace p) (number p) lock
 minds_lock b p None lock bit here = absurd (none-some lock here)
 minds_lock b p (Some bucket) lock bit here = subst (HasLocked b.shape (trace p) (number p)) (same_Some (lock_now p bucket) lock here) (record { past = ([], refl); bit = bit })
 
@@ -39,7 +41,9 @@ minds_lock b p (Some bucket) lock bit here = subst (HasLocked b.shape (trace p) 
 abbrev pub minding_lock : Pass → Memo
 minding_lock p = record (memo p) { locked = option_map (lock_now p) (locked_of p) }
 
-pub minds_now : (b : Board) (p q : Pass) (bucket : Option ℕ) → IsPassOf b p → IfSome bucket (HasBit b.shape (trace p) (number p)) → q ≡ record p { plain = with_locked bucket p.plain } → IsPassOf b q × IsMemo b q (minding_lock q)
+pub minds_now : (b : Board) (p q : Pass) (bucket : Option ℕ) → IsPassOf b p
+    → IfSome bucket (HasBit b.shape (trace p) (number p)) → q ≡ record p { plain = with_locked bucket p.plain }
+    → IsPassOf b q × IsMemo b q (minding_lock q)
 minds_now b p q bucket is bit same = subst (λ x. IsPassOf b x × IsMemo b x (minding_lock x)) (sym same)
     (still_pass b p (with_locked bucket p.plain) is refl, record { holding = is.minds.holding; locked = λ lock. minds_lock b p bucket lock bit })
 
@@ -50,7 +54,9 @@ sets_now p r q bucket set seen plain minds = record {
 }
 
 -- what the pass does, and then what it says of its lock
-module _ (b : Board) (own : List Event) (p r q : Pass) (bucket : Option ℕ) (quiet : IsQuiet b p) (m : AddsEvents b own p r) (plain : r.plain ≡ p.plain) (same : memo r ≡ memo p) (is : IsPassOf b q) (view_is : view q ≡ view r) (sets : SetsLock bucket r q) where
+module _ (b : Board) (own : List Event) (p r q : Pass) (bucket : Option ℕ) (quiet : IsQuiet b p)
+    (m : AddsEvents b own p r) (plain : r.plain ≡ p.plain) (same : memo r ≡ memo p) (is : IsPassOf b q)
+    (view_is : view q ≡ view r) (sets : SetsLock bucket r q) where
   pub moved_to : AddsEvents b own p q
   moved_to = then_minds b own p r q m view_is is
 
@@ -73,7 +79,9 @@ unlocked (Some bucket) e = absurd (false≢true e)
 took_elsewhere : (b : Board) (p bucket times other : ℕ) → bucket ≢ other → NoneAt b.shape other (Took p bucket ∷ bounces p bucket times)
 took_elsewhere b p bucket times other apart = (ne_eqb bucket other apart, bounces_none b.shape other p bucket times)
 
-module _ (b : Board) (p r q : Pass) (bucket : ℕ) (quiet : IsQuiet b p) (free : locked_of p ≡ None) (took : TakesBucket b bucket true p r) (plain : r.plain ≡ p.plain) (same : memo r ≡ memo p) (is : IsPassOf b q) (view_is : view q ≡ view r) (sets : SetsLock (Some bucket) r q) where
+module _ (b : Board) (p r q : Pass) (bucket : ℕ) (quiet : IsQuiet b p) (free : locked_of p ≡ None)
+    (took : TakesBucket b bucket true p r) (plain : r.plain ≡ p.plain) (same : memo r ≡ memo p) (is : IsPassOf b q)
+    (view_is : view q ≡ view r) (sets : SetsLock (Some bucket) r q) where
   abbrev took_own : List Event
   took_own = Took (number p) bucket ∷ bounces (number p) bucket took.0
 
@@ -121,7 +129,10 @@ module _ (b : Board) (p r q : Pass) (bucket : ℕ) (quiet : IsQuiet b p) (free :
 
 -- ---- its end
 
-module _ (b : Board) (p r q : Pass) (bucket : ℕ) (quiet : IsQuiet b p) (had : locked_of p ≡ Some bucket) (did : AddsAtOnce b (Freed (number p) bucket false ∷ []) p r) (freed : (bucket_after b.shape (trace r) bucket).holder ≡ None) (plain : r.plain ≡ p.plain) (same : memo r ≡ memo p) (is : IsPassOf b q) (view_is : view q ≡ view r) (sets : SetsLock None r q) where
+module _ (b : Board) (p r q : Pass) (bucket : ℕ) (quiet : IsQuiet b p) (had : locked_of p ≡ Some bucket)
+    (did : AddsAtOnce b (Freed (number p) bucket false ∷ []) p r)
+    (freed : (bucket_after b.shape (trace r) bucket).holder ≡ None) (plain : r.plain ≡ p.plain)
+    (same : memo r ≡ memo p) (is : IsPassOf b q) (view_is : view q ≡ view r) (sets : SetsLock None r q) where
   abbrev freed_own : List Event
   freed_own = Freed (number p) bucket false ∷ []
 
@@ -154,7 +165,9 @@ module _ (b : Board) (p r q : Pass) (bucket : ℕ) (quiet : IsQuiet b p) (had : 
       let bit = (has_locked b p bucket quiet had).bit in
       let others : NoneAt b.shape lock.bucket did.others = subst (λ x. NoneAt b.shape x did.others) (sym of) (quiet_none b.shape did.others (trace p) (number p) bucket did.before did.none bit.1) in
       let now : trace q ≡ Freed (number p) bucket false ∷ (did.others ++ trace p) = ap (λ (v : View). v.trace) view_is ∙ did.now in (
-        seen_begins lock.trace (trace q) (unlocked_move.more ++ old.more, unlocked_move.goes_on ∙ (ap (λ h. unlocked_move.more ++ h) old.since ∙ sym (append_assoc unlocked_move.more old.more lock.trace))),
+        seen_begins lock.trace (trace q) (unlocked_move.more ++ old.more, unlocked_move.goes_on
+            ∙ (ap (λ h. unlocked_move.more ++ h) old.since
+            ∙ sym (append_assoc unlocked_move.more old.more lock.trace))),
         ap (λ h. history.entries_of b.shape lock.bucket (event.seen h)) now ∙ (none_entries b.shape lock.bucket did.others (trace p) others
             ∙ (ap (λ h. history.entries_of b.shape lock.bucket (event.seen h)) old.since ∙ none_entries b.shape lock.bucket old.more lock.trace old.still)),
       )

@@ -42,7 +42,9 @@ pub readable : (b : Board) (p q : Pass) (s r : ℕ) → AddsAtOnce b [] p q → 
 readable b p q s r d may = (
   may.0,
   may.1,
-  subst (λ n. MayRead b.shape (trace q) n s r) (sym d.moved.same) (subst (λ h. MayRead b.shape h (number p) s r) (sym d.now) (may_read b.shape d.others (trace p) (number p) s r d.before d.none may.2)),
+  subst (λ n. MayRead b.shape (trace q) n s r) (sym d.moved.same)
+      (subst (λ h. MayRead b.shape h (number p) s r) (sym d.now)
+      (may_read b.shape d.others (trace p) (number p) s r d.before d.none may.2)),
 )
 
 -- ---- reads of one row
@@ -72,8 +74,12 @@ same_readable b p at s r is may = subst (λ t. IsReadable b p t at.row) (sym is.
 pub same_reads : (b : Board) (p q : Pass) (at : RowPlace) (s r : ℕ) → (at.segment ≡ s) × (at.row ≡ r) → ReadsRow b p q at.segment at.row → ReadsRow b p q s r
 same_reads b p q at s r is reads = subst (λ t. ReadsRow b p q t r) is.0 (subst (ReadsRow b p q at.segment) is.1 reads)
 
-pub same_words : (b : Board) (q : Pass) (at : RowPlace) (s r from count : ℕ) (words : List ℕ) → (at.segment ≡ s) × (at.row ≡ r) → words ≡ words_at (row_after (trace q) at.segment at.row).words from count → words ≡ words_at (row_after (trace q) s r).words from count
-same_words b q at s r from count words is these = subst (λ t. words ≡ words_at (row_after (trace q) t r).words from count) is.0 (subst (λ n. words ≡ words_at (row_after (trace q) at.segment n).words from count) is.1 these)
+pub same_words : (b : Board) (q : Pass) (at : RowPlace) (s r from count : ℕ) (words : List ℕ) → (at.segment ≡ s)
+    × (at.row ≡ r) → words ≡ words_at (row_after (trace q) at.segment at.row).words from count
+    → words ≡ words_at (row_after (trace q) s r).words from count
+same_words b q at s r from count words is these =
+    subst (λ t. words ≡ words_at (row_after (trace q) t r).words from count) is.0
+    (subst (λ n. words ≡ words_at (row_after (trace q) at.segment n).words from count) is.1 these)
 
 -- a pass that has read no word yet
 pub reads_nothing : (b : Board) (p : Pass) (s r : ℕ) → IsPassOf b p → IsReadable b p s r → ReadsRow b p p s r

@@ -68,7 +68,9 @@ module _ (n : ℕ) (into : Option ℕ) (early : List Event) (calm : AreStill ear
 
   parted_glanced : (late h : List Event) (bucket : ℕ) → AreStill late → count (glanced bucket) n ((late ++ looked) ++ h) ≡ count (glanced bucket) n h
   parted_glanced late h bucket still = ap (count (glanced bucket) n) (append_assoc late looked h) ∙ (still_count (glanced bucket) n late (looked ++ h) tt still
-      ∙ elim into as (λ o. count (glanced bucket) n ((peek n o ++ early) ++ h) ≡ count (glanced bucket) n h) [ None ↦ still_count (glanced bucket) n early h tt calm | Some segment ↦ still_count (glanced bucket) n early h tt calm ])
+      ∙ elim into as (λ o. count (glanced bucket) n ((peek n o ++ early) ++ h) ≡ count (glanced bucket) n h)
+          [ None ↦ still_count (glanced bucket) n early h tt calm
+          | Some segment ↦ still_count (glanced bucket) n early h tt calm ])
 
   parted_entered : (late h : List Event) → AreStill late → count entered n ((late ++ looked) ++ h) ≡ count entered n h + times into
   parted_entered late h still = ap (count entered n) (append_assoc late looked h) ∙ (still_count entered n late (looked ++ h) tt still
@@ -80,6 +82,10 @@ module _ (n : ℕ) (into : Option ℕ) (early : List Event) (calm : AreStill ear
   pub peeks_into : (b : Board) (late : List Event) (p q : Pass) → n ≡ number p → AddsEvents b (late ++ looked) p q → AreStill late → PeeksInto into p q
   peeks_into b late p q of m still = record {
     raised = moved_count b (late ++ looked) p q raised m ∙ (λ i. count raised (sym of i) ((late ++ looked) ++ trace p)) ∙ parted_raised late (trace p) still ∙ (λ i. count raised (of i) (trace p));
-    glanced = λ bucket. moved_count b (late ++ looked) p q (glanced bucket) m ∙ (λ i. count (glanced bucket) (sym of i) ((late ++ looked) ++ trace p)) ∙ parted_glanced late (trace p) bucket still ∙ (λ i. count (glanced bucket) (of i) (trace p));
-    entered = moved_count b (late ++ looked) p q entered m ∙ (λ i. count entered (sym of i) ((late ++ looked) ++ trace p)) ∙ parted_entered late (trace p) still ∙ (λ i. count entered (of i) (trace p) + times into);
+    glanced = λ bucket. moved_count b (late ++ looked) p q (glanced bucket) m
+        ∙ (λ i. count (glanced bucket) (sym of i) ((late ++ looked) ++ trace p))
+        ∙ parted_glanced late (trace p) bucket still ∙ (λ i. count (glanced bucket) (of i) (trace p));
+    entered = moved_count b (late ++ looked) p q entered m
+        ∙ (λ i. count entered (sym of i) ((late ++ looked) ++ trace p)) ∙ parted_entered late (trace p) still
+        ∙ (λ i. count entered (of i) (trace p) + times into);
   }

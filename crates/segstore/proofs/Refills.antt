@@ -25,7 +25,9 @@ pub idles : (b : Board) (p : Pass) → IsPassOf b p → Idles b p p
 idles b p is = record { moved = stays b p is; plain = refl; memo = refl }
 
 -- nothing stands in a segment that isn't in use
-pub may_refill : (b : Board) (p : Pass) (s old deadline : ℕ) (state : SegState) → IsPassOf b p → KeepsSegments b p → state_of p s ≡ Some state → state ≢ InUse → deadline < 2 ^ 32 → May b.shape (trace p) (number p) (none_reading s old deadline)
+pub may_refill : (b : Board) (p : Pass) (s old deadline : ℕ) (state : SegState) → IsPassOf b p → KeepsSegments b p
+    → state_of p s ≡ Some state → state ≢ InUse → deadline < 2 ^ 32
+    → May b.shape (trace p) (number p) (none_reading s old deadline)
 may_refill b p s old deadline state is k there other small = let own = owns_stated b p s state is there in (in_table b p s is own, (k.unused s state there other, own), small)
 
 -- what a failed exchange found: a word of this deadline that isn't the deadline alone counts a reader
@@ -55,7 +57,9 @@ is_read b p q s old deadline found t is k knows step at f =
       (h, ap (λ (v : View). v.looks) step.told.now),
     )
 
-pub did_refill : (b : Board) (p q : Pass) (s deadline : ℕ) (t : Bool) → t ≡ true → AddsAtOnce b (cond t (Refilled (number p) s deadline ∷ []) []) p q → AddsAtOnce b (Refilled (number p) s deadline ∷ []) p q
+pub did_refill : (b : Board) (p q : Pass) (s deadline : ℕ) (t : Bool) → t ≡ true
+    → AddsAtOnce b (cond t (Refilled (number p) s deadline ∷ []) []) p q
+    → AddsAtOnce b (Refilled (number p) s deadline ∷ []) p q
 did_refill b p q s deadline t y d = subst (λ es. AddsAtOnce b es p q) (cond-true t (Refilled (number p) s deadline ∷ []) [] y) d
 
 -- what a refill leaves that was stopped by a reader

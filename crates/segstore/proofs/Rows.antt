@@ -11,16 +11,21 @@ use Rattle.segbase.proofs.Moves.{moved_then}
 use Rattle.segstore.specs.Rows.{fills, StoresRow}
 
 -- a step with one own event
-pub stepped_row : (b : Board) (e : Event) (p q : Pass) (s r : ℕ) → AddsAtOnce b (e ∷ []) p q → owner b.shape s ≡ number p → row_after (trace q) s r ≡ cond (row_at e s r) (writes_row e (row_after (trace p) s r)) (row_after (trace p) s r)
+pub stepped_row : (b : Board) (e : Event) (p q : Pass) (s r : ℕ) → AddsAtOnce b (e ∷ []) p q
+    → owner b.shape s ≡ number p → row_after (trace q) s r ≡ cond (row_at e s r)
+    (writes_row e (row_after (trace p) s r)) (row_after (trace p) s r)
 stepped_row b e p q s r d own =
     ap (λ h. row_after h s r) d.now ∙ ap (λ u. cond (row_at e s r) (writes_row e u) u) (quiet_row b.shape d.others (trace p) s r d.before (subst (λ n. NoneBy n d.others) (sym own) d.none))
 
-pub stored : (b : Board) (p q : Pass) (s r place w : ℕ) → AddsAtOnce b (Filled (number p) s r place w ∷ []) p q → owner b.shape s ≡ number p → row_after (trace q) s r ≡ record (row_after (trace p) s r) { words = with_at (row_after (trace p) s r).words place w }
+pub stored : (b : Board) (p q : Pass) (s r place w : ℕ) → AddsAtOnce b (Filled (number p) s r place w ∷ []) p q
+    → owner b.shape s ≡ number p → row_after (trace q) s r ≡ record (row_after (trace p) s r) { words =
+    with_at (row_after (trace p) s r).words place w }
 stored b p q s r place w d own =
     let e = Filled (number p) s r place w in let u = row_after (trace p) s r in
     stepped_row b e p q s r d own ∙ cond-true (row_at e s r) (writes_row e u) u (and_from (eqb s s) (eqb r r) (eq-eqb s s refl) (eq-eqb r r refl))
 
-pub own_stored : (b : Board) (p q : Pass) (s r place w : ℕ) → AddsAtOnce b (Filled (number p) s r place w ∷ []) p q → IsOwnRow b.shape (trace p) (number p) s r → IsOwnRow b.shape (trace q) (number q) s r
+pub own_stored : (b : Board) (p q : Pass) (s r place w : ℕ) → AddsAtOnce b (Filled (number p) s r place w ∷ []) p q
+    → IsOwnRow b.shape (trace p) (number p) s r → IsOwnRow b.shape (trace q) (number q) s r
 own_stored b p q s r place w d own = (own.0, own.1, own.2 ∙ sym d.moved.same, ap (λ u. u.linked) (stored b p q s r place w d own.2) ∙ own.3)
 
 -- a word that was stored, and the others
@@ -29,7 +34,9 @@ stored_word b p q s r place w d own =
     let u = row_after (trace p) s r in
     ap (λ (x : Row). x.words place) (stored b p q s r place w d own) ∙ cond-true (eqb place place) w (u.words place) (eq-eqb place place refl)
 
-pub other_word : (b : Board) (p q : Pass) (s r place w other : ℕ) → AddsAtOnce b (Filled (number p) s r place w ∷ []) p q → owner b.shape s ≡ number p → other ≢ place → (row_after (trace q) s r).words other ≡ (row_after (trace p) s r).words other
+pub other_word : (b : Board) (p q : Pass) (s r place w other : ℕ)
+    → AddsAtOnce b (Filled (number p) s r place w ∷ []) p q → owner b.shape s ≡ number p → other ≢ place
+    → (row_after (trace q) s r).words other ≡ (row_after (trace p) s r).words other
 other_word b p q s r place w other d own apart =
     let u = row_after (trace p) s r in
     ap (λ (x : Row). x.words other) (stored b p q s r place w d own) ∙ cond-false (eqb place other) w (u.words other) (ne_eqb place other (λ e. apart (sym e)))

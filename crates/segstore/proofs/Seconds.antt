@@ -38,7 +38,9 @@ sees_again b p q place word now item d c there is same of =
     let here : word_of_place b.shape (trace q) place ≡ item_word item = sym is ∙ sym of in
     let same' : IsSameItem word (item_word item) = subst (IsSameItem word) (sym of) same in
     let tag : 1 ≤ item_word item / 2 ^ 52 = subst (λ n. 1 ≤ n) same'.1 same'.0 in
-    let s = stood_item b.shape (trace q) place (item_word item) d.moved.pass.valid d.moved.pass.lawful (chained_later b.shape (trace p) (trace q) place d.moved.pass.lawful (moved_on b [] p q d.moved) c) here tag in
+    let s = stood_item b.shape (trace q) place (item_word item) d.moved.pass.valid d.moved.pass.lawful
+        (chained_later b.shape (trace p) (trace q) place d.moved.pass.lawful (moved_on b [] p q d.moved) c) here tag
+        in
     let es = segment_of_item item in let er = row_of_item item in
     let e : inside (trace q) (number q) item.seg ≡ inside (trace p) (number p) (segment_part word) =
     ap (λ n. inside (trace q) n item.seg) d.moved.same ∙ (ap (inside (trace q) (number p)) (es ∙ sym (same_segment word (item_word item) same')) ∙ moved_inside b [] p q (segment_part word) d.moved) in
@@ -48,19 +50,28 @@ sees_again b p q place word now item d c there is same of =
       value = s.1;
       was = s.2;
       entered = subst (λ n. 0 < n) (sym e) there;
-      readable = (subst (IsSegment b.shape) (sym es) s.2.in_segment.0, subst (λ r. r < b.shape.rows) (sym er) s.2.in_segment.1, inr (inl (subst (λ n. 0 < n) (sym e) there, (s.0, ap (λ (x : Row). x.linked) (same_names item (trace q)) ∙ s.2.linked))));
+      readable = (subst (IsSegment b.shape) (sym es) s.2.in_segment.0,
+          subst (λ r. r < b.shape.rows) (sym er) s.2.in_segment.1,
+          inr (inl (subst (λ n. 0 < n) (sym e) there, (s.0, ap (λ (x : Row). x.linked) (same_names item (trace q))
+          ∙ s.2.linked))));
     }
 
 -- ---- reads of the row after it
 
-pub holds_item : (b : Board) (q t : Pass) (place : Place) (item : Item) (key value : List ℕ) → WasLinked b.shape place (item_word item) key value (trace q) → ReadsRow b q t item.seg item.row → Holds (row_after (trace t) item.seg item.row) key value
+pub holds_item : (b : Board) (q t : Pass) (place : Place) (item : Item) (key value : List ℕ)
+    → WasLinked b.shape place (item_word item) key value (trace q) → ReadsRow b q t item.seg item.row
+    → Holds (row_after (trace t) item.seg item.row) key value
 holds_item b q t place item key value was reads j lt =
     ap (λ (x : Row). x.words j) (reads.same ∙ same_names item (trace q)) ∙ was.holds j lt
 
-abbrev pub saw_item : (b : Board) (p q t : Pass) (place : Place) (w : ℕ) (key value : List ℕ) → OnlyLooks b p q → OnlyLooks b q t → WasLinked b.shape place w key value (trace q) → SawItem b.shape place w key value (trace p) (trace t)
+abbrev pub saw_item : (b : Board) (p q t : Pass) (place : Place) (w : ℕ) (key value : List ℕ) → OnlyLooks b p q
+    → OnlyLooks b q t → WasLinked b.shape place w key value (trace q)
+    → SawItem b.shape place w key value (trace p) (trace t)
 saw_item b p q t place w key value d l was = record { at = trace q; between = (moved_on b [] p q d.did.moved, moved_on b [] q t l.did.moved); was = was }
 
-pub found_item : (b : Board) (p q t : Pass) (place : Place) (item : Item) (key value : List ℕ) → OnlyLooks b p q → WasLinked b.shape place (item_word item) key value (trace q) → 0 < inside (trace q) (number q) item.seg → ReadsRow b q t item.seg item.row → FoundItem b.shape place (item_word item) key value (trace p) (trace t)
+pub found_item : (b : Board) (p q t : Pass) (place : Place) (item : Item) (key value : List ℕ) → OnlyLooks b p q
+    → WasLinked b.shape place (item_word item) key value (trace q) → 0 < inside (trace q) (number q) item.seg
+    → ReadsRow b q t item.seg item.row → FoundItem b.shape place (item_word item) key value (trace p) (trace t)
 found_item b p q t place item key value d was entered reads = let m = reads.looked.did.moved in record {
   saw = saw_item b p q t place (item_word item) key value d reads.looked was;
   kept = (m.more, m.goes_on, subst (λ s. NoneRefills s m.more) (segment_of_item item) (m.kept item.seg entered));
@@ -69,7 +80,8 @@ found_item b p q t place item key value d was entered reads = let m = reads.look
 }
 
 -- by other names
-pub found_as : (z : Shape) (h g : List Event) (place : Place) (w : ℕ) (key value key' value' : List ℕ) → key ≡ key' → value' ≡ value → FoundItem z place w key value h g → FoundItem z place w key' value' h g
+pub found_as : (z : Shape) (h g : List Event) (place : Place) (w : ℕ) (key value key' value' : List ℕ) → key ≡ key'
+    → value' ≡ value → FoundItem z place w key value h g → FoundItem z place w key' value' h g
 found_as z h g place w key value key' value' ek ev found = subst (λ k. FoundItem z place w k value' h g) ek (subst (λ v. FoundItem z place w key v h g) (sym ev) found)
 
 pub then_row : (b : Board) (p q t : Pass) (s r : ℕ) → OnlyLooks b p q → ReadsRow b q t s r → OnlyLooks b p t
@@ -77,7 +89,9 @@ then_row b p q t s r l reads = looked_then b p q t l reads.looked
 
 -- ---- the value of an item that was found, read later
 
-pub found_readable : (b : Board) (p : Pass) (place : Place) (item : Item) (header : ℕ) (key : List ℕ) (h : List Event) → 0 < inside (trace p) (number p) item.seg → FoundKey b.shape place item header key h (trace p) → IsReadable b p item.seg item.row
+pub found_readable : (b : Board) (p : Pass) (place : Place) (item : Item) (header : ℕ) (key : List ℕ)
+    (h : List Event) → 0 < inside (trace p) (number p) item.seg → FoundKey b.shape place item header key h (trace p)
+    → IsReadable b p item.seg item.row
 found_readable b p place item header key h there f =
     let was = f.found.saw.was in let es = segment_of_item item in let er = row_of_item item in (
       subst (IsSegment b.shape) (sym es) was.in_segment.0,
@@ -90,18 +104,25 @@ pub found_holds : (place : Place) (item : Item) (key value : List ℕ) (z : Shap
 found_holds place item key value z h g f j lt = ap (λ (x : Row). x.words j) (same_names item g ∙ f.still) ∙ f.saw.was.holds j lt
 
 -- and holds it still
-holds_still : (b : Board) (p q : Pass) (place : Place) (item : Item) (key value : List ℕ) (h : List Event) → FoundItem b.shape place (item_word item) key value h (trace p) → ReadsRow b p q item.seg item.row → Holds (row_after (trace q) item.seg item.row) key value
+holds_still : (b : Board) (p q : Pass) (place : Place) (item : Item) (key value : List ℕ) (h : List Event)
+    → FoundItem b.shape place (item_word item) key value h (trace p) → ReadsRow b p q item.seg item.row
+    → Holds (row_after (trace q) item.seg item.row) key value
 holds_still b p q place item key value h f reads j lt =
     ap (λ (x : Row). x.words j) (reads.same ∙ (same_names item (trace p) ∙ f.still)) ∙ f.saw.was.holds j lt
 
-pub found_value : (b : Board) (p q : Pass) (place : Place) (item : Item) (header : ℕ) (key value : List ℕ) (h : List Event) → 0 < inside (trace p) (number p) item.seg → FoundKey b.shape place item header key h (trace p) → ReadsRow b p q item.seg item.row
+pub found_value : (b : Board) (p q : Pass) (place : Place) (item : Item) (header : ℕ) (key value : List ℕ)
+    (h : List Event) → 0 < inside (trace p) (number p) item.seg → FoundKey b.shape place item header key h (trace p)
+    → ReadsRow b p q item.seg item.row
     → ((k v : List ℕ) → IsKey k → IsValue v → Holds (row_after (trace q) item.seg item.row) k v → value ≡ v) → FoundItem b.shape place (item_word item) key value h (trace q)
 found_value b p q place item header key value h there f reads is =
     let m = reads.looked.did.moved in let saw = f.found.saw in
     let same = is key f.value saw.was.valid.0 saw.was.valid.1 (holds_still b p q place item key f.value h f.found reads) in
     found_as b.shape h (trace q) place (item_word item) key f.value key value refl same (record {
       saw = record { at = saw.at; between = (saw.between.0, begins_on saw.at (trace p) (trace q) saw.between.1 (moved_on b [] p q m)); was = saw.was };
-      kept = (m.more ++ f.found.kept.0, m.goes_on ∙ (ap (λ x. m.more ++ x) f.found.kept.1 ∙ sym (append_assoc m.more f.found.kept.0 saw.at)), none_both (segment_part (item_word item)) m.more f.found.kept.0 (subst (λ s. NoneRefills s m.more) (segment_of_item item) (m.kept item.seg there)) f.found.kept.2);
+      kept = (m.more ++ f.found.kept.0, m.goes_on
+          ∙ (ap (λ x. m.more ++ x) f.found.kept.1 ∙ sym (append_assoc m.more f.found.kept.0 saw.at)),
+          none_both (segment_part (item_word item)) m.more f.found.kept.0
+          (subst (λ s. NoneRefills s m.more) (segment_of_item item) (m.kept item.seg there)) f.found.kept.2);
       still = sym (same_names item (trace q)) ∙ (reads.same ∙ (same_names item (trace p) ∙ f.found.still));
       alone = λ one. moved_alone b [] p q m one ∙ f.found.alone one;
     })

@@ -57,7 +57,8 @@ both_no_tries [] ys i j = j
 both_no_tries (e ∷ xs) ys i j = (i.0, both_no_tries xs ys i.1 j)
 
 -- a call that took the bit of a bucket after so many tries
-module _ (b : Board) (bucket times : ℕ) (own : List Event) (p q : Pass) (few : times < 64) (none : AreNoTries own) (m : AddsEvents b (own ++ (Took (number p) bucket ∷ bounces (number p) bucket times)) p q) where
+module _ (b : Board) (bucket times : ℕ) (own : List Event) (p q : Pass) (few : times < 64) (none : AreNoTries own)
+    (m : AddsEvents b (own ++ (Took (number p) bucket ∷ bounces (number p) bucket times)) p q) where
   abbrev n : ℕ
   n = number p
 

@@ -37,24 +37,37 @@ none_but_own z (e ∷ more) h p b l own held = ⊎_elim
     (cases_Bool (eqb (by e) p))
 
 -- over a call none of whose own events is of the bucket
-pub moved_none : (b : Board) (own : List Event) (p q : Pass) (bucket : ℕ) (m : AddsEvents b own p q) → HasBit b.shape (trace p) (number p) bucket → NoneAt b.shape bucket own → NoneAt b.shape bucket m.more
+pub moved_none : (b : Board) (own : List Event) (p q : Pass) (bucket : ℕ) (m : AddsEvents b own p q)
+    → HasBit b.shape (trace p) (number p) bucket → NoneAt b.shape bucket own → NoneAt b.shape bucket m.more
 moved_none b own p q bucket m bit none =
     none_but_own b.shape m.more (trace p) (number p) bucket (subst (IsLawful b.shape) m.goes_on m.pass.lawful) (subst (NoneAt b.shape bucket) (sym m.adds) none) bit.1
 
-pub moved_bucket : (b : Board) (own : List Event) (p q : Pass) (bucket : ℕ) → AddsEvents b own p q → HasBit b.shape (trace p) (number p) bucket → NoneAt b.shape bucket own → bucket_after b.shape (trace q) bucket ≡ bucket_after b.shape (trace p) bucket
+pub moved_bucket : (b : Board) (own : List Event) (p q : Pass) (bucket : ℕ) → AddsEvents b own p q
+    → HasBit b.shape (trace p) (number p) bucket → NoneAt b.shape bucket own
+    → bucket_after b.shape (trace q) bucket ≡ bucket_after b.shape (trace p) bucket
 moved_bucket b own p q bucket m bit none =
     ap (λ h. bucket_after b.shape h bucket) m.goes_on ∙ unchanged b.shape m.more (trace p) bucket (moved_none b own p q bucket m bit none)
 
-pub moved_bit : (b : Board) (own : List Event) (p q : Pass) (bucket : ℕ) → AddsEvents b own p q → HasBit b.shape (trace p) (number p) bucket → NoneAt b.shape bucket own → HasBit b.shape (trace q) (number q) bucket
+pub moved_bit : (b : Board) (own : List Event) (p q : Pass) (bucket : ℕ) → AddsEvents b own p q
+    → HasBit b.shape (trace p) (number p) bucket → NoneAt b.shape bucket own
+    → HasBit b.shape (trace q) (number q) bucket
 moved_bit b own p q bucket m bit none = (bit.0, ap (λ u. u.holder) (moved_bucket b own p q bucket m bit none) ∙ (bit.1 ∙ ap Some (sym m.same)))
 
 -- what stands under a key of the bucket, and the bucket's version
-pub moved_at : (b : Board) (own : List Event) (p q : Pass) (key : List ℕ) → AddsEvents b own p q → HasBit b.shape (trace p) (number p) (bucket_of b.shape key) → NoneAt b.shape (bucket_of b.shape key) own → IsSameAt b.shape (after b.shape (seen p)) (after b.shape (seen q)) key
+pub moved_at : (b : Board) (own : List Event) (p q : Pass) (key : List ℕ) → AddsEvents b own p q
+    → HasBit b.shape (trace p) (number p) (bucket_of b.shape key) → NoneAt b.shape (bucket_of b.shape key) own
+    → IsSameAt b.shape (after b.shape (seen p)) (after b.shape (seen q)) key
 moved_at b own p q key m bit none =
-    subst (λ h. IsSameAt b.shape (after b.shape (seen p)) (after b.shape (event.seen h)) key) (sym m.goes_on) (unchanged_at b.shape m.more (trace p) key (subst (IsLawful b.shape) m.goes_on m.pass.lawful) (moved_none b own p q (bucket_of b.shape key) m bit none))
+    subst (λ h. IsSameAt b.shape (after b.shape (seen p)) (after b.shape (event.seen h)) key) (sym m.goes_on)
+        (unchanged_at b.shape m.more (trace p) key (subst (IsLawful b.shape) m.goes_on m.pass.lawful)
+        (moved_none b own p q (bucket_of b.shape key) m bit none))
 
 -- a step of the pass's own in the bucket acts on what it was before
-pub did_acts : (b : Board) (e : Event) (q r : Pass) (bucket : ℕ) → AddsAtOnce b (e ∷ []) q r → is (bucket_at b.shape e) bucket ≡ true → HasBit b.shape (trace q) (number q) bucket → bucket_after b.shape (trace r) bucket ≡ acts e (bucket_after b.shape (trace q) bucket)
+pub did_acts : (b : Board) (e : Event) (q r : Pass) (bucket : ℕ) → AddsAtOnce b (e ∷ []) q r
+    → is (bucket_at b.shape e) bucket ≡ true → HasBit b.shape (trace q) (number q) bucket
+    → bucket_after b.shape (trace r) bucket ≡ acts e (bucket_after b.shape (trace q) bucket)
 did_acts b e q r bucket d here bit =
     let before = bucket_after b.shape (d.others ++ trace q) bucket in
-    ap (λ h. bucket_after b.shape h bucket) d.now ∙ (cond-true (is (bucket_at b.shape e) bucket) (acts e before) before here ∙ ap (acts e) (quiet b.shape d.others (trace q) (number q) bucket d.before d.none bit.1))
+    ap (λ h. bucket_after b.shape h bucket) d.now
+        ∙ (cond-true (is (bucket_at b.shape e) bucket) (acts e before) before here
+        ∙ ap (acts e) (quiet b.shape d.others (trace q) (number q) bucket d.before d.none bit.1))

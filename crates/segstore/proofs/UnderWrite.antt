@@ -27,7 +27,9 @@ use Rattle.segstore.proofs.Peeking.{PeeksInto, parted_inside, parted_stays, peek
 use Rattle.segstore.proofs.TakenBits.{AreNoTries, both_no_tries, took_one}
 use Rattle.segstore.proofs.Taking.{bounces_none}
 
-pub takes_to_write : (b : Board) (bucket : ℕ) (t : Bool) (p q : Pass) → IsQuiet b p → bucket < b.shape.buckets → locked_of p ≢ Some bucket → TakesBucket b bucket t p q → q.plain ≡ p.plain → memo q ≡ memo p → TakesToWrite b bucket t p q
+pub takes_to_write : (b : Board) (bucket : ℕ) (t : Bool) (p q : Pass) → IsQuiet b p → bucket < b.shape.buckets
+    → locked_of p ≢ Some bucket → TakesBucket b bucket t p q → q.plain ≡ p.plain → memo q ≡ memo p
+    → TakesToWrite b bucket t p q
 takes_to_write b bucket true p q quiet within apart takes plain same = record { unlocked = apart; takes = takes; plain = plain; memo = same }
 takes_to_write b bucket false p q quiet within apart takes plain same = gave_up b p q bucket quiet within takes plain same
 
@@ -117,7 +119,9 @@ module _ (b : Board) (bucket : ℕ) (p q : Pass) (quiet : IsQuiet b p) {into : O
   took_keeps = keeps_plain b tries p q took_moved tries_are_calm took.plain quiet.segments
 
   -- what was done since the bit was taken, the release at its end
-  module _ (s : Pass) (own : List Event) (added : List Entry) (counted : Bool) (m : AddsEvents b (Freed (number p) bucket counted ∷ own) q s) (elsewhere : (other : ℕ) → bucket ≢ other → NoneAt b.shape other own) (still : AreStill own)
+  module _ (s : Pass) (own : List Event) (added : List Entry) (counted : Bool)
+      (m : AddsEvents b (Freed (number p) bucket counted ∷ own) q s) (elsewhere : (other : ℕ) → bucket ≢ other
+      → NoneAt b.shape other own) (still : AreStill own)
       (adds : (h : List Event) → event.seen (own ++ h) ≡ added ++ event.seen h) (free : (bucket_after b.shape (trace s) bucket).holder ≡ None) where
     abbrev all : List Event
     all = Freed (number p) bucket counted ∷ (own ++ tries)
@@ -175,7 +179,9 @@ module _ (b : Board) (bucket : ℕ) (p q : Pass) (quiet : IsQuiet b p) {into : O
 
   -- the same where the release is a step of its own, that tells no entry
   module _ (r s : Pass) (own : List Event) (added : List Entry) (counted : Bool) (m : AddsEvents b own q r) (elsewhere : (other : ℕ) → bucket ≢ other → NoneAt b.shape other own) (still : AreStill own)
-      (adds : (h : List Event) → event.seen (own ++ h) ≡ added ++ event.seen h) (freed : AddsAtOnce b (Freed (number r) bucket counted ∷ []) r s) (free : (bucket_after b.shape (trace s) bucket).holder ≡ None) where
+      (adds : (h : List Event) → event.seen (own ++ h) ≡ added ++ event.seen h)
+          (freed : AddsAtOnce b (Freed (number r) bucket counted ∷ []) r s)
+          (free : (bucket_after b.shape (trace s) bucket).holder ≡ None) where
     ended : AddsEvents b (Freed (number p) bucket counted ∷ own) q s
     ended = subst (λ n. AddsEvents b (Freed n bucket counted ∷ own) q s) (m.same ∙ took_moved.same) (moved_then b own (Freed (number r) bucket counted ∷ []) q r s m freed.moved)
 

@@ -43,7 +43,8 @@ pub at_place : (z : Shape) (h : List Event) (b n : ℕ) (place : Place) → IsAt
 at_place z h b n place at = at_cases z h b n place (ltb place.bucket z.buckets) at
 
 -- and they stay
-pub same_place : (z : Shape) (h g : List Event) (place : Place) → IsLawful z g → Begins h g → IsChained z h place → (home_bucket z g place ≡ home_bucket z h place) × (position z g place ≡ position z h place)
+pub same_place : (z : Shape) (h g : List Event) (place : Place) → IsLawful z g → Begins h g → IsChained z h place
+    → (home_bucket z g place ≡ home_bucket z h place) × (position z g place ≡ position z h place)
 same_place z h g place l s c = at_place z g (home_bucket z h place) (position z h place) place (place_stays z h g (home_bucket z h place) (position z h place) (cell_at z place) l s c.at).1
 
 pub chained_later : (z : Shape) (h g : List Event) (place : Place) → IsLawful z g → Begins h g → IsChained z h place → IsChained z g place
@@ -66,7 +67,8 @@ pub record NamesIn (z : Shape) (h : List Event) (place : Place) (w : ℕ) : Type
   pub is_segment : segment_part w ≡ segment
   pub is_row : row_part w ≡ row
 
-named : (z : Shape) (h : List Event) (place : Place) (w t s r : ℕ) → IsValid z → word_of_place z h place ≡ w → Names z h (home_bucket z h place) (position z h place) (cell_at z place) t s r → NamesIn z h place w
+named : (z : Shape) (h : List Event) (place : Place) (w t s r : ℕ) → IsValid z → word_of_place z h place ≡ w
+    → Names z h (home_bucket z h place) (position z h place) (cell_at z place) t s r → NamesIn z h place w
 named z h place w t s r v is x =
     let ls = low_segment z s v x.in_segment.0 in let lr = low_row z r v x.in_segment.1 in record {
       tag = t;
@@ -90,7 +92,9 @@ names_in z h place w v l c is tag =
     ((says_of_keys z h v l).readings b n cell (item_home z h b n place l c.at) c.at)
 
 -- and is that of a key that stands
-pub stood_item : (z : Shape) (h : List Event) (place : Place) (w : ℕ) → IsValid z → IsLawful z h → IsChained z h place → word_of_place z h place ≡ w → 1 ≤ w / 2 ^ 52 → (key : List ℕ) × (value : List ℕ) × WasLinked z place w key value h
+pub stood_item : (z : Shape) (h : List Event) (place : Place) (w : ℕ) → IsValid z → IsLawful z h
+    → IsChained z h place → word_of_place z h place ≡ w → 1 ≤ w / 2 ^ 52 → (key : List ℕ) × (value : List ℕ)
+    × WasLinked z place w key value h
 stood_item z h place w v l c is tag =
     let x = names_in z h place w v l c is tag in
     let b = home_bucket z h place in let n = position z h place in

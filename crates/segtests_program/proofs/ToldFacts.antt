@@ -23,7 +23,8 @@ run_had_a_shape shape is = is
 
 -- ---- loads
 
-load_has_the_fault : (shape : Shape) (commands : ℕ) (may : ℕ → ℕ → Bool → Type 0) (told : ℕ → ℕ → Type 0) (f : MakeFault) → IsLoadFault shape commands may told (load_fault.Make f) → IsMakeFault shape f
+load_has_the_fault : (shape : Shape) (commands : ℕ) (may : ℕ → ℕ → Bool → Type 0) (told : ℕ → ℕ
+    → Type 0) (f : MakeFault) → IsLoadFault shape commands may told (load_fault.Make f) → IsMakeFault shape f
 load_has_the_fault shape commands may told f is = is
 
 -- memory is lacking for a valid shape only

@@ -29,7 +29,9 @@ module _ (b : Board) (e : Event) (p q : Pass) (bucket : ℕ) (d : AddsAtOnce b (
     moved = d.moved;
     plain = plain;
     memo = same;
-    keys = λ key of. subst (λ h. IsSameAt b.shape (after b.shape (seen p)) (after b.shape h) key) (sym (ap event.seen d.now ∙ ap (λ o. with_entry o (event.seen (d.others ++ trace p))) none)) (keys_as_seen key of);
+    keys = λ key of. subst (λ h. IsSameAt b.shape (after b.shape (seen p)) (after b.shape h) key)
+        (sym (ap event.seen d.now ∙ ap (λ o. with_entry o (event.seen (d.others ++ trace p))) none))
+        (keys_as_seen key of);
   }
 
 -- a pass that did nothing

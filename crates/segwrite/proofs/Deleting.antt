@@ -33,17 +33,23 @@ use Rattle.segstore.proofs.UnderBit.{did_acts}
 use Rattle.segstore.proofs.UnderWrite.{HasBegun}
 
 -- what the look asks for, where the search ended
-pub may_look : (b : Board) (request : Request) (key : List ℕ) (now bucket : ℕ) → request ≡ Delete key now → bucket ≡ bucket_of b.shape key → (p f : Pass) (found : Option Target) → HasCleanBit b p bucket → Idles b p f → MayEnterAny p → Finds b key found f
+pub may_look : (b : Board) (request : Request) (key : List ℕ) (now bucket : ℕ) → request ≡ Delete key now
+    → bucket ≡ bucket_of b.shape key → (p f : Pass) (found : Option Target) → HasCleanBit b p bucket → Idles b p f
+    → MayEnterAny p → Finds b key found f
     → IsPassOf b f × (MayEnterAny f × (HasBit b.shape (trace f) (number f) (bucket_of b.shape (key_of request)) × Finds b (key_of request) found f))
 may_look b request key now bucket asked home p f found clean search outside finds =
     let key_is = sym (ap key_of asked) in (
       search.moved.pass,
-      (may_enter_idle b p f search outside, (subst (λ n. HasBit b.shape (trace f) (number f) n) (home ∙ ap (bucket_of b.shape) key_is) (clean_still b [] bucket p f clean search.moved tt).bit, subst (λ k. Finds b k found f) key_is finds)),
+      (may_enter_idle b p f search outside, (subst (λ n. HasBit b.shape (trace f) (number f) n) (home
+          ∙ ap (bucket_of b.shape) key_is) (clean_still b [] bucket p f clean search.moved tt).bit,
+          subst (λ k. Finds b k found f) key_is finds)),
     )
 
 -- ---- under the bit: from p, where it was taken, to f, where the search ended, and g, where the pass knows whether the key is present
 
-module _ (b : Board) (request : Request) (key : List ℕ) (now : ℕ) (bucket : ℕ) (asked : request ≡ Delete key now) (home : bucket ≡ bucket_of b.shape key) (p f g : Pass) (found word : Option Target) (clean : HasCleanBit b p bucket)
+module _ (b : Board) (request : Request) (key : List ℕ) (now : ℕ) (bucket : ℕ) (asked : request ≡ Delete key now)
+    (home : bucket ≡ bucket_of b.shape key) (p f g : Pass) (found word : Option Target)
+    (clean : HasCleanBit b p bucket)
     (search : Idles b p f) (finds : Finds b key found f) (look : Peeks b (key_of request) f g) (known : IsPresentWord b (key_of request) now found word g) where
   key_is : key ≡ key_of request
   key_is = sym (ap key_of asked)
@@ -99,12 +105,15 @@ module _ (b : Board) (request : Request) (key : List ℕ) (now : ℕ) (bucket : 
 
     the_target : IsTarget b (key_of request) target g × (target.word ≢ 0)
     the_target = let t = own_target b (key_of request) found target f finds_it known_word.0 in
-        (target_later b (peek (number f) look.into) f g (key_of request) look.moved search.moved.pass bit_found (peek_nowhere b.shape (bucket_of b.shape (key_of request)) (number f) look.into) target t.0, t.1)
+        (target_later b (peek (number f) look.into) f g (key_of request) look.moved search.moved.pass bit_found
+            (peek_nowhere b.shape (bucket_of b.shape (key_of request)) (number f) look.into) target t.0, t.1)
 
     deletes_it : reply.Deleted ≡ reply_now b g (Delete (key_of request) (moment_of request))
     deletes_it = sym (ap (λ m. reply_now b g (Delete (key_of request) m)) (ap moment_of asked) ∙ ap (λ t. reply_to (Delete (key_of request) now) t version) known_word.1)
 
-    pub may_clear : IsPassOf b g × (Fits b.shape (trace g) gone × (IsInChain b (bucket_of b.shape (key_of request)) target.place g × (HasItemOf b (key_of request) target.place g × IsEarlier b target.place target.word g)))
+    pub may_clear : IsPassOf b g × (Fits b.shape (trace g) gone
+        × (IsInChain b (bucket_of b.shape (key_of request)) target.place g
+        × (HasItemOf b (key_of request) target.place g × IsEarlier b target.place target.word g)))
     may_clear =
         let own = own_item b (key_of request) target g the_target.0 the_target.1 in
         let fits : Fits b.shape (trace g) gone = record { guarded = clean_home.bit; follows = (deletes_it, refl); suits = (own.0.0, own.0.1, own.0.2, clean_home.unwritten) } in
@@ -124,7 +133,10 @@ module _ (b : Board) (request : Request) (key : List ℕ) (now : ℕ) (bucket : 
             ((clean_home.bit.0, ap (λ u. u.holder) acted ∙ (clean_home.bit.1 ∙ ap Some (sym did.moved.same))), ap (λ u. u.written) acted, ap (λ u. u.spare) acted ∙ clean_home.undrawn, tt),
       )
 
-      pub leaves : (s : Pass) → r.plain ≡ g.plain → memo r ≡ memo g → AddsAtOnce b (Freed (number r) bucket true ∷ []) r s → (bucket_after b.shape (trace s) bucket).holder ≡ None → s.plain ≡ r.plain → memo s ≡ memo r → Removes b request delete.Deleted p s
+      pub leaves : (s : Pass) → r.plain ≡ g.plain → memo r ≡ memo g
+          → AddsAtOnce b (Freed (number r) bucket true ∷ []) r s
+          → (bucket_after b.shape (trace s) bucket).holder ≡ None → s.plain ≡ r.plain → memo s ≡ memo r
+          → Removes b request delete.Deleted p s
       leaves s plain keeps freed free plain_too keeps_too =
           let at = position b.shape (trace g) target.place in
           let both = moved_then b (gone ∷ []) (Freed (number r) bucket true ∷ []) g r s did.moved freed.moved in
@@ -146,7 +158,9 @@ module _ (b : Board) (request : Request) (key : List ℕ) (now : ℕ) (bucket : 
 
 -- the bit can't be had
 pub deletes_nothing : (b : Board) (key : List ℕ) (now : ℕ) (p q : Pass) → TakesToWrite b (bucket_of b.shape key) false p q → TakesAtMost most_tries_for_bit p q → Deletes b key now delete.Busy p q
-deletes_nothing b key now p q busy steps = record { on = busy.0; answer = (busy.1, busy.2); locked = λ has. refl; costs = record { takes = λ other. absurd (other refl); steps = (omega (arith, steps)); draws_nothing = busy.3; enters = enters_none b.shape key p q busy.4; reads_nothing = λ told. busy.4 } }
+deletes_nothing b key now p q busy steps = record { on = busy.0; answer = (busy.1, busy.2); locked = λ has. refl;
+    costs = record { takes = λ other. absurd (other refl); steps = (omega (arith, steps)); draws_nothing = busy.3;
+    enters = enters_none b.shape key p q busy.4; reads_nothing = λ told. busy.4 } }
 
 deletion_entry : (z : Shape) (key : List ℕ) (now at : ℕ) → IsEntry z (bucket_of z key) (λ pass. Unlinked pass key at (leaving.Deletes now)) (λ pass. Wrote pass (Delete key now) reply.Deleted None)
 deletion_entry z key now at = record { at = λ pass. refl; adds = λ pass. refl; of = λ pass. refl; still = λ pass. tt; calm = λ pass. tt; undrawn = λ pass. tt; untried = λ pass. tt }
@@ -175,9 +189,13 @@ module _ (b : Board) (key : List ℕ) (now : ℕ) (p q s : Pass) (quiet : IsQuie
 
     pub deletes_present : (told : DeleteAnswer) → RemovesPresent b (Delete key now) told g s → TakesAtMost (most_steps_to_remove told) q s → Deletes b key now told p s
     deletes_present delete.Deleted (at, gives) steps =
-        let is = deletion_entry b.shape key now at in let act : ℕ → Event = (λ pass. Unlinked pass key at (leaving.Deletes now)) in let entry : ℕ → Entry = (λ pass. Wrote pass (Delete key now) reply.Deleted None) in record {
+        let is = deletion_entry b.shape key now at in let act : ℕ
+            → Event = (λ pass. Unlinked pass key at (leaving.Deletes now)) in let entry : ℕ
+            → Entry = (λ pass. Wrote pass (Delete key now) reply.Deleted None) in record {
           on = entered_on b own_bucket true act entry is p g g s quiet had still gives;
-          answer = (entered b own_bucket true act entry is p g g s quiet had still gives, plain_back b own_bucket true act entry is p g g s quiet had still gives, memo_back b own_bucket true act entry is p g g s quiet had still gives);
+          answer = (entered b own_bucket true act entry is p g g s quiet had still gives,
+              plain_back b own_bucket true act entry is p g g s quiet had still gives,
+              memo_back b own_bucket true act entry is p g g s quiet had still gives);
           locked = λ has. absurd (took.unlocked has);
           costs = record {
             steps = (omega (arith, tries, steps));

@@ -29,7 +29,9 @@ pub record IsEntry (shape : Shape) (bucket : ℕ) (act : ℕ → Event) (entry :
   pub undrawn : (pass : ℕ) → IsUndrawn (act pass)
   pub untried : (pass : ℕ) → IsNoTry (act pass)
 
-module _ (b : Board) (bucket : ℕ) (counted : Bool) (act : ℕ → Event) (entry : ℕ → Entry) (is_entry : IsEntry b.shape bucket act entry) (p q f s : Pass) (quiet : IsQuiet b p) {into : Option ℕ} (took : HasBegun b bucket into p q) (idles : Idles b q f)
+module _ (b : Board) (bucket : ℕ) (counted : Bool) (act : ℕ → Event) (entry : ℕ
+    → Entry) (is_entry : IsEntry b.shape bucket act entry) (p q f s : Pass) (quiet : IsQuiet b p) {into : Option ℕ}
+    (took : HasBegun b bucket into p q) (idles : Idles b q f)
     (gives : GivesBack b bucket counted (act (number f) ∷ []) f s) where
   abbrev n : ℕ
   n = number p

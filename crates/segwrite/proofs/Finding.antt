@@ -50,7 +50,8 @@ module _ (b : Board) (key : List ℕ) (first p q : Pass) (place : Place) (word :
     reads_now = reads_later b key first q r read bit_looked place word looked.chain reads_looked
 
     -- the word is one that an item of the place had
-    earlier_now : (a : Slot) → (bucket_after b.shape (trace r) k).items (position b.shape (trace r) place) ≡ item a → word ≡ word_at b.shape (trace q) (cell_at b.shape place) → IsEarlier b place word r
+    earlier_now : (a : Slot) → (bucket_after b.shape (trace r) k).items (position b.shape (trace r) place) ≡ item a
+        → word ≡ word_at b.shape (trace q) (cell_at b.shape place) → IsEarlier b place word r
     earlier_now a here is =
         let before = (λ t. (sym (idle_bucket b q r k read bit_looked) t).items (sym (same_position b [] q r k place read.moved looked.chain) t)) ∙ here in
         let rose = word_rose b [] q r k place read.moved bit_looked tt looked.chain a looked.idles.moved.pass.valid looked.idles.moved.pass.lawful before in
@@ -61,11 +62,15 @@ module _ (b : Board) (key : List ℕ) (first p q : Pass) (place : Place) (word :
     is_target has is = record { chain = now.chain; is = inr (has, earlier_now has.0 has.1 is) }
 
     -- it isn't, and the chain goes on or ends
-    module _ (new : Option Target) (following : Option Place) (other : ¬ (HasItemOf b key place r)) (updates : Updates (record { place = place; word = word }) empty new) (next : IsNext b.shape place word following) where
+    module _ (new : Option Target) (following : Option Place) (other : ¬ (HasItemOf b key place r))
+        (updates : Updates (record { place = place; word = word }) empty new)
+        (next : IsNext b.shape place word following) where
       pub go_on : (after : Place) → following ≡ Some after → Searching b key first r after new
       go_on after same = (onward b key first r place word new (passes b key first r place word reads_now empty new now other updates) reads_now following after next same).0
 
-      pub smaller : (after : Place) → following ≡ Some after → 8 * (bucket_after b.shape (trace first) k).chained + 8 - position b.shape (trace r) after < 8 * (bucket_after b.shape (trace first) k).chained + 8 - position b.shape (trace p) place
+      pub smaller : (after : Place) → following ≡ Some after
+          → 8 * (bucket_after b.shape (trace first) k).chained + 8 - position b.shape (trace r) after < 8 *
+          (bucket_after b.shape (trace first) k).chained + 8 - position b.shape (trace p) place
       smaller after same =
           let on = onward b key first r place word new (passes b key first r place word reads_now empty new now other updates) reads_now following after next same in
           let within = on.0.chain.at.0.0 in
@@ -75,18 +80,25 @@ module _ (b : Board) (key : List ℕ) (first p q : Pass) (place : Place) (word :
           omega (arith, on.1, within, long, there, still)
 
       -- the depth of the next place
-      pub deeper : (buckets : ℕ) (after : Place) → buckets ≡ position b.shape (trace p) place / 8 + 1 → following ≡ Some after → buckets + bool_byte (eqb after.word 1) ≡ position b.shape (trace r) after / 8 + 1
+      pub deeper : (buckets : ℕ) (after : Place) → buckets ≡ position b.shape (trace p) place / 8 + 1
+          → following ≡ Some after → buckets + bool_byte (eqb after.word 1) ≡ position b.shape (trace r) after / 8 +
+          1
       deeper buckets after deep same =
           let on = onward b key first r place word new (passes b key first r place word reads_now empty new now other updates) reads_now following after next same in
           let there = same_position b [] p q k place look.moved s.chain in
           let still = same_position b [] q r k place read.moved looked.chain in
-          let e : position b.shape (trace r) after / 8 ≡ position b.shape (trace p) place / 8 + bool_byte (eqb after.word 1) = on.2 ∙ ap (λ n. n / 8 + bool_byte (eqb after.word 1)) (still ∙ there) in omega (arith, deep, e)
+          let e : position b.shape (trace r) after / 8 ≡ position b.shape (trace p) place / 8 + bool_byte
+              (eqb after.word 1) = on.2 ∙ ap (λ n. n / 8 + bool_byte (eqb after.word 1)) (still ∙ there) in
+              omega (arith, deep, e)
 
       -- or it ends here
       abbrev all_passed : Passed b key first r place new
       all_passed = passes b key first r place word reads_now empty new now other updates
 
-      last_is : (buckets : ℕ) → following ≡ None → new ≡ None → word ≡ word_at b.shape (trace q) (cell_at b.shape place) → buckets ≡ position b.shape (trace p) place / 8 + 1 → IsChainEnd b k (record { place = place; word = word; buckets = buckets }) r
+      last_is : (buckets : ℕ) → following ≡ None → new ≡ None
+          → word ≡ word_at b.shape (trace q) (cell_at b.shape place)
+          → buckets ≡ position b.shape (trace p) place / 8 + 1
+          → IsChainEnd b k (record { place = place; word = word; buckets = buckets }) r
       last_is buckets same none is deep =
           let ends = ends_at b key first r place word new all_passed reads_now following next same in
           let item_is = last_item b key first r place word new all_passed reads_now (subst (λ o. IsFirstEmpty b key (position b.shape (trace r) place + 1) o r) none all_passed.empty_is) ends in
@@ -102,7 +114,9 @@ module _ (b : Board) (key : List ℕ) (first p q : Pass) (place : Place) (word :
             buckets = deep ∙ (let e : position b.shape (trace p) place ≡ 8 * (bucket_after b.shape (trace r) k).chained + 7 = sym (later ∙ still) ∙ ends in omega (arith, e));
           }
 
-      pub found_end : (buckets : ℕ) → following ≡ None → word ≡ word_at b.shape (trace q) (cell_at b.shape place) → buckets ≡ position b.shape (trace p) place / 8 + 1 → Searches b key (or_end (record { place = place; word = word; buckets = buckets }) new) r
+      pub found_end : (buckets : ℕ) → following ≡ None → word ≡ word_at b.shape (trace q) (cell_at b.shape place)
+          → buckets ≡ position b.shape (trace p) place / 8 + 1
+          → Searches b key (or_end (record { place = place; word = word; buckets = buckets }) new) r
       found_end buckets same is deep = with_end new refl (ended b key first r place word new all_passed reads_now following next same)
         where
           with_end : (o : Option Target) → new ≡ o → Finds b key o r → Searches b key (or_end (record { place = place; word = word; buckets = buckets }) o) r
@@ -120,20 +134,31 @@ pub next_first : (z : Shape) (place : Place) (here : ℕ) (next : Option Place) 
 next_first z place here next after last is same = let to = subst (λ o. MatchOption o (LeadsNowhere here) (LeadsTo z here)) same (is.last (omega (arith, last))) in ap (λ (x : Place). x.word) to.3
 
 -- the last word of a bucket
-pub at_last : (b : Board) (key : List ℕ) (first p : Pass) (bucket word : ℕ) (empty : Option Target) → word ≡ 7 → Searching b key first p (record { bucket = bucket; word = word }) empty → Searching b key first p (record { bucket = bucket; word = 7 }) empty
+pub at_last : (b : Board) (key : List ℕ) (first p : Pass) (bucket word : ℕ) (empty : Option Target) → word ≡ 7
+    → Searching b key first p (record { bucket = bucket; word = word }) empty
+    → Searching b key first p (record { bucket = bucket; word = 7 }) empty
 at_last b key first p bucket word empty last s = subst (λ w. Searching b key first p (record { bucket = bucket; word = w }) empty) last s
 
-pub deep_last : (b : Board) (p : Pass) (bucket word buckets : ℕ) → word ≡ 7 → buckets ≡ position b.shape (trace p) (record { bucket = bucket; word = word }) / 8 + 1 → buckets ≡ position b.shape (trace p) (record { bucket = bucket; word = 7 }) / 8 + 1
+pub deep_last : (b : Board) (p : Pass) (bucket word buckets : ℕ) → word ≡ 7
+    → buckets ≡ position b.shape (trace p) (record { bucket = bucket; word = word }) / 8 + 1
+    → buckets ≡ position b.shape (trace p) (record { bucket = bucket; word = 7 }) / 8 + 1
 deep_last b p bucket word buckets last deep = subst (λ w. buckets ≡ position b.shape (trace p) (record { bucket = bucket; word = w }) / 8 + 1) last deep
 
 -- at the first word of the next bucket
-pub at_first : (b : Board) (key : List ℕ) (first p : Pass) (after : Place) (empty : Option Target) → after.word ≡ 1 → Searching b key first p after empty → Searching b key first p (record { bucket = after.bucket; word = 1 }) empty
+pub at_first : (b : Board) (key : List ℕ) (first p : Pass) (after : Place) (empty : Option Target) → after.word ≡ 1
+    → Searching b key first p after empty → Searching b key first p (record { bucket = after.bucket; word = 1 })
+    empty
 at_first b key first p after empty one s = subst (λ w. Searching b key first p (record { bucket = after.bucket; word = w }) empty) one s
 
-pub deep_inner : (b : Board) (p : Pass) (bucket word buckets : ℕ) → 1 ≤ word → buckets + bool_byte (eqb (word + 1) 1) ≡ position b.shape (trace p) (record { bucket = bucket; word = word + 1 }) / 8 + 1 → buckets ≡ position b.shape (trace p) (record { bucket = bucket; word = word + 1 }) / 8 + 1
+pub deep_inner : (b : Board) (p : Pass) (bucket word buckets : ℕ) → 1 ≤ word
+    → buckets + bool_byte (eqb (word + 1) 1) ≡ position b.shape (trace p)
+    (record { bucket = bucket; word = word + 1 }) / 8 + 1
+    → buckets ≡ position b.shape (trace p) (record { bucket = bucket; word = word + 1 }) / 8 + 1
 deep_inner b p bucket word buckets some deep = let same = ap bool_byte (ne_eqb (word + 1) 1 (λ e. omega (arith, e, some))) in omega (arith, deep, same)
 
-pub deep_first : (b : Board) (p : Pass) (after : Place) (buckets : ℕ) → after.word ≡ 1 → buckets + bool_byte (eqb after.word 1) ≡ position b.shape (trace p) after / 8 + 1 → buckets + 1 ≡ position b.shape (trace p) (record { bucket = after.bucket; word = 1 }) / 8 + 1
+pub deep_first : (b : Board) (p : Pass) (after : Place) (buckets : ℕ) → after.word ≡ 1
+    → buckets + bool_byte (eqb after.word 1) ≡ position b.shape (trace p) after / 8 + 1
+    → buckets + 1 ≡ position b.shape (trace p) (record { bucket = after.bucket; word = 1 }) / 8 + 1
 deep_first b p after buckets one deep =
     let same = ap bool_byte (eq-eqb after.word 1 one) in
     subst (λ w. buckets + 1 ≡ position b.shape (trace p) (record { bucket = after.bucket; word = w }) / 8 + 1) one (omega (arith, deep, same))

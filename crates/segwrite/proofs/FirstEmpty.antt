@@ -23,7 +23,9 @@ use Rattle.segwrite.proofs.Acting.{as_seen, keys_as_seen}
 use Rattle.segwrite.proofs.Linking.{linked_by}
 
 -- the word that a search found for an absent key is the first empty one
-first_of : (b : Board) (key : List ℕ) (target : Target) (p : Pass) → IsPassOf b p → IsTarget b key target p → IsNewKey b key p → IsFirstNothing (bucket_after b.shape (trace p) (bucket_of b.shape key)) (position b.shape (trace p) target.place)
+first_of : (b : Board) (key : List ℕ) (target : Target) (p : Pass) → IsPassOf b p → IsTarget b key target p
+    → IsNewKey b key p → IsFirstNothing (bucket_after b.shape (trace p) (bucket_of b.shape key))
+    (position b.shape (trace p) target.place)
 first_of b key target p is found absent = ⊎_elim
     (λ free. record { here = found.chain.at.0; empty = free.1; before = free.3 })
     (λ has.
@@ -33,7 +35,10 @@ first_of b key target p is found absent = ⊎_elim
     found.is
 
 -- it is still so at the link, under the bit
-pub took_first : (b : Board) (request : Request) (target : Target) (segment row : ℕ) (own : List Event) (p q r s : Pass) → AddsEvents b own p q → IsPassOf b q → HasBit b.shape (trace q) (number q) (bucket_of b.shape (key_of request)) → IsTarget b (key_of request) target q
+pub took_first : (b : Board) (request : Request) (target : Target) (segment row : ℕ) (own : List Event)
+    (p q r s : Pass) → AddsEvents b own p q → IsPassOf b q
+    → HasBit b.shape (trace q) (number q) (bucket_of b.shape (key_of request))
+    → IsTarget b (key_of request) target q
     → AddsAtOnce b (linked_by b request segment row target.place q ∷ []) q r → trace s ≡ trace r → LinkedFirst b.shape request (number p) (trace p) (trace s)
 took_first b request target segment row own p q r s m is bit found d same =
     let z = b.shape in let key = key_of request in let home = bucket_of z key in let at = position z (trace q) target.place in let e = linked_by b request segment row target.place q in
@@ -48,7 +53,8 @@ took_first b request target segment row own p q r s m is bit found d same =
     }
 
 -- a link between wider moments
-pub first_wider : (z : Shape) (request : Request) (pass other : ℕ) (h g h' g' : List Event) → pass ≡ other → Begins h' h → Begins g g' → LinkedFirst z request pass h g → LinkedFirst z request other h' g'
+pub first_wider : (z : Shape) (request : Request) (pass other : ℕ) (h g h' g' : List Event) → pass ≡ other
+    → Begins h' h → Begins g g' → LinkedFirst z request pass h g → LinkedFirst z request other h' g'
 first_wider z request pass other h g h' g' same before after f = record {
   at = f.at;
   segment = f.segment;
@@ -114,7 +120,8 @@ module _ (z : Shape) (h : List Event) (key : List ℕ) (l : IsLawful z h) where
     before = λ earlier lt some. let position : IsPosition u earlier = (omega (arith, lt), some) in taken_at earlier position (f.before earlier lt position);
   }
 
-pub took_marked : (z : Shape) (request : Request) (pass : ℕ) (old new : List Event) → IsLawful z new → LinkedFirst z request pass old new → TookFirstEmpty z request pass (mark.marked old) (mark.marked new)
+pub took_marked : (z : Shape) (request : Request) (pass : ℕ) (old new : List Event) → IsLawful z new
+    → LinkedFirst z request pass old new → TookFirstEmpty z request pass (mark.marked old) (mark.marked new)
 took_marked z request pass old new l f = record {
   at = mark.marked f.at;
   segment = f.segment;

@@ -24,7 +24,9 @@ use Rattle.segwrite.proofs.Joining.{last_later, home_is}
 use Rattle.segwrite.proofs.Places.{position_at, overflow_at}
 
 -- all words of a bucket are taken, and no overflow bucket waits for its chain
-pub no_word : (z : Shape) (h : List Event) (key : List ℕ) → IsLawful z h → HasNoEmptyWord (bucket_after z h (bucket_of z key)) → (bucket_after z h (bucket_of z key)).spare ≡ None → standing (after z (event.seen h)) key ≡ None → HasNoWord z (mark.marked h) key
+pub no_word : (z : Shape) (h : List Event) (key : List ℕ) → IsLawful z h
+    → HasNoEmptyWord (bucket_after z h (bucket_of z key)) → (bucket_after z h (bucket_of z key)).spare ≡ None
+    → standing (after z (event.seen h)) key ≡ None → HasNoWord z (mark.marked h) key
 no_word z h key l all none absent =
     let k = bucket_of z key in let same = entries_marked h in let full = counted_full z h k l all in let long = wide z h k l none in record {
       new = ap (λ g. standing (after z g) key) same ∙ absent;
@@ -120,8 +122,13 @@ module _ (b : Board) (bucket overflow : ℕ) (place : Place) (word : ℕ) (p r :
           clean = joined.2.clean;
           second = refl;
           free = λ key of absent. record {
-            chain = subst (λ k. IsInChain b k room q) (sym of) (record { in_table = (omega (arith, overflow_in), omega arith, omega arith); at = subst (λ n. IsItemAt z (trace q) bucket n (cell_at z room)) (sym room_position) room_at });
-            is = inl (refl, subst (λ k. (bucket_after z (trace q) k).items (position z (trace q) room) ≡ nothing) (sym of) (ap longer.items room_position ∙ joined.2.empty), (both.keys key of).stands ∙ absent, subst (λ k. AreTakenBefore (bucket_after z (trace q) k) (position z (trace q) room)) (sym of) (subst (AreTakenBefore longer) (sym room_position) joined.2.before));
+            chain = subst (λ k. IsInChain b k room q) (sym of)
+                (record { in_table = (omega (arith, overflow_in), omega arith, omega arith);
+                at = subst (λ n. IsItemAt z (trace q) bucket n (cell_at z room)) (sym room_position) room_at });
+            is = inl (refl, subst (λ k. (bucket_after z (trace q) k).items (position z (trace q) room) ≡ nothing)
+                (sym of) (ap longer.items room_position ∙ joined.2.empty), (both.keys key of).stands
+                ∙ absent, subst (λ k. AreTakenBefore (bucket_after z (trace q) k) (position z (trace q) room))
+                (sym of) (subst (AreTakenBefore longer) (sym room_position) joined.2.before));
           };
           could = in_need;
         }

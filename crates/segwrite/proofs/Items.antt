@@ -16,7 +16,9 @@ use Rattle.segwrite.specs.Writing.{IsInChain}
 use Rattle.segwrite.proofs.Places.{idle_bucket, same_position}
 
 -- the item of a position whose word has a tag
-pub item_here : (z : Shape) (h : List Event) (b n word : ℕ) (x : Content) → IsValid z → IsLawful z h → IsContent h b (bucket_after z h b) n x → IsWordOfContent x word → 1 ≤ word / 2 ^ 52 → (a : Slot) × (x ≡ item a) × IsWordOf a word
+pub item_here : (z : Shape) (h : List Event) (b n word : ℕ) (x : Content) → IsValid z → IsLawful z h
+    → IsContent h b (bucket_after z h b) n x → IsWordOfContent x word → 1 ≤ word / 2 ^ 52 → (a : Slot)
+    × (x ≡ item a) × IsWordOf a word
 item_here z h b n word nothing v l is reads tag = absurd (omega (arith, reads, tag))
 item_here z h b n word (item a) v l is reads tag = (a, refl, reads.0)
 item_here z h b n word (next m) v l is reads tag =
@@ -41,7 +43,9 @@ pub record IsNamed (z : Shape) (h : List Event) (b n : ℕ) (read : Item) : Type
 
 pub named : (z : Shape) (h : List Event) (b n word : ℕ) (read : Item) → IsValid z → IsLawful z h → IsWordOfContent ((bucket_after z h b).items n) word → item_word read ≡ word → IsNamed z h b n read
 named z h b n word read v l reads is =
-    let tagged : 1 ≤ word / 2 ^ 52 = subst (λ w. 1 ≤ w / 2 ^ 52) is (subst (λ t. 1 ≤ t) (sym (tag_of_word read.tag read.freq read.seg read.row read.freq_in_range read.seg_in_range read.row_in_range)) read.tag_above_zero) in
+    let tagged : 1 ≤ word / 2 ^ 52 = subst (λ w. 1 ≤ w / 2 ^ 52) is
+        (subst (λ t. 1 ≤ t) (sym (tag_of_word read.tag read.freq read.seg read.row read.freq_in_range
+        read.seg_in_range read.row_in_range)) read.tag_above_zero) in
     let found = item_here z h b n word ((bucket_after z h b).items n) v l ((chain_of z h l b).contents n) reads tagged in
     let a = found.0 in let stands = (coherent z h l).items b n a found.1 in
     let same = parts read.tag read.freq read.seg read.row (tag_of a.key) found.2.0 a.segment a.row read.freq_in_range read.seg_in_range read.row_in_range
@@ -59,7 +63,9 @@ named_later b p q bucket place read i bit chain name = record {
 }
 
 -- the pass may read its row
-pub item_readable : (b : Board) (p : Pass) (bucket n : ℕ) (read : Item) → IsPassOf b p → HasBit b.shape (trace p) (number p) bucket → IsNamed b.shape (trace p) bucket n read → IsReadable b p read.seg read.row
+pub item_readable : (b : Board) (p : Pass) (bucket n : ℕ) (read : Item) → IsPassOf b p
+    → HasBit b.shape (trace p) (number p) bucket → IsNamed b.shape (trace p) bucket n read
+    → IsReadable b p read.seg read.row
 item_readable b p bucket n read is bit name =
     let stands = (coherent b.shape (trace p) is.lawful).items bucket n name.slot name.here in (
       subst (λ s. s < b.shape.passes * b.shape.segments_each) name.segment stands.within.0,
@@ -73,12 +79,16 @@ pub row_tells : (z : Shape) (h : List Event) (b n : ℕ) (key : List ℕ) (read 
     → found ↔ ((a : Slot) × ((bucket_after z h b).items n ≡ item a) × (a.key ≡ key))
 row_tells z h b n key read found l name tells =
     let a = name.slot in let stands = (coherent z h l).items b n a name.here in
-    let row : Holds (row_after h read.seg read.row) a.key stands.value = subst (λ s. Holds (row_after h s read.row) a.key stands.value) name.segment (subst (λ r. Holds (row_after h a.segment r) a.key stands.value) name.row stands.holds) in
+    let row : Holds (row_after h read.seg read.row) a.key stands.value =
+        subst (λ s. Holds (row_after h s read.row) a.key stands.value) name.segment
+        (subst (λ r. Holds (row_after h a.segment r) a.key stands.value) name.row stands.holds) in
     let same = tells a.key stands.value stands.valid.0 stands.valid.1 row in
     (λ y. (a, name.here, same.0 y), λ has. same.1 (ap (λ (x : Slot). x.key) (same_item a has.0 (sym name.here ∙ has.1)) ∙ has.2))
 
 -- the word of the key's item has the key's tag
-pub tag_is : (z : Shape) (h : List Event) (b n word : ℕ) (key : List ℕ) → IsValid z → IsLawful z h → IsWordOfContent ((bucket_after z h b).items n) word → ((a : Slot) × ((bucket_after z h b).items n ≡ item a) × (a.key ≡ key)) → word / 2 ^ 52 ≡ tag_of key
+pub tag_is : (z : Shape) (h : List Event) (b n word : ℕ) (key : List ℕ) → IsValid z → IsLawful z h
+    → IsWordOfContent ((bucket_after z h b).items n) word
+    → ((a : Slot) × ((bucket_after z h b).items n ≡ item a) × (a.key ≡ key)) → word / 2 ^ 52 ≡ tag_of key
 tag_is z h b n word key v l reads has =
     let a = has.0 in let stands = (coherent z h l).items b n a has.1 in
     let is = (subst (λ x. IsWordOfContent x word) has.1 reads).0 in

@@ -33,7 +33,9 @@ pub record LeavesEnd (e : Event) (u : Bucket) : Type 0 where
   pub here : (acts e u).items (last u) ≡ u.items (last u)
   pub frequencies : (h : List Event) (s r : ℕ) → frequency_of (e ∷ h) s r ≡ frequency_of h s r
 
-pub last_later : (b : Board) (e : Event) (p q : Pass) (bucket : ℕ) (place : Place) (word : ℕ) → IsPassOf b p → AddsAtOnce b (e ∷ []) p q → HasBit b.shape (trace p) (number p) bucket → is (bucket_at b.shape e) bucket ≡ true → LeavesEnd e (bucket_seen b bucket p)
+pub last_later : (b : Board) (e : Event) (p q : Pass) (bucket : ℕ) (place : Place) (word : ℕ) → IsPassOf b p
+    → AddsAtOnce b (e ∷ []) p q → HasBit b.shape (trace p) (number p) bucket
+    → is (bucket_at b.shape e) bucket ≡ true → LeavesEnd e (bucket_seen b bucket p)
     → IsLast b bucket place word p → IsLast b bucket place word q
 last_later b e p q bucket place word is d bit at leaves l =
     let z = b.shape in let u = bucket_seen b bucket p in let v = bucket_seen b bucket q in
@@ -43,9 +45,12 @@ last_later b e p q bucket place word is d bit at leaves l =
     let later = chain_later b (e ∷ []) p q bucket place d.moved l.chain in
     let there : v.items (last u) ≡ item l.named = ap (λ (w : Bucket). w.items (last u)) same ∙ (leaves.here ∙ l.here) in
     let up = (meanwhile z (number p) d.others (trace p) d.before d.none).rises bucket (last u) l.named bit l.here in
-    let rose = item_rose z (trace p) (trace q) bucket (last u) (cell_at z place) l.named is.valid is.lawful d.moved.pass.lawful (subst (λ n. IsItemAt z (trace p) bucket n (cell_at z place)) l.ends l.chain.at)
+    let rose = item_rose z (trace p) (trace q) bucket (last u) (cell_at z place) l.named is.valid is.lawful
+        d.moved.pass.lawful (subst (λ n. IsItemAt z (trace p) bucket n (cell_at z place)) l.ends l.chain.at)
     (subst (λ n. IsItemAt z (trace q) bucket n (cell_at z place)) (still ∙ l.ends) later.at) l.here there
-    (subst (λ n. frequency_of (trace p) l.named.segment l.named.row ≤ n) (sym (ap (λ h. frequency_of h l.named.segment l.named.row) d.now ∙ leaves.frequencies (d.others ++ trace p) l.named.segment l.named.row)) up) in record {
+    (subst (λ n. frequency_of (trace p) l.named.segment l.named.row ≤ n)
+        (sym (ap (λ h. frequency_of h l.named.segment l.named.row) d.now
+        ∙ leaves.frequencies (d.others ++ trace p) l.named.segment l.named.row)) up) in record {
       chain = later;
       ends = still ∙ (l.ends ∙ sym end);
       named = l.named;
@@ -55,7 +60,9 @@ last_later b e p q bucket place word is d bit at leaves l =
     }
 
 -- the word that stood there when an exchange failed
-pub last_missed : (b : Board) (p q : Pass) (bucket : ℕ) (place : Place) (word found : ℕ) → HasBit b.shape (trace p) (number p) bucket → IsLast b bucket place word p → Missed b place word found p q → IsLast b bucket place found q × IsSameItem word found × (word < found)
+pub last_missed : (b : Board) (p q : Pass) (bucket : ℕ) (place : Place) (word found : ℕ)
+    → HasBit b.shape (trace p) (number p) bucket → IsLast b bucket place word p → Missed b place word found p q
+    → IsLast b bucket place found q × IsSameItem word found × (word < found)
 last_missed b p q bucket place word found bit l m =
     let z = b.shape in let a = l.named in
     let same = moved_bucket b [] p q bucket m.did.moved bit tt in
@@ -106,7 +113,9 @@ module _ (b : Board) (bucket overflow : ℕ) (place : Place) (word : ℕ) (p : P
       bit = (spare.bit.0, ap (λ (v : Bucket). v.holder) filled ∙ (spare.bit.1 ∙ ap Some (sym d.moved.same)));
       unwritten = ap (λ (v : Bucket). v.written) filled ∙ spare.unwritten;
       spare = ap (λ (v : Bucket). v.spare) filled ∙ spare.spare;
-      full = subst HasNoEmptyWord (sym filled) (λ n here none. spare.full n here (sym (cond-false (eqb (fresh_position u) n) (copy word) (u.items n) (ne_eqb (fresh_position u) n (λ same. let x = here.0 in omega (arith, same, x)))) ∙ none));
+      full = subst HasNoEmptyWord (sym filled) (λ n here none. spare.full n here
+          (sym (cond-false (eqb (fresh_position u) n) (copy word) (u.items n)
+          (ne_eqb (fresh_position u) n (λ same. let x = here.0 in omega (arith, same, x)))) ∙ none));
     }
 
     pub last_filled : IsLast b bucket place word r
@@ -117,7 +126,9 @@ module _ (b : Board) (bucket overflow : ℕ) (place : Place) (word : ℕ) (p : P
     }) l
 
     pub copy_filled : (bucket_seen b bucket r).items (fresh_position (bucket_seen b bucket r)) ≡ copy word
-    copy_filled = ap (λ (v : Bucket). v.items (fresh_position v)) filled ∙ cond-true (eqb (fresh_position u) (fresh_position u)) (copy word) (u.items (fresh_position u)) (eq-eqb (fresh_position u) (fresh_position u) refl)
+    copy_filled = ap (λ (v : Bucket). v.items (fresh_position v)) filled
+        ∙ cond-true (eqb (fresh_position u) (fresh_position u)) (copy word) (u.items (fresh_position u))
+        (eq-eqb (fresh_position u) (fresh_position u) refl)
 
 -- ---- the exchange
 
@@ -153,19 +164,32 @@ module _ (b : Board) (bucket overflow : ℕ) (place : Place) (word : ℕ) (p : P
     grown = acted b event p q bucket d spare.bit (eq-eqb bucket bucket refl)
 
     empty : waiting.items (8 * (waiting.chained + 1) + 2) ≡ nothing
-    empty = no_content (trace p) bucket (8 * (waiting.chained + 1) + 2) waiting (waiting.items (8 * (waiting.chained + 1) + 2)) ((chain_of z (trace p) is.lawful bucket).contents (8 * (waiting.chained + 1) + 2)) (omega arith)
+    empty = no_content (trace p) bucket (8 * (waiting.chained + 1) + 2) waiting
+        (waiting.items (8 * (waiting.chained + 1) + 2))
+        ((chain_of z (trace p) is.lawful bucket).contents (8 * (waiting.chained + 1) + 2)) (omega arith)
 
     apart : longer.items (8 * (waiting.chained + 1) + 2) ≡ waiting.items (8 * (waiting.chained + 1) + 2)
     apart = let n = 8 * (waiting.chained + 1) + 2 in
-        cond-false (eqb (last waiting) n) (next overflow) _ (ne_eqb (last waiting) n (λ same. omega arith)) ∙ cond-false (eqb (fresh_position waiting) n) (waiting.items (last waiting)) (waiting.items n) (ne_eqb (fresh_position waiting) n (λ same. omega arith))
+        cond-false (eqb (last waiting) n) (next overflow) _ (ne_eqb (last waiting) n (λ same. omega arith))
+            ∙ cond-false (eqb (fresh_position waiting) n) (waiting.items (last waiting)) (waiting.items n)
+            (ne_eqb (fresh_position waiting) n (λ same. omega arith))
 
     before : AreTakenBefore longer (8 * (waiting.chained + 1) + 2)
     before n lt here none = ⊎_elim
-        (λ end. let leads : next overflow ≡ nothing = sym (cond-true (eqb (last waiting) n) (next overflow) (cond (eqb (fresh_position waiting) n) (waiting.items (last waiting)) (waiting.items n)) (eq-eqb (last waiting) n end)) ∙ none in cc)
+        (λ end. let leads : next overflow ≡ nothing =
+            sym (cond-true (eqb (last waiting) n) (next overflow)
+            (cond (eqb (fresh_position waiting) n) (waiting.items (last waiting)) (waiting.items n))
+            (eq-eqb (last waiting) n end)) ∙ none in cc)
         (λ other.
-        let there = sym (cond-false (eqb (last waiting) n) (next overflow) (cond (eqb (fresh_position waiting) n) (waiting.items (last waiting)) (waiting.items n)) (ne_eqb (last waiting) n other)) ∙ none in ⊎_elim
-        (λ first. spare.full (last waiting) (omega arith, omega arith) (sym (cond-true (eqb (fresh_position waiting) n) (waiting.items (last waiting)) (waiting.items n) (eq-eqb (fresh_position waiting) n first)) ∙ there))
-        (λ old. let x = here.1 in spare.full n (omega (arith, lt, x, old), x) (sym (cond-false (eqb (fresh_position waiting) n) (waiting.items (last waiting)) (waiting.items n) (ne_eqb (fresh_position waiting) n old)) ∙ there))
+        let there = sym (cond-false (eqb (last waiting) n) (next overflow)
+            (cond (eqb (fresh_position waiting) n) (waiting.items (last waiting)) (waiting.items n))
+            (ne_eqb (last waiting) n other)) ∙ none in ⊎_elim
+        (λ first. spare.full (last waiting) (omega arith, omega arith)
+            (sym (cond-true (eqb (fresh_position waiting) n) (waiting.items (last waiting)) (waiting.items n)
+            (eq-eqb (fresh_position waiting) n first)) ∙ there))
+        (λ old. let x = here.1 in spare.full n (omega (arith, lt, x, old), x)
+            (sym (cond-false (eqb (fresh_position waiting) n) (waiting.items (last waiting)) (waiting.items n)
+            (ne_eqb (fresh_position waiting) n old)) ∙ there))
         (cases_eq (fresh_position waiting) n))
         (cases_eq (last waiting) n)
 
@@ -177,7 +201,9 @@ module _ (b : Board) (bucket overflow : ℕ) (place : Place) (word : ℕ) (p : P
         undrawn = ap (λ (w : Bucket). w.spare) grown;
       };
       home = ap (λ h. home_of h overflow) d.moved.goes_on
-          ∙ (home_stays z d.moved.more (trace p) overflow (home bucket (waiting.chained + 1)) (subst (IsLawful z) d.moved.goes_on d.moved.pass.lawful) ((chain_of z (trace p) is.lawful bucket).spare overflow spare.spare).1
+          ∙ (home_stays z d.moved.more (trace p) overflow (home bucket (waiting.chained + 1))
+              (subst (IsLawful z) d.moved.goes_on d.moved.pass.lawful)
+              ((chain_of z (trace p) is.lawful bucket).spare overflow spare.spare).1
           ∙ ap (λ (w : Bucket). Some (home bucket w.chained)) (sym grown));
       empty = ap (λ (w : Bucket). w.items (8 * w.chained + 2)) grown ∙ (apart ∙ empty);
       before = subst (λ (w : Bucket). AreTakenBefore w (8 * w.chained + 2)) (sym grown) before;
@@ -191,7 +217,9 @@ module _ (b : Board) (bucket overflow : ℕ) (place : Place) (word : ℕ) (p r q
   unfolding puts
   put = prepares b (Put (number p) bucket word) p r bucket filled spare.bit refl plain same
 
-  pub tried : (result : Result (Unit {0}) ℕ) → OnOk result (AddsAtOnce b (Chained (number r) bucket overflow ∷ []) r q) → IfErr result (λ found. Missed b place word found r q) → q.plain ≡ r.plain → memo q ≡ memo r
+  pub tried : (result : Result (Unit {0}) ℕ)
+      → OnOk result (AddsAtOnce b (Chained (number r) bucket overflow ∷ []) r q)
+      → IfErr result (λ found. Missed b place word found r q) → q.plain ≡ r.plain → memo q ≡ memo r
       → TriesToJoin b bucket overflow place word result p q
   tried (Ok done) did missed after kept =
       let waits = spare_filled b bucket overflow place word p is spare l r filled in
@@ -225,7 +253,8 @@ pub record Joining (b : Board) (bucket overflow : ℕ) (place : Place) (word : �
   pub spare : HasSpare b bucket overflow p
   pub last : IsLast b bucket place word p
 
-pub joining_first : (b : Board) (bucket overflow : ℕ) (place : Place) (word : ℕ) (p : Pass) → IsPassOf b p → HasSpare b bucket overflow p → IsLast b bucket place word p → Joining b bucket overflow place word p p
+pub joining_first : (b : Board) (bucket overflow : ℕ) (place : Place) (word : ℕ) (p : Pass) → IsPassOf b p
+    → HasSpare b bucket overflow p → IsLast b bucket place word p → Joining b bucket overflow place word p p
 unfolding puts
 joining_first b bucket overflow place word p is spare last = record { words = []; prepares = idle_prepares b p p bucket (idles b p is) spare.bit; spare = spare; last = last }
 

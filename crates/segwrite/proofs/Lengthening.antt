@@ -33,7 +33,9 @@ past_puts p home bucket [] rest h = refl
 past_puts p home bucket (w ∷ words) rest h = past_puts p home bucket words rest h
 
 -- one more was drawn for its bucket
-pub longer_drew : (p home depth overflow bucket : ℕ) (words : List ℕ) (h : List Event) → count (drew bucket) p (lengthens p home depth overflow words ++ h) ≡ cond (eqb home bucket) 1 0 + count (drew bucket) p h
+pub longer_drew : (p home depth overflow bucket : ℕ) (words : List ℕ) (h : List Event)
+    → count (drew bucket) p (lengthens p home depth overflow words ++ h) ≡ cond (eqb home bucket) 1 0 + count
+    (drew bucket) p h
 longer_drew p home depth overflow bucket words h =
     past_puts p home bucket words (Drew p home depth overflow ∷ []) h ∙ rw (eq-eqb p p refl) (one_more (eqb home bucket) (count (drew bucket) p h))
 

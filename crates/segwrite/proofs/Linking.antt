@@ -49,7 +49,10 @@ pub record Retrying (b : Board) (key : List ℕ) (event : ℕ → ℕ → Event)
   pub earlier : IsEarlier b place old p
 
 module _ (b : Board) (key : List ℕ) (event : ℕ → ℕ → Event) where
-  pub retry_first : (place : Place) (old : ℕ) (p : Pass) → IsPassOf b p → HasBit b.shape (trace p) (number p) (bucket_of b.shape key) → Fits b.shape (trace p) (event_at b event place p) → IsInChain b (bucket_of b.shape key) place p → HasItemOf b key place p → IsEarlier b place old p → Retrying b key event place old p p
+  pub retry_first : (place : Place) (old : ℕ) (p : Pass) → IsPassOf b p
+      → HasBit b.shape (trace p) (number p) (bucket_of b.shape key)
+      → Fits b.shape (trace p) (event_at b event place p) → IsInChain b (bucket_of b.shape key) place p
+      → HasItemOf b key place p → IsEarlier b place old p → Retrying b key event place old p p
   retry_first place old p is bit fits chain has earlier = record { did = did_nothing b p is; same = refl; fits = fits; bit = bit; chain = chain; has = has; earlier = earlier }
 
   module _ (place : Place) (old found : ℕ) (first p q : Pass) (l : Retrying b key event place old first p) where

@@ -26,11 +26,14 @@ use Rattle.segwrite.proofs.Searching.{Searching, Passed, NoneBelow, IsFirstEmpty
 
 -- ---- the places of a chain
 
-pub depth_of_place : (z : Shape) (h : List Event) (b n : ℕ) (place : Place) (t : Bool) → IsAt h b n (cond t (OfBucket place.bucket place.word) (OfOverflow (place.bucket - z.buckets) place.word)) → (d : ℕ) × (n ≡ 8 * d + place.word)
+pub depth_of_place : (z : Shape) (h : List Event) (b n : ℕ) (place : Place) (t : Bool)
+    → IsAt h b n (cond t (OfBucket place.bucket place.word) (OfOverflow (place.bucket - z.buckets) place.word))
+    → (d : ℕ) × (n ≡ 8 * d + place.word)
 depth_of_place z h b n place true at = (0, let e = at.1 in omega arith)
 depth_of_place z h b n place false at = (at.0, at.2)
 
-pub next_at : (z : Shape) (h : List Event) (b n : ℕ) (place : Place) (t : Bool) → place.word < 7 → IsAt h b n (cond t (OfBucket place.bucket place.word) (OfOverflow (place.bucket - z.buckets) place.word))
+pub next_at : (z : Shape) (h : List Event) (b n : ℕ) (place : Place) (t : Bool) → place.word < 7
+    → IsAt h b n (cond t (OfBucket place.bucket place.word) (OfOverflow (place.bucket - z.buckets) place.word))
     → IsAt h b (n + 1) (cond t (OfBucket place.bucket (place.word + 1)) (OfOverflow (place.bucket - z.buckets) (place.word + 1)))
 next_at z h b n place true lt at = (at.0, ap (λ w. w + 1) at.1, omega arith)
 next_at z h b n place false lt at = (at.0, at.1, (let e = at.2 in omega arith), omega arith)
@@ -48,7 +51,8 @@ pub first_at : (z : Shape) (h : List Event) (b d number : ℕ) → home_of h num
 first_at z h b d number is = subst (λ n. IsAt h b n (cell_at z (first_word z number))) (omega arith) (overflow_at z h b (d + 1) number 1 is (omega arith))
 
 -- a last word that leads nowhere ends the chain
-pub chain_ends : (z : Shape) (h : List Event) (b n d word : ℕ) → IsValid z → IsLawful z h → n ≡ 8 * d + 7 → IsWordOfContent ((bucket_after z h b).items n) word → LeadsNowhere word → (bucket_after z h b).chained ≤ d
+pub chain_ends : (z : Shape) (h : List Event) (b n d word : ℕ) → IsValid z → IsLawful z h → n ≡ 8 * d + 7
+    → IsWordOfContent ((bucket_after z h b).items n) word → LeadsNowhere word → (bucket_after z h b).chained ≤ d
 chain_ends z h b n d word v l e reads nowhere = let u = bucket_after z h b in ⊎_elim
     (λ lt.
     let j = joins z h b d l lt in
@@ -94,7 +98,9 @@ module _ (b : Board) (key : List ℕ) (first p : Pass) (place : Place) (word : �
       first_empty None e = λ m lt here. ⊎_elim (λ less. e m less here) (λ le. absurd (gap m le lt here)) (cases_lt m (n + 1))
       first_empty (Some target) e = e
 
-  on_to : (after : Place) (n' : ℕ) → IsPlace z after → IsPosition u n' → IsAt (trace p) k n' (cell_at z after) → n < n' → n' / 8 ≡ n / 8 + bool_byte (eqb after.word 1) → ((m : ℕ) → n + 1 ≤ m → m < n' → ¬ (IsPosition u m)) → IsOn after
+  on_to : (after : Place) (n' : ℕ) → IsPlace z after → IsPosition u n' → IsAt (trace p) k n' (cell_at z after)
+      → n < n' → n' / 8 ≡ n / 8 + bool_byte (eqb after.word 1) → ((m : ℕ) → n + 1 ≤ m → m < n' → ¬ (IsPosition u m))
+      → IsOn after
   on_to after n' within here at lt deep gap =
       let there : position z (trace p) after ≡ n' = position_at z (trace p) k n' after at in
       let below = none_between n' gap in (
@@ -111,13 +117,18 @@ module _ (b : Board) (key : List ℕ) (first p : Pass) (place : Place) (word : �
   inner : place.word < 7 → IsOn (next_word place)
   inner lt = let d = depth in let t = passed.chain.in_table in let here = passed.chain.at.0 in
       on_to (next_word place) (n + 1) (t.0, omega arith, omega (arith, lt)) (omega (arith, here.0, d.1, lt), (let e : n + 1 ≡ 8 * d.0 + (place.word + 1) = omega (arith, d.1) in omega (arith, e, lt)))
-      (next_at z (trace p) k n place (ltb place.bucket z.buckets) lt passed.chain.at.1) (omega arith) (subst (λ t. (n + 1) / 8 ≡ n / 8 + bool_byte t) (sym (ne_eqb (place.word + 1) 1 (λ e. omega (arith, e, t.1)))) (omega (arith, d.1, lt))) (λ m le less here'. omega (arith, le, less))
+      (next_at z (trace p) k n place (ltb place.bucket z.buckets) lt passed.chain.at.1) (omega arith)
+          (subst (λ t. (n + 1) / 8 ≡ n / 8 + bool_byte t)
+          (sym (ne_eqb (place.word + 1) 1 (λ e. omega (arith, e, t.1)))) (omega (arith, d.1, lt)))
+          (λ m le less here'. omega (arith, le, less))
 
   leads : (after : Place) → LeadsTo z word after → IsOn after
   leads after to =
       let on = leads_to z (trace p) k n word to.0 (u.items n) is.lawful ((chain_of z (trace p) is.lawful k).contents n) reads to.1 to.2 in
       let in_table = home_in z (trace p) to.0 (home k (on.0 + 1)) is.lawful on.3 in
-      subst IsOn (sym to.3) (on_to (first_word z to.0) (8 * on.0 + 9) (omega (arith, in_table), omega arith, omega arith) (omega (arith, on.1), omega arith) (first_at z (trace p) k on.0 to.0 on.3) (omega (arith, on.2)) (omega (arith, on.2))
+      subst IsOn (sym to.3) (on_to (first_word z to.0) (8 * on.0 + 9) (omega (arith, in_table), omega arith,
+          omega arith) (omega (arith, on.1), omega arith) (first_at z (trace p) k on.0 to.0 on.3)
+          (omega (arith, on.2)) (omega (arith, on.2))
       (λ m le less here'. let x = here'.1 in omega (arith, on.2, le, less, x)))
 
   pub onward : (following : Option Place) (after : Place) → IsNext z place word following → following ≡ Some after → IsOn after
@@ -145,9 +156,12 @@ module _ (b : Board) (key : List ℕ) (first p : Pass) (place : Place) (word : �
   pub last_item : ((m : ℕ) → m < n + 1 → IsPosition u m → u.items m ≢ nothing) → n ≡ last u → (named : Slot) × (u.items (last u) ≡ item named) × IsWordOf named word
   last_item none ends =
       let lt : last u < n + 1 = omega (arith, ends) in
-      item_of (u.items (last u)) refl (subst (λ m. IsWordOfContent (u.items m) word) ends reads) ((chain_of z (trace p) is.lawful k).contents (last u)) (none (last u) lt (subst (IsPosition u) ends passed.chain.at.0))
+      item_of (u.items (last u)) refl (subst (λ m. IsWordOfContent (u.items m) word) ends reads)
+          ((chain_of z (trace p) is.lawful k).contents (last u))
+          (none (last u) lt (subst (IsPosition u) ends passed.chain.at.0))
     where
-      item_of : (x : Content) → u.items (last u) ≡ x → IsWordOfContent x word → IsContent (trace p) k u (last u) x → x ≢ nothing → (named : Slot) × (u.items (last u) ≡ item named) × IsWordOf named word
+      item_of : (x : Content) → u.items (last u) ≡ x → IsWordOfContent x word → IsContent (trace p) k u (last u) x
+          → x ≢ nothing → (named : Slot) × (u.items (last u) ≡ item named) × IsWordOf named word
       item_of nothing here read at some = absurd (some refl)
       item_of (item a) here read at some = (a, here, read.0)
       item_of (next m) here read at some = absurd (omega (arith, at.1, at.2))

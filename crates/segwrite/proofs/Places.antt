@@ -60,7 +60,8 @@ module _ (b : Board) (own : List Event) (p q : Pass) (bucket : ℕ) (place : Pla
   chain_later = record { in_table = chain.in_table; at = subst (λ k. IsItemAt b.shape (trace q) bucket k (cell_at b.shape place)) (sym same_position) still_there }
 
 -- a word of an overflow bucket is at that depth of the chain for which the bucket was drawn
-pub overflow_at : (z : Shape) (h : List Event) (b depth number w : ℕ) → home_of h number ≡ Some (home b depth) → w < 8 → IsAt h b (8 * depth + w) (cell_at z (record { bucket = z.buckets + number; word = w }))
+pub overflow_at : (z : Shape) (h : List Event) (b depth number w : ℕ) → home_of h number ≡ Some (home b depth)
+    → w < 8 → IsAt h b (8 * depth + w) (cell_at z (record { bucket = z.buckets + number; word = w }))
 overflow_at z h b depth number w is lt =
     let low : ltb (z.buckets + number) z.buckets ≡ false = le-ltb (z.buckets + number) z.buckets (omega arith) in
     let off : z.buckets + number - z.buckets ≡ number = omega arith in

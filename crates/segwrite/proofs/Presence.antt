@@ -93,7 +93,9 @@ module _ (b : Board) (key : List ℕ) (target : Target) (p : Pass) (is : IsPassO
     }
 
     -- with e in the segment, and l after it left
-    module _ (e l : Pass) (bit : HasBit z (trace p) (number p) (bucket_of z key)) (comes : Enters b p e item.seg) (deadline : ℕ) (told : deadline ≡ (after z (seen e)).deadline item.seg) (gone : LeavesSegment b e l item.seg) where
+    module _ (e l : Pass) (bit : HasBit z (trace p) (number p) (bucket_of z key)) (comes : Enters b p e item.seg)
+        (deadline : ℕ) (told : deadline ≡ (after z (seen e)).deadline item.seg)
+        (gone : LeavesSegment b e l item.seg) where
       at_e : IsSameAt z (after z (seen p)) (after z (seen e)) key
       at_e = moved_at b (Entered (number p) item.seg ∷ []) p e key comes.did.moved bit (refl, tt)
 
@@ -171,7 +173,10 @@ pub peeks_for_none : (b : Board) (request : Request) (p : Pass) → IsPassOf b p
 peeks_for_none b request p is = let i = idles b p is in record { peeks = record { into = None; moved = i.moved; came = tt; plain = i.plain; memo = i.memo }; none = λ set. refl }
 
 pub peeks_then : (b : Board) (key : List ℕ) (p q r : Pass) → Peeks b key p q → Idles b q r → Peeks b key p r
-peeks_then b key p q r x i = record { into = x.into; moved = moved_then b (peek (number p) x.into) [] p q r x.moved i.moved; came = came_wider b.shape key (number p) (number p) x.into (trace p) (trace p) (trace q) (trace r) refl ([], refl) (moved_on b [] q r i.moved) x.came; plain = i.plain ∙ x.plain; memo = i.memo ∙ x.memo }
+peeks_then b key p q r x i = record { into = x.into;
+    moved = moved_then b (peek (number p) x.into) [] p q r x.moved i.moved;
+    came = came_wider b.shape key (number p) (number p) x.into (trace p) (trace p) (trace q) (trace r) refl ([],
+    refl) (moved_on b [] q r i.moved) x.came; plain = i.plain ∙ x.plain; memo = i.memo ∙ x.memo }
 
 -- they are of no bucket
 pub peek_nowhere : (z : Shape) (bucket n : ℕ) (into : Option ℕ) → NoneAt z bucket (peek n into)
@@ -187,7 +192,9 @@ clean_still b own bucket p q clean m none = let same = moved_bucket b own p q bu
 pub peeks_after : (b : Board) (key : List ℕ) (p f g : Pass) → Idles b p f → Peeks b key f g → Peeks b key p g
 peeks_after b key p f g i x = record {
   into = x.into;
-  moved = subst (λ n. AddsEvents b (peek n x.into) p g) i.moved.same (subst (λ es. AddsEvents b es p g) (append-nil (peek (number f) x.into)) (moved_then b [] (peek (number f) x.into) p f g i.moved x.moved));
+  moved = subst (λ n. AddsEvents b (peek n x.into) p g) i.moved.same
+      (subst (λ es. AddsEvents b es p g) (append-nil (peek (number f) x.into))
+      (moved_then b [] (peek (number f) x.into) p f g i.moved x.moved));
   came = came_wider b.shape key (number f) (number p) x.into (trace p) (trace f) (trace g) (trace g) i.moved.same (moved_on b [] p f i.moved) ([], refl) x.came;
   plain = x.plain ∙ i.plain;
   memo = x.memo ∙ i.memo;
@@ -209,7 +216,9 @@ module _ (b : Board) (bucket : ℕ) (p q f : Pass) (quiet : IsQuiet b p) (took :
   may_enter segment =
       let at_most : (held : Bool) → (let n : ℕ = cond held 1 0 in n) < 2 = λ held. elim held as (λ h. (let n : ℕ = cond h 1 0 in n) < 2) [ true ↦ omega arith | false ↦ omega arith ] in
       subst (λ n. inside (trace f) n segment < 2) (sym taken_moved.same)
-      (subst (λ n. n < 2) (sym (moved_inside b taking p f segment taken_moved ∙ (still_inside taking (trace p) (number p) segment (tt, bounces_still (number p) bucket took.takes.0) ∙ quiet.inside segment)))
+      (subst (λ n. n < 2) (sym (moved_inside b taking p f segment taken_moved
+          ∙ (still_inside taking (trace p) (number p) segment (tt, bounces_still (number p) bucket took.takes.0)
+          ∙ quiet.inside segment)))
       (at_most (is_held_in (holding p) segment)))
 
   -- the write goes on from there
@@ -226,7 +235,8 @@ module _ (b : Board) (bucket : ℕ) (p q f : Pass) (quiet : IsQuiet b p) (took :
 
 -- ---- what they cost
 
-pub enters_for : (shape : Shape) (key : List ℕ) (into : Option ℕ) (p q : Pass) → PeeksInto into p q → IfSome into (λ segment. CameIn shape key (number p) segment (trace p) (trace q)) → EntersForKey shape key p q
+pub enters_for : (shape : Shape) (key : List ℕ) (into : Option ℕ) (p q : Pass) → PeeksInto into p q
+    → IfSome into (λ segment. CameIn shape key (number p) segment (trace p) (trace q)) → EntersForKey shape key p q
 enters_for shape key None p q x came = record { raises_nothing = x.raised; glanced = x.glanced; entered = inl (let e = x.entered in omega (arith, e)) }
 enters_for shape key (Some segment) p q x came = record { raises_nothing = x.raised; glanced = x.glanced; entered = inr (x.entered, (segment, came)) }
 
@@ -236,4 +246,6 @@ unread_if into p q none x = unread p q (subst (λ o. PeeksInto o p q) none x)
 
 -- a call that reads nothing comes into none
 pub enters_none : (shape : Shape) (key : List ℕ) (p q : Pass) → ReadsNothing p q → EntersForKey shape key p q
-enters_none shape key p q none = record { raises_nothing = ap (λ (x : ℕ × ℕ × (ℕ → ℕ)). x.0) none; glanced = λ bucket. ap (λ (x : ℕ × ℕ × (ℕ → ℕ)). x.2 bucket) none; entered = inl (ap (λ (x : ℕ × ℕ × (ℕ → ℕ)). x.1) none) }
+enters_none shape key p q none = record { raises_nothing = ap (λ (x : ℕ × ℕ × (ℕ → ℕ)). x.0) none;
+    glanced = λ bucket. ap (λ (x : ℕ × ℕ × (ℕ → ℕ)). x.2 bucket) none;
+    entered = inl (ap (λ (x : ℕ × ℕ × (ℕ → ℕ)). x.1) none) }

@@ -83,13 +83,17 @@ unwritten_is z h bucket few l none =
     let x : word z h (OfBucket bucket 0) / 2 ^ 32 ≡ (z.first_version + (bucket_after z h bucket).version) % 2 ^ 32 = omega arith in
     sym x ∙ unwritten_version z h bucket few l none
 
-pub told_by_look : (b : Board) (request : Request) (expected now version bucket : ℕ) (p q : Pass) → b.shape.first_version < 2 ^ 32 → IsPassOf b p → HasCleanBit b p bucket → bucket ≡ bucket_of b.shape (key_of request)
+pub told_by_look : (b : Board) (request : Request) (expected now version bucket : ℕ) (p q : Pass)
+    → b.shape.first_version < 2 ^ 32 → IsPassOf b p → HasCleanBit b p bucket
+    → bucket ≡ bucket_of b.shape (key_of request)
     → is_some (present (after b.shape (seen p)) now (key_of request)) ≡ true → request ≡ request_of (when.Unchanged expected) (key_of request) (value_of request) now → Idles b p q
     → version ≡ (b.shape.first_version + (bucket_after b.shape (trace p) bucket).version) % 2 ^ 32 → IsToldBy (reply_now b q request) (then_some (not (eqb version expected)) write.Exists)
 told_by_look b request expected now version bucket p q few is clean home there asked idles read =
     let z = b.shape in let k = bucket_of z (key_of request) in
     let same = moved_at b [] p q (key_of request) idles.moved (subst (λ n. HasBit z (trace p) (number p) n) home clean.bit) tt in
-    let read_now : (after z (seen q)).version k ≡ version = same.version ∙ (ap (after z (seen p)).version (sym home) ∙ (sym (unwritten_is z (trace p) bucket few is.lawful clean.unwritten) ∙ sym read)) in
+    let read_now : (after z (seen q)).version k ≡ version = same.version
+        ∙ (ap (after z (seen p)).version (sym home)
+        ∙ (sym (unwritten_is z (trace p) bucket few is.lawful clean.unwritten) ∙ sym read)) in
     subst (λ n. IsToldBy (reply_now b q request) (then_some (not (eqb n expected)) write.Exists)) read_now
     (told_by_version request expected now ((after z (seen q)).version k) (is_some (present (after z (seen q)) (moment_of request) (key_of request))) asked
     (ap is_some (same.finds (moment_of request)) ∙ (ap (λ m. is_some (present (after z (seen p)) m (key_of request))) (ap moment_of asked) ∙ there)))
@@ -99,7 +103,9 @@ told_by_look b request expected now version bucket p q few is clean home there a
 refusal_entry : (z : Shape) (request : Request) (said : Reply) → IsEntry z (bucket_of z (key_of request)) (λ pass. Replied pass request said) (λ pass. Wrote pass request said None)
 refusal_entry z request said = record { at = λ pass. refl; adds = λ pass. refl; of = λ pass. refl; still = λ pass. tt; calm = λ pass. tt; undrawn = λ pass. tt; untried = λ pass. tt }
 
-module _ (b : Board) (request : Request) (said : Reply) (p q f s : Pass) (quiet : IsQuiet b p) {into : Option ℕ} (took : HasBegun b (bucket_of b.shape (key_of request)) into p q) (idles : Idles b q f) (refuses : RefusesUnderBit b request said f s) where
+module _ (b : Board) (request : Request) (said : Reply) (p q f s : Pass) (quiet : IsQuiet b p) {into : Option ℕ}
+    (took : HasBegun b (bucket_of b.shape (key_of request)) into p q) (idles : Idles b q f)
+    (refuses : RefusesUnderBit b request said f s) where
   abbrev home : ℕ
   home = bucket_of b.shape (key_of request)
 

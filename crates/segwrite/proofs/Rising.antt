@@ -14,7 +14,9 @@ use Rattle.segwrite.specs.Writing.{IsInChain, IsEarlier}
 use Rattle.segstore.proofs.UnderBit.{unchanged, moved_none, moved_bucket}
 use Rattle.segwrite.proofs.Places.{same_position, chain_later}
 
-rise : (z : Shape) (more h : List Event) (b n : ℕ) (a : Slot) → IsLawful z (more ++ h) → NoneAt z b more → (bucket_after z h b).items n ≡ item a → frequency_of h a.segment a.row ≤ frequency_of (more ++ h) a.segment a.row
+rise : (z : Shape) (more h : List Event) (b n : ℕ) (a : Slot) → IsLawful z (more ++ h) → NoneAt z b more
+    → (bucket_after z h b).items n ≡ item a → frequency_of h a.segment a.row ≤ frequency_of (more ++ h) a.segment
+    a.row
 rise z [] h b n a l none here = omega arith
 rise z (e ∷ more) h b n a l none here =
     let before = rise z more h b n a l.0 none.1 here in
@@ -28,7 +30,9 @@ rose t f g s r some lf lg ls lr le =
     ((subst (λ x. 1 ≤ x) (sym one) some, one ∙ sym two, place_of_word t f s r ls lr ∙ sym (place_of_word t g s r ls lr)), omega (arith, le))
 
 -- the words of an item at two moments, whose frequency didn't fall
-pub item_rose : (z : Shape) (h g : List Event) (b n : ℕ) (cell : Cell) (a : Slot) → IsValid z → IsLawful z h → IsLawful z g → IsItemAt z h b n cell → IsItemAt z g b n cell → (bucket_after z h b).items n ≡ item a → (bucket_after z g b).items n ≡ item a
+pub item_rose : (z : Shape) (h g : List Event) (b n : ℕ) (cell : Cell) (a : Slot) → IsValid z → IsLawful z h
+    → IsLawful z g → IsItemAt z h b n cell → IsItemAt z g b n cell → (bucket_after z h b).items n ≡ item a
+    → (bucket_after z g b).items n ≡ item a
     → frequency_of h a.segment a.row ≤ frequency_of g a.segment a.row → IsSameItem (word z h cell) (word z g cell) × (word z h cell ≤ word z g cell)
 item_rose z h g b n cell a v l l' before after here there up =
     let stands = (coherent z h l).items b n a here in
@@ -36,13 +40,17 @@ item_rose z h g b n cell a v l l' before after here there up =
     let now : word z g cell ≡ packed (tag_of a.key) (frequency_of g a.segment a.row) a.segment a.row = content_at z g b n cell after ∙ ap (content_word g) there in
     let two = rose (tag_of a.key) (frequency_of h a.segment a.row) (frequency_of g a.segment a.row) a.segment a.row (some_tag a.key)
     (low_frequency z h a.segment a.row l) (low_frequency z g a.segment a.row l') (low_segment z a.segment v stands.within.0) (low_row z a.row v stands.within.1) up in
-    subst (λ x. IsSameItem x (word z g cell) × (x ≤ word z g cell)) (sym was) (subst (λ y. IsSameItem (packed (tag_of a.key) (frequency_of h a.segment a.row) a.segment a.row) y × (packed (tag_of a.key) (frequency_of h a.segment a.row) a.segment a.row ≤ y)) (sym now) two)
+    subst (λ x. IsSameItem x (word z g cell) × (x ≤ word z g cell)) (sym was)
+        (subst (λ y. IsSameItem (packed (tag_of a.key) (frequency_of h a.segment a.row) a.segment a.row) y
+        × (packed (tag_of a.key) (frequency_of h a.segment a.row) a.segment a.row ≤ y)) (sym now) two)
 
 -- an earlier word of an item is one that it had also where its word rose since
 pub earlier_yet : (old before now : ℕ) → IsSameItem old before → old ≤ before → IsSameItem before now × (before ≤ now) → IsSameItem old now × (old ≤ now)
 earlier_yet old before now s le w = ((s.0, s.1 ∙ w.0.1, s.2 ∙ w.0.2), (let le' = w.1 in omega (arith, le, le')))
 
-module _ (b : Board) (own : List Event) (p q : Pass) (bucket : ℕ) (place : Place) (m : AddsEvents b own p q) (bit : HasBit b.shape (trace p) (number p) bucket) (none : NoneAt b.shape bucket own) (chain : IsInChain b bucket place p) where
+module _ (b : Board) (own : List Event) (p q : Pass) (bucket : ℕ) (place : Place) (m : AddsEvents b own p q)
+    (bit : HasBit b.shape (trace p) (number p) bucket) (none : NoneAt b.shape bucket own)
+    (chain : IsInChain b bucket place p) where
   abbrev cell : Cell
   cell = cell_at b.shape place
 

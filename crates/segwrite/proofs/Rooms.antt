@@ -28,7 +28,9 @@ use Rattle.segstore.proofs.UnderBit.{moved_bucket, moved_at}
 
 -- ---- what a search came to is so after more looks
 
-last_still : (b : Board) (own : List Event) (bucket : ℕ) (place : Place) (word : ℕ) (p q : Pass) → IsPassOf b p → HasBit b.shape (trace p) (number p) bucket → AddsEvents b own p q → NoneAt b.shape bucket own → IsLast b bucket place word p → IsLast b bucket place word q
+last_still : (b : Board) (own : List Event) (bucket : ℕ) (place : Place) (word : ℕ) (p q : Pass) → IsPassOf b p
+    → HasBit b.shape (trace p) (number p) bucket → AddsEvents b own p q → NoneAt b.shape bucket own
+    → IsLast b bucket place word p → IsLast b bucket place word q
 last_still b own bucket place word p q is bit m none l =
     let same = moved_bucket b own p q bucket m bit none in
     let end : last (bucket_seen b bucket q) ≡ last (bucket_seen b bucket p) = ap (λ (u : Bucket). last u) same in
@@ -42,7 +44,9 @@ last_still b own bucket place word p q is bit m none l =
     }
 
 -- the pass may have done something, none of it in the bucket
-pub searches_still : (b : Board) (own : List Event) (key : List ℕ) (found : Found) (p q : Pass) → IsPassOf b p → HasBit b.shape (trace p) (number p) (bucket_of b.shape key) → AddsEvents b own p q → NoneAt b.shape (bucket_of b.shape key) own
+pub searches_still : (b : Board) (own : List Event) (key : List ℕ) (found : Found) (p q : Pass) → IsPassOf b p
+    → HasBit b.shape (trace p) (number p) (bucket_of b.shape key) → AddsEvents b own p q
+    → NoneAt b.shape (bucket_of b.shape key) own
     → Searches b key found p → Searches b key found q
 searches_still b own key (Word target) p q is bit m none found = target_later b own p q key m is bit none target found
 searches_still b own key (Full end) p q is bit m none found =
@@ -84,7 +88,9 @@ pub record IsReady (b : Board) (bucket : ℕ) (own : List Event) (p q : Pass) : 
 pub ready_idle : (b : Board) (bucket : ℕ) (p q : Pass) → Idles b p q → HasCleanBit b q bucket → IsReady b bucket [] p q
 ready_idle b bucket p q i clean = record { moved = i.moved; plain = i.plain; memo = i.memo; clean = clean; elsewhere = λ other apart. tt; still = tt; calm = tt; untried = tt; silent = λ h. refl }
 
-pub ready_longer : (b : Board) (bucket : ℕ) (target : Target) (p q r : Pass) → Idles b p q → (l : Lengthens b bucket target q r) → IsReady b bucket (lengthens (number q) bucket l.depth l.overflow l.words) p r
+pub ready_longer : (b : Board) (bucket : ℕ) (target : Target) (p q r : Pass) → Idles b p q
+    → (l : Lengthens b bucket target q r) → IsReady b bucket
+    (lengthens (number q) bucket l.depth l.overflow l.words) p r
 ready_longer b bucket target p q r i l =
     let n = number q in let draws : List Event = Drew n bucket l.depth l.overflow ∷ [] in let own = lengthens n bucket l.depth l.overflow l.words in record {
       moved = subst (λ es. AddsEvents b es p r) (append-nil own) (moved_then b [] own p q r i.moved l.prepares.moved);
@@ -152,7 +158,9 @@ module _ (b : Board) (key : List ℕ) (p q r : Pass) (i : Idles b p q) (is : IsP
       full m = (m.0, m.1, (searches_still b [] key (Full end) q r is clean.bit m.0.moved tt found).0)
 
   -- how many steps the room took: none, or those of a chain that grew in need
-  pub room_steps : (found : Found) (room : Option Target) (target : Target) → room ≡ Some target → Searches b key found q → MakesRoom b k found room q r → TakesAtMost (most_steps_of_room b.shape found room) q r
+  pub room_steps : (found : Found) (room : Option Target) (target : Target) → room ≡ Some target
+      → Searches b key found q → MakesRoom b k found room q r
+      → TakesAtMost (most_steps_of_room b.shape found room) q r
       → TakesAtMost 0 q r ⊎ (TakesAtMost (most_steps_of_growth b.shape) q r × DrewInNeed b.shape key (number q) (trace q) (trace r))
   room_steps (Word word) room target given found makes steps = inl steps
   room_steps (Full end) room target given found makes steps = inr (
@@ -163,6 +171,7 @@ module _ (b : Board) (key : List ℕ) (p q r : Pass) (i : Idles b p q) (is : IsP
       needed : Lengthens b k target q r → DrewInNeed b.shape key (number q) (trace q) (trace r)
       needed l = l.could key refl found.0.absent
 
-  pub unroomed_steps : (found : Found) (room : Option Target) → room ≡ None → MakesRoom b k found room q r → TakesAtMost (most_steps_of_room b.shape found room) q r → TakesAtMost (most_steps_of_draw b.shape) q r
+  pub unroomed_steps : (found : Found) (room : Option Target) → room ≡ None → MakesRoom b k found room q r
+      → TakesAtMost (most_steps_of_room b.shape found room) q r → TakesAtMost (most_steps_of_draw b.shape) q r
   unroomed_steps (Word word) room none makes steps = absurd (none-some word (sym none ∙ makes.0))
   unroomed_steps (Full end) room none makes steps = subst (λ o. TakesAtMost (most_steps_of_room b.shape (Full end) o) q r) none steps

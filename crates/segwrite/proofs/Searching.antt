@@ -49,12 +49,16 @@ pub record Passed (b : Board) (key : List ℕ) (first p : Pass) (place : Place) 
 pub begins_at : (b : Board) (p : Pass) (bucket : ℕ) → bucket < b.shape.buckets → IsInChain b bucket (record { bucket = bucket; word = 1 }) p
 begins_at b p bucket lt =
     let z = b.shape in let place : Place = record { bucket = bucket; word = 1 } in
-    let at : IsAt (trace p) bucket 1 (cell_at z place) = subst (IsAt (trace p) bucket 1) (sym (cond-true (ltb bucket z.buckets) (OfBucket bucket 1) (OfOverflow (bucket - z.buckets) 1) (lt-ltb bucket z.buckets lt))) (refl, refl, (let s : 1 < 8 = omega arith in s)) in record {
+    let at : IsAt (trace p) bucket 1 (cell_at z place) =
+        subst (IsAt (trace p) bucket 1) (sym (cond-true (ltb bucket z.buckets) (OfBucket bucket 1)
+        (OfOverflow (bucket - z.buckets) 1) (lt-ltb bucket z.buckets lt))) (refl, refl,
+        (let s : 1 < 8 = omega arith in s)) in record {
       in_table = (omega (arith, lt), omega arith, omega arith);
       at = subst (λ n. IsItemAt z (trace p) bucket n (cell_at z place)) (sym (position_at z (trace p) bucket 1 place at)) ((omega arith, omega arith), at);
     }
 
-pub searching_first : (b : Board) (key : List ℕ) (p : Pass) (bucket : ℕ) → bucket ≡ bucket_of b.shape key → IsPassOf b p → bucket < b.shape.buckets → Searching b key p p (record { bucket = bucket; word = 1 }) None
+pub searching_first : (b : Board) (key : List ℕ) (p : Pass) (bucket : ℕ) → bucket ≡ bucket_of b.shape key
+    → IsPassOf b p → bucket < b.shape.buckets → Searching b key p p (record { bucket = bucket; word = 1 }) None
 searching_first b key p bucket of is lt =
     let z = b.shape in let place : Place = record { bucket = bucket; word = 1 } in
     let chain = begins_at b p bucket lt in
@@ -118,7 +122,9 @@ read_empty (item a) word reads none = let tag = reads.1 in absurd (omega (arith,
 read_empty (next m) word reads none = absurd (omega (arith, reads, none))
 read_empty (copy w) word reads none = absurd reads
 
-module _ (b : Board) (key : List ℕ) (first p : Pass) (place : Place) (word : ℕ) (reads : IsWordOfContent ((bucket_after b.shape (trace p) (bucket_of b.shape key)).items (position b.shape (trace p) place)) word) where
+module _ (b : Board) (key : List ℕ) (first p : Pass) (place : Place) (word : ℕ)
+    (reads : IsWordOfContent ((bucket_after b.shape (trace p) (bucket_of b.shape key)).items
+    (position b.shape (trace p) place)) word) where
   abbrev u : Bucket
   u = bucket_after b.shape (trace p) (bucket_of b.shape key)
 

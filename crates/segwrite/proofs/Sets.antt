@@ -39,7 +39,8 @@ use Rattle.segstore.proofs.TakenBits.{both_no_tries}
 use Rattle.segwrite.proofs.FirstEmpty.{first_wider, took_marked}
 use Rattle.segwrite.proofs.Filling.{fills_nowhere, fills_still, fills_undrawn, fills_untried, fills_seen}
 use Rattle.segstore.proofs.UnderBit.{moved_bucket, moved_bit}
-use Rattle.segstore.proofs.UnderWrite.{HasBegun, took_has, took_moved, took_clean, took_keeps, tries, tries_undrawn, write_goes_on, write_adds, write_drew, write_undrawn, write_peeking, write_takes, still_both}
+use Rattle.segstore.proofs.UnderWrite.{HasBegun, took_has, took_moved, took_clean, took_keeps, tries, tries_undrawn,
+    write_goes_on, write_adds, write_drew, write_undrawn, write_peeking, write_takes, still_both}
 
 -- ---- after the search
 
@@ -67,8 +68,12 @@ is_full b key f is clean none why =
       last = ⊎_elim (λ longest. inl (omega (arith, long, longest))) (λ all. inr (count ∙ all)) why;
     }
 
-module _ (b : Board) (key : List ℕ) (p q f s : Pass) (quiet : IsQuiet b p) {into : Option ℕ} (took : HasBegun b (bucket_of b.shape key) into p q) (idles : Idles b q f) (none : HasFullChain b key f) (why : CannotGrow b (bucket_of b.shape key) f)
-    (freed : AddsAtOnce b (Freed (number f) (bucket_of b.shape key) false ∷ []) f s) (free : (bucket_after b.shape (trace s) (bucket_of b.shape key)).holder ≡ None) (plain : s.plain ≡ f.plain) (same : memo s ≡ memo f) where
+module _ (b : Board) (key : List ℕ) (p q f s : Pass) (quiet : IsQuiet b p) {into : Option ℕ}
+    (took : HasBegun b (bucket_of b.shape key) into p q) (idles : Idles b q f) (none : HasFullChain b key f)
+    (why : CannotGrow b (bucket_of b.shape key) f)
+    (freed : AddsAtOnce b (Freed (number f) (bucket_of b.shape key) false ∷ []) f s)
+        (free : (bucket_after b.shape (trace s) (bucket_of b.shape key)).holder ≡ None) (plain : s.plain ≡ f.plain)
+        (same : memo s ≡ memo f) where
   abbrev k : ℕ
   k = bucket_of b.shape key
 
@@ -121,9 +126,13 @@ uses_around segment p f r s u before behind m n = record {
   memo = n ∙ (u.memo ∙ m);
 }
 
-module _ (b : Board) (request : Request) (segment row : ℕ) (p q f r s : Pass) (quiet : IsQuiet b p) {into : Option ℕ} (took : HasBegun b (bucket_of b.shape (key_of request)) into p q) (before : List Event) (ready : IsReady b (bucket_of b.shape (key_of request)) before q f)
+module _ (b : Board) (request : Request) (segment row : ℕ) (p q f r s : Pass) (quiet : IsQuiet b p)
+    {into : Option ℕ} (took : HasBegun b (bucket_of b.shape (key_of request)) into p q) (before : List Event)
+    (ready : IsReady b (bucket_of b.shape (key_of request)) before q f)
     (done : StoresUnderBit b request segment row f r) (keeps : KeepsSegments b r) (uses : UsesRow segment f r)
-    (freed : AddsAtOnce b (Freed (number r) (bucket_of b.shape (key_of request)) true ∷ []) r s) (free : (bucket_after b.shape (trace s) (bucket_of b.shape (key_of request))).holder ≡ None) (plain : s.plain ≡ r.plain) (same : memo s ≡ memo r) where
+    (freed : AddsAtOnce b (Freed (number r) (bucket_of b.shape (key_of request)) true ∷ []) r s)
+        (free : (bucket_after b.shape (trace s) (bucket_of b.shape (key_of request))).holder ≡ None)
+        (plain : s.plain ≡ r.plain) (same : memo s ≡ memo r) where
   abbrev home : ℕ
   home = bucket_of b.shape (key_of request)
 
@@ -140,7 +149,9 @@ module _ (b : Board) (request : Request) (segment row : ℕ) (p q f r s : Pass) 
   moved = moved_then b before (stores (number f) request segment row done.0 done.1) q f r ready.moved done.2
 
   elsewhere : (other : ℕ) → home ≢ other → NoneAt b.shape other own
-  elsewhere other apart = (ne_eqb home other apart, none_at_both b.shape other (fills (number f) segment row words done.1) before (fills_nowhere b.shape other (number f) segment row words done.1) (ready.elsewhere other apart))
+  elsewhere other apart = (ne_eqb home other apart,
+      none_at_both b.shape other (fills (number f) segment row words done.1) before
+      (fills_nowhere b.shape other (number f) segment row words done.1) (ready.elsewhere other apart))
 
   still : AreStill own
   still = (tt, still_both (fills (number f) segment row words done.1) before (fills_still (number f) segment row words done.1) ready.still)
@@ -153,7 +164,9 @@ module _ (b : Board) (request : Request) (segment row : ℕ) (p q f r s : Pass) 
 
   pub stored_goes_on : GoesOn b p s
   stored_goes_on = write_goes_on b home p q quiet took r s own (entry ∷ []) true moved elsewhere still adds freed free
-      uses_all.memo (ap (λ (x : PlainPart). x.locked) uses_all.plain) (ap (λ (x : PlainPart). x.is_holding) uses_all.plain) (keeps_plain b (Freed (number r) home true ∷ []) r s freed.moved (tt, tt) plain keeps)
+      uses_all.memo (ap (λ (x : PlainPart). x.locked) uses_all.plain)
+          (ap (λ (x : PlainPart). x.is_holding) uses_all.plain)
+          (keeps_plain b (Freed (number r) home true ∷ []) r s freed.moved (tt, tt) plain keeps)
 
   pub stored_answer : AddsEntry (Wrote (number p) request Stored (Some segment)) p s × UsesRow segment p s
   stored_answer =
@@ -164,8 +177,12 @@ module _ (b : Board) (request : Request) (segment row : ℕ) (p q f r s : Pass) 
       )
 
   pub stored_first : TookFirstEmpty b.shape request (number p) (passes.marked p) (passes.marked s)
-  stored_first = took_marked b.shape request (number p) (trace p) (trace s) freed.moved.pass.lawful (first_wider b.shape request (number f) (number p) (trace f) (trace r) (trace p) (trace s) (ready.moved.same ∙ (took_moved b home p q quiet took).same)
-      (begins_on (trace p) (trace q) (trace f) (moved_on b (tries b home p q quiet took) p q (took_moved b home p q quiet took)) (moved_on b before q f ready.moved)) (moved_on b (Freed (number r) home true ∷ []) r s freed.moved) done.3)
+  stored_first = took_marked b.shape request (number p) (trace p) (trace s) freed.moved.pass.lawful
+      (first_wider b.shape request (number f) (number p) (trace f) (trace r) (trace p) (trace s) (ready.moved.same
+      ∙ (took_moved b home p q quiet took).same)
+      (begins_on (trace p) (trace q) (trace f) (moved_on b (tries b home p q quiet took) p q
+          (took_moved b home p q quiet took)) (moved_on b before q f ready.moved))
+          (moved_on b (Freed (number r) home true ∷ []) r s freed.moved) done.3)
 
   pub stored_peeking : PeeksInto into p s
   stored_peeking = write_peeking b home p q quiet took r s own (entry ∷ []) true moved elsewhere still adds freed free
@@ -175,7 +192,8 @@ module _ (b : Board) (request : Request) (segment row : ℕ) (p q f r s : Pass) 
       (tt, both_no_tries (fills (number f) segment row words done.1) before (fills_untried (number f) segment row words done.1) ready.untried)
 
   -- what was drawn was drawn to make room
-  module _ (old : List Entry) (draws : DrawsOnce b.shape (key_of request) (number p) before old (trace q) (trace f)) (adds_new : standing (after b.shape old) (key_of request) ≡ None → adds_key request false ≡ true) where
+  module _ (old : List Entry) (draws : DrawsOnce b.shape (key_of request) (number p) before old (trace q) (trace f))
+      (adds_new : standing (after b.shape old) (key_of request) ≡ None → adds_key request false ≡ true) where
     abbrev since : List Event
     since = tries b home p q quiet took ++ trace p
 

@@ -71,21 +71,27 @@ joined_few first word p q r t two = let few = retried_few first word t.tries t.r
 
 -- ---- a whole write: p, where it began; q, with the bit; f, after the search; g, after the look; r, with room; t, stored; s, with the bit given back
 
-module _ (request : Request) (p q f g : Pass) (takes : TakesAtMost most_tries_for_bit p q) (searches : TakesAtMost most_steps_of_search q f) (looks : TakesAtMost (most_steps_to_tell request) f g) where
+module _ (request : Request) (p q f g : Pass) (takes : TakesAtMost most_tries_for_bit p q)
+    (searches : TakesAtMost most_steps_of_search q f) (looks : TakesAtMost (most_steps_to_tell request) f g) where
   pub refused_steps : (s : Pass) → TakesAtMost 1 g s → TakesAtMost (most_steps_of_refusal request) p s
   refused_steps s gives = omega (arith, takes, searches, looks, gives)
 
-  pub full_steps : (shape : Shape) (r s : Pass) → TakesAtMost (most_steps_of_draw shape) g r → step_count s ≡ step_count r + 1 → TakesAtMost (most_steps_of_refusal request + most_steps_of_draw shape) p s
+  pub full_steps : (shape : Shape) (r s : Pass) → TakesAtMost (most_steps_of_draw shape) g r
+      → step_count s ≡ step_count r + 1 → TakesAtMost (most_steps_of_refusal request + most_steps_of_draw shape) p s
   full_steps shape r s draws gives = omega (arith, takes, searches, looks, draws, gives)
 
   pub stored_steps : (r t s : Pass) → TakesAtMost 0 g r → TakesAtMost (most_steps_of_row + most_tries_to_exchange) r t → step_count s ≡ step_count t + 1 → TakesAtMost (most_steps_of_write request) p s
   stored_steps r t s none stores gives = omega (arith, takes, searches, looks, none, stores, gives)
 
-  pub grown_steps : (shape : Shape) (r t s : Pass) → TakesAtMost (most_steps_of_growth shape) g r → TakesAtMost (most_steps_of_row + most_tries_to_exchange) r t → step_count s ≡ step_count t + 1 → TakesAtMost (most_steps_of_write request + most_steps_of_growth shape) p s
+  pub grown_steps : (shape : Shape) (r t s : Pass) → TakesAtMost (most_steps_of_growth shape) g r
+      → TakesAtMost (most_steps_of_row + most_tries_to_exchange) r t → step_count s ≡ step_count t + 1
+      → TakesAtMost (most_steps_of_write request + most_steps_of_growth shape) p s
   grown_steps shape r t s grows stores gives = omega (arith, takes, searches, looks, grows, stores, gives)
 
 -- a refusal by the cache
-pub told_steps : (shape : Shape) (request : Request) (told : WriteAnswer) (p s : Pass) → told ≢ write.Stored → told ≢ write.NoRoom → told ≢ write.BucketFull → told ≢ write.Busy → TakesAtMost (most_steps_of_refusal request) p s → WritesInSteps shape request told p s
+pub told_steps : (shape : Shape) (request : Request) (told : WriteAnswer) (p s : Pass) → told ≢ write.Stored
+    → told ≢ write.NoRoom → told ≢ write.BucketFull → told ≢ write.Busy
+    → TakesAtMost (most_steps_of_refusal request) p s → WritesInSteps shape request told p s
 told_steps shape request write.Stored p s unstored some word free steps = absurd (unstored refl)
 told_steps shape request write.NotStored p s unstored some word free steps = steps
 told_steps shape request write.Exists p s unstored some word free steps = steps

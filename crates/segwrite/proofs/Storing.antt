@@ -33,7 +33,9 @@ use Rattle.segstore.proofs.UnderBit.{moved_bucket, moved_bit, moved_at, did_acts
 
 -- ---- what stays so while the row is written
 
-module _ (b : Board) (own : List Event) (p q : Pass) (key : List ℕ) (m : AddsEvents b own p q) (is : IsPassOf b p) (bit : HasBit b.shape (trace p) (number p) (bucket_of b.shape key)) (none : NoneAt b.shape (bucket_of b.shape key) own) where
+module _ (b : Board) (own : List Event) (p q : Pass) (key : List ℕ) (m : AddsEvents b own p q) (is : IsPassOf b p)
+    (bit : HasBit b.shape (trace p) (number p) (bucket_of b.shape key))
+    (none : NoneAt b.shape (bucket_of b.shape key) own) where
   abbrev k : ℕ
   k = bucket_of b.shape key
 
@@ -45,7 +47,10 @@ module _ (b : Board) (own : List Event) (p q : Pass) (key : List ℕ) (m : AddsE
           free.0,
           (λ t. (moved_bucket b own p q k m bit none t).items (same_position b own p q k target.place m found.chain t)) ∙ free.1,
           (moved_at b own p q key m bit none).stands ∙ free.2,
-          subst (AreTakenBefore (bucket_after b.shape (trace q) k)) (sym (same_position b own p q k target.place m found.chain)) (subst (λ u. AreTakenBefore u (position b.shape (trace p) target.place)) (sym (moved_bucket b own p q k m bit none)) free.3),
+          subst (AreTakenBefore (bucket_after b.shape (trace q) k))
+              (sym (same_position b own p q k target.place m found.chain))
+              (subst (λ u. AreTakenBefore u (position b.shape (trace p) target.place))
+              (sym (moved_bucket b own p q k m bit none)) free.3),
         ))
         (λ has. inr (
           (has.0.0, (λ t. (moved_bucket b own p q k m bit none t).items (same_position b own p q k target.place m found.chain t)) ∙ has.0.1, has.0.2),
@@ -103,7 +108,8 @@ one_used segment row x used = own_alike x segment (counted (row + 1)) one_more (
     same (Some own) is = ap (λ n. Some (counted (n + 1) own)) (sym (same_Some own.used row is))
 
 module _ (b : Board) (request : Request) (target : Target) (segment row : ℕ) (p q r : Pass) (next : IsNextRow b request segment row p)
-    (places : List ℕ) (m : AddsEvents b (fills (number p) segment row (row_of (key_of request) (value_of request)) places) p q) (d : AddsAtOnce b (linked_by b request segment row target.place q ∷ []) q r) where
+    (places : List ℕ) (m : AddsEvents b (fills (number p) segment row (row_of (key_of request) (value_of request))
+        places) p q) (d : AddsAtOnce b (linked_by b request segment row target.place q ∷ []) q r) where
   abbrev at : ℕ
   at = position b.shape (trace q) target.place
 
@@ -114,13 +120,18 @@ module _ (b : Board) (request : Request) (target : Target) (segment row : ℕ) (
   pub stores_all : HasCleanBit b q (bucket_of b.shape (key_of request)) → IsTarget b (key_of request) target q → StoresUnderBit b request segment row p after_all
   stores_all clean found =
       let own = fills (number p) segment row (row_of (key_of request) (value_of request)) places in
-      let both : AddsEvents b (stores (number p) request segment row at places) p r = subst (λ n. AddsEvents b (Linked n request segment row at ∷ own) p r) m.same (moved_then b own (linked_by b request segment row target.place q ∷ []) p q r m d.moved) in
-      (at, places, moved_still b (stores (number p) request segment row at places) p r after_all.plain both (owner_counted r.plain segment (row + 1)), took_first b request target segment row own p q r after_all m m.pass clean.bit found d refl)
+      let both : AddsEvents b (stores (number p) request segment row at places) p r =
+          subst (λ n. AddsEvents b (Linked n request segment row at ∷ own) p r) m.same
+          (moved_then b own (linked_by b request segment row target.place q ∷ []) p q r m d.moved) in
+      (at, places, moved_still b (stores (number p) request segment row at places) p r after_all.plain both
+          (owner_counted r.plain segment (row + 1)),
+          took_first b request target segment row own p q r after_all m m.pass clean.bit found d refl)
 
   module _ (first : q.plain ≡ p.plain) (second : r.plain ≡ q.plain) where
     pub keeps_all : KeepsSegments b p → KeepsSegments b after_all
     keeps_all k =
-        let kq = keeps_plain b (fills (number p) segment row (row_of (key_of request) (value_of request)) places) p q m (fills_calm (number p) segment row (row_of (key_of request) (value_of request)) places) first k in
+        let kq = keeps_plain b (fills (number p) segment row (row_of (key_of request) (value_of request)) places) p
+            q m (fills_calm (number p) segment row (row_of (key_of request) (value_of request)) places) first k in
         keeps_named b _ q r segment row (refl, refl) d second (ap (λ (x : PlainPart). x.current) first ∙ next.current) (same_used p q segment first ∙ next.used) next.fits m.pass kq
 
     pub uses_all : memo q ≡ memo p → memo r ≡ memo q → UsesRow segment p after_all

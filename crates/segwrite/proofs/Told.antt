@@ -23,7 +23,8 @@ use Rattle.segwrite.specs.Telling.{IsTold, WasTold, cas_reply}
 -- ---- where an entry came in
 
 -- of the entries of one pass there is one more than before: the history goes on from one in which it came in last
-pub came_in : (pass : ℕ) (entry : Entry) (more old : List Entry) → mine pass (more ++ old) ≡ entry ∷ mine pass old → (history : List Entry) × Begins old history × Begins (entry ∷ history) (more ++ old)
+pub came_in : (pass : ℕ) (entry : Entry) (more old : List Entry) → mine pass (more ++ old) ≡ entry ∷ mine pass old
+    → (history : List Entry) × Begins old history × Begins (entry ∷ history) (more ++ old)
 came_in pass entry [] old one = absurd (let same : length (mine pass old) ≡ suc (length (mine pass old)) = ap length one in omega (arith, same))
 came_in pass entry (e ∷ more) old one = ⊎_elim
     (λ t.
@@ -44,7 +45,9 @@ pub told_at : (b : Board) (request : Request) (said : Reply) (segment : Option �
     → (history : List Entry) × IsTold b.shape (number p) request said segment (seen p) (seen q) history
 told_at b request said segment p q on adds =
     let z = b.shape in let entry = Wrote (number p) request said segment in
-    let one : mine (number p) (on.seen.0 ++ seen p) ≡ entry ∷ mine (number p) (seen p) = ap (mine (number p)) (sym on.seen.1) ∙ subst (λ n. mine n (seen q) ≡ entry ∷ mine (number p) (seen p)) on.same adds in
+    let one : mine (number p) (on.seen.0 ++ seen p) ≡ entry ∷ mine (number p) (seen p) =
+        ap (mine (number p)) (sym on.seen.1) ∙ subst (λ n. mine n (seen q) ≡ entry ∷ mine (number p) (seen p))
+        on.same adds in
     let came = came_in (number p) entry on.seen.0 (seen p) one in
     let now = subst (Begins (entry ∷ came.0)) (sym on.seen.1) came.2 in
     let lawful = legal z (trace q) on.quiet.pass.lawful in
@@ -85,7 +88,9 @@ stores_always b key value now told p q w = by told w.answer
     by write.Busy answer = tt
 
 -- the entry of an answer that tells a reply
-adds_reply : (b : Board) (request : Request) (told : WriteAnswer) (said : Reply) (p q : Pass) → IsWriteAnswer b.shape request told p q → reply_of_write told ≡ Some said → (segment : Option ℕ) × AddsEntry (Wrote (number p) request said segment) p q
+adds_reply : (b : Board) (request : Request) (told : WriteAnswer) (said : Reply) (p q : Pass)
+    → IsWriteAnswer b.shape request told p q → reply_of_write told ≡ Some said → (segment : Option ℕ)
+    × AddsEntry (Wrote (number p) request said segment) p q
 adds_reply b request write.Stored said p q answer is = (Some answer.0, subst (λ r. AddsEntry (Wrote (number p) request r (Some answer.0)) p q) (same_Some reply.Stored said is) answer.1)
 adds_reply b request write.NotStored said p q answer is = (None, subst (λ r. AddsEntry (Wrote (number p) request r None) p q) (same_Some reply.NotStored said is) answer.0)
 adds_reply b request write.Exists said p q answer is = (None, subst (λ r. AddsEntry (Wrote (number p) request r None) p q) (same_Some reply.Exists said is) answer.0)
@@ -94,23 +99,33 @@ adds_reply b request write.NoRoom said p q answer is = absurd (none-some said is
 adds_reply b request write.BucketFull said p q answer is = absurd (none-some said is)
 adds_reply b request write.Busy said p q answer is = absurd (none-some said is)
 
-pub write_told : (b : Board) (request : Request) (told : WriteAnswer) (said : Reply) (p q : Pass) → Writes b request told p q → reply_of_write told ≡ Some said → WasTold b.shape (number p) request said (seen p) (seen q)
+pub write_told : (b : Board) (request : Request) (told : WriteAnswer) (said : Reply) (p q : Pass)
+    → Writes b request told p q → reply_of_write told ≡ Some said
+    → WasTold b.shape (number p) request said (seen p) (seen q)
 write_told b request told said p q w is = let added = adds_reply b request told said p q w.answer is in (added.0, told_at b request said added.0 p q w.on added.1)
 
-pub write_since : (b : Board) (request : Request) (told : WriteAnswer) (said : Reply) (p q : Pass) → Writes b request told p q → reply_of_write told ≡ Some said → SinceFirst p q (λ start. WasTold b.shape (number p) request said (event.seen start) (seen q))
+pub write_since : (b : Board) (request : Request) (told : WriteAnswer) (said : Reply) (p q : Pass)
+    → Writes b request told p q → reply_of_write told ≡ Some said
+    → SinceFirst p q (λ start. WasTold b.shape (number p) request said (event.seen start) (seen q))
 write_since b request told said p q w is = let added = adds_reply b request told said p q w.answer is in let t = told_since b request said added.0 p q w.on added.1 in (t.0, t.1, (added.0, t.2))
 
-delete_adds : (b : Board) (key : List ℕ) (now : ℕ) (told : DeleteAnswer) (said : Reply) (p q : Pass) → IsDeleteAnswer b.shape key now told p q → reply_of_delete told ≡ Some said → AddsEntry (Wrote (number p) (Delete key now) said None) p q
+delete_adds : (b : Board) (key : List ℕ) (now : ℕ) (told : DeleteAnswer) (said : Reply) (p q : Pass)
+    → IsDeleteAnswer b.shape key now told p q → reply_of_delete told ≡ Some said
+    → AddsEntry (Wrote (number p) (Delete key now) said None) p q
 delete_adds b key now delete.Deleted said p q answer is = subst (λ r. AddsEntry (Wrote (number p) (Delete key now) r None) p q) (same_Some reply.Deleted said is) answer.0
 delete_adds b key now delete.NotFound said p q answer is = subst (λ r. AddsEntry (Wrote (number p) (Delete key now) r None) p q) (same_Some reply.NotFound said is) answer.0
 delete_adds b key now delete.Busy said p q answer is = absurd (none-some said is)
 
-pub delete_since : (b : Board) (key : List ℕ) (now : ℕ) (told : DeleteAnswer) (said : Reply) (p q : Pass) → Deletes b key now told p q → reply_of_delete told ≡ Some said → SinceFirst p q (λ start. WasTold b.shape (number p) (Delete key now) said (event.seen start) (seen q))
+pub delete_since : (b : Board) (key : List ℕ) (now : ℕ) (told : DeleteAnswer) (said : Reply) (p q : Pass)
+    → Deletes b key now told p q → reply_of_delete told ≡ Some said
+    → SinceFirst p q (λ start. WasTold b.shape (number p) (Delete key now) said (event.seen start) (seen q))
 delete_since b key now told said p q d is = let t = told_since b (Delete key now) said None p q d.on (delete_adds b key now told said p q d.answer is) in (t.0, t.1, (None, t.2))
 
 -- ---- the version law
 
-module _ (b : Board) (key read value : List ℕ) (version now : ℕ) (told : WriteAnswer) (said : Reply) (p q : Pass) (few : b.shape.first_version < 2 ^ 32) (w : Writes b (Cas key value version now) told p q) (is : reply_of_write told ≡ Some said) where
+module _ (b : Board) (key read value : List ℕ) (version now : ℕ) (told : WriteAnswer) (said : Reply) (p q : Pass)
+    (few : b.shape.first_version < 2 ^ 32) (w : Writes b (Cas key value version now) told p q)
+    (is : reply_of_write told ≡ Some said) where
   abbrev there : WasTold b.shape (number p) (Cas key value version now) said (seen p) (seen q)
   there = write_told b (Cas key value version now) told said p q w is
 
@@ -119,5 +134,7 @@ module _ (b : Board) (key read value : List ℕ) (version now : ℕ) (told : Wri
       let z = b.shape in let entry = Wrote (number p) (Cas key value version now) said there.0 in
       (earlier_legal z (entry ∷ there.1.0) (seen q) there.1.1.entered (legal z (trace q) w.on.quiet.pass.lawful)).0
 
-  pub cas_told : (then' : ℕ) (before : List Entry) → reads_version b.shape (after b.shape before) then' key ≡ Some (read, version) → Begins before there.1.0 → said ≡ cas_reply b.shape key now before there.1.0
+  pub cas_told : (then' : ℕ) (before : List Entry)
+      → reads_version b.shape (after b.shape before) then' key ≡ Some (read, version) → Begins before there.1.0
+      → said ≡ cas_reply b.shape key now before there.1.0
   cas_told then' before got begins = there.1.1.replied ∙ cas_fails b.shape before there.1.0 then' now key read value version few legal_there begins got

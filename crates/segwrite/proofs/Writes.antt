@@ -36,13 +36,18 @@ use Rattle.segwrite.proofs.Steps.{told_steps}
 use Rattle.segwrite.proofs.Refused.{asks, adds_absent, refused_goes_on, refused_undrawn, refused_peeking, refused_takes, refused_answer}
 use Rattle.segwrite.proofs.Presence.{began, may_enter, taken_moved, peek_nowhere, enters_for, enters_none, came_wider, none_present, unread_if}
 use Rattle.segwrite.proofs.Rooms.{searches_still, finds_of, as_found, DrawsOnce, HasRoom, has_room as room_for, no_room, room_steps, unroomed_steps}
-use Rattle.segwrite.proofs.Sets.{found_clean, may_free, full_goes_on, full_undrawn, full_peeking, full_takes, full_answer, stored_goes_on, stored_answer, stored_first, stored_peeking, stored_takes, stored_grows}
+use Rattle.segwrite.proofs.Sets.{found_clean, may_free, full_goes_on, full_undrawn, full_peeking, full_takes,
+    full_answer, stored_goes_on, stored_answer, stored_first, stored_peeking, stored_takes, stored_grows}
 use Rattle.segstore.proofs.UnderBit.{moved_at}
 use Rattle.segstore.proofs.UnderWrite.{HasBegun, begun, took_keeps}
 
 -- all that follows where there is room, and the bit was taken
-writes_with : (b : Board) (request : Request) (told : WriteAnswer) (p s : Pass) → ¬ (has_room b.shape p ≡ false) → locked_of p ≢ Some (bucket_of b.shape (key_of request)) → told ≢ write.NoRoom → told ≢ write.Busy
-    → GoesOn b p s → IsWriteAnswer b.shape request told p s → CostsOfAnswer b.shape request told p s → WritesInSteps b.shape request told p s → GrowsFor b.shape request p s → EntersForKey b.shape (key_of request) p s → (depends_on_key request ≡ false → ReadsNothing p s) → Writes b request told p s
+writes_with : (b : Board) (request : Request) (told : WriteAnswer) (p s : Pass) → ¬ (has_room b.shape p ≡ false)
+    → locked_of p ≢ Some (bucket_of b.shape (key_of request)) → told ≢ write.NoRoom → told ≢ write.Busy
+    → GoesOn b p s → IsWriteAnswer b.shape request told p s → CostsOfAnswer b.shape request told p s
+        → WritesInSteps b.shape request told p s → GrowsFor b.shape request p s
+        → EntersForKey b.shape (key_of request) p s → (depends_on_key request ≡ false → ReadsNothing p s)
+        → Writes b request told p s
 writes_with b request told p s room unlocked some free on answer of_answer steps grows enters unread = record {
   on = on;
   answer = answer;
@@ -63,7 +68,9 @@ refusal_costs b request write.BucketFull p s unstored some free takes none = (ta
 refusal_costs b request write.Busy p s unstored some free takes none = absurd (free refl)
 
 -- the bit can't be had
-pub ends_busy : (b : Board) (request : Request) (p q : Pass) → ¬ (has_room b.shape p ≡ false) → TakesToWrite b (bucket_of b.shape (key_of request)) false p q → TakesAtMost most_tries_for_bit p q → Writes b request write.Busy p q
+pub ends_busy : (b : Board) (request : Request) (p q : Pass) → ¬ (has_room b.shape p ≡ false)
+    → TakesToWrite b (bucket_of b.shape (key_of request)) false p q → TakesAtMost most_tries_for_bit p q
+    → Writes b request write.Busy p q
 ends_busy b request p q room busy steps = record {
   on = busy.0;
   answer = (busy.1, busy.2);
@@ -78,7 +85,8 @@ ends_busy b request p q room busy steps = record {
   };
 }
 
-module _ (b : Board) (w : When) (request : Request) (key value words : List ℕ) (now bucket : ℕ) (asked : request ≡ request_of w key value now) (home : bucket ≡ bucket_of b.shape key) (copied : words ≡ key)
+module _ (b : Board) (w : When) (request : Request) (key value words : List ℕ) (now bucket : ℕ)
+    (asked : request ≡ request_of w key value now) (home : bucket ≡ bucket_of b.shape key) (copied : words ≡ key)
     (p q f : Pass) (found : Found) (quiet : IsQuiet b p) (took : TookToWrite b bucket p q) (search : Idles b q f) (searches : Searches b words found f) where
   abbrev k : ℕ
   k = bucket_of b.shape (key_of request)
@@ -100,7 +108,10 @@ module _ (b : Board) (w : When) (request : Request) (key value words : List ℕ)
 
   -- what the refusal is told from
   pub may_refuse : b.shape.first_version < 2 ^ 32
-      → IsPassOf b f × (b.shape.first_version < 2 ^ 32 × (HasCleanBit b f bucket × (bucket ≡ k × (MayEnterAny f × (Finds b (key_of request) (target_of found) f × request ≡ request_of w (key_of request) (value_of request) now)))))
+      → IsPassOf b f × (b.shape.first_version < 2 ^ 32
+          × (HasCleanBit b f bucket × (bucket ≡ k × (MayEnterAny f
+          × (Finds b (key_of request) (target_of found) f
+          × request ≡ request_of w (key_of request) (value_of request) now)))))
   may_refuse few = (search.moved.pass, (few, (clean, (at_home, (may_enter b bucket p q f quiet took search, (finds_of b (key_of request) found f found_it, (asks w key value now request asked).2))))))
 
   module _ (g : Pass) (refusal : Option WriteAnswer) (looks : PeeksFor b request f g) (told : IsToldBy (reply_now b g request) refusal) where
@@ -131,7 +142,9 @@ module _ (b : Board) (w : When) (request : Request) (key value words : List ℕ)
     unread_set s peeks is_set = unread_if into p s (looks.none is_set) peeks
 
     -- the cache refuses it
-    pub ends_refused : ¬ (has_room b.shape p ≡ false) → (answer : WriteAnswer) (s : Pass) → refusal ≡ Some answer → RefusesUnderBit b request (reply_now b g request) g s → TakesAtMost (most_steps_of_refusal request) p s → Writes b request answer p s
+    pub ends_refused : ¬ (has_room b.shape p ≡ false) → (answer : WriteAnswer) (s : Pass) → refusal ≡ Some answer
+        → RefusesUnderBit b request (reply_now b g request) g s → TakesAtMost (most_steps_of_refusal request) p s
+        → Writes b request answer p s
     ends_refused room answer s is refuses steps =
         let why = subst (IsToldBy (reply_now b g request)) is told in
         let undrawn = refused_undrawn b request (reply_now b g request) p g g s quiet had_it still refuses in
@@ -172,7 +185,12 @@ module _ (b : Board) (w : When) (request : Request) (key value words : List ℕ)
         pub may_end : IsPassOf b r × May b.shape (trace r) (number r) (release bucket false None)
         may_end = (none.0.moved.pass, may_free b bucket p g r quiet had none.0)
 
-        pub ends_full : ¬ (has_room b.shape p ≡ false) → (s : Pass) → refusal ≡ None → AddsAtOnce b (Freed (number r) bucket false ∷ []) r s → (bucket_after b.shape (trace s) bucket).holder ≡ None → s.plain ≡ r.plain → memo s ≡ memo r → (TakesAtMost (most_steps_of_draw b.shape) g r → TakesAtMost (most_steps_of_refusal request + most_steps_of_draw b.shape) p s) → Writes b request write.BucketFull p s
+        pub ends_full : ¬ (has_room b.shape p ≡ false) → (s : Pass) → refusal ≡ None
+            → AddsAtOnce b (Freed (number r) bucket false ∷ []) r s
+            → (bucket_after b.shape (trace s) bucket).holder ≡ None → s.plain ≡ r.plain → memo s ≡ memo r
+            → (TakesAtMost (most_steps_of_draw b.shape) g r
+            → TakesAtMost (most_steps_of_refusal request + most_steps_of_draw b.shape) p s)
+            → Writes b request write.BucketFull p s
         ends_full rows s unrefused freed free plain same steps =
             let stored = subst (IsToldBy (reply_now b g request)) unrefused told in
             let freed' = subst (λ n. AddsAtOnce b (Freed (number r) n false ∷ []) r s) at_home freed in
@@ -183,7 +201,9 @@ module _ (b : Board) (w : When) (request : Request) (key value words : List ℕ)
             let adds = adds_absent request version (ap (λ o. reply_to request (is_some o) version) (sym (none_present b (key_of request) (moment_of request) g absent)) ∙ stored) in
             let undrawn = full_undrawn b (key_of request) p g r s quiet had_it none.0 none.2 none.1 freed' free' plain same in
             let peeks = full_peeking b (key_of request) p g r s quiet had_it none.0 none.2 none.1 freed' free' plain same in
-            writes_with b request write.BucketFull p s rows took_it.unlocked (λ e. cc) (λ e. cc) (full_goes_on b (key_of request) p g r s quiet had_it none.0 none.2 none.1 freed' free' plain same) (answer.0, adds, answer.1)
+            writes_with b request write.BucketFull p s rows took_it.unlocked (λ e. cc) (λ e. cc)
+                (full_goes_on b (key_of request) p g r s quiet had_it none.0 none.2 none.1 freed' free' plain same)
+                (answer.0, adds, answer.1)
             (full_takes b (key_of request) p g r s quiet had_it none.0 none.2 none.1 freed' free' plain same, undrawn)
             (steps (unroomed_steps b (key_of request) g g r still looks.peeks.moved.pass clean_there found room unmade made drawn))
             (grows_none b.shape request p s undrawn)
@@ -202,23 +222,34 @@ module _ (b : Board) (w : When) (request : Request) (key value words : List ℕ)
 
         -- what storing asks for
         pub may_store : (segment row tag : ℕ) → refusal ≡ None → (current_of p ≡ Some segment) × (used_of p segment ≡ Some row) × (row < b.shape.rows) → IsKey words → tag ≡ tag_of words
-            → IsPassOf b r × (KeepsSegments b r × (IsNextRow b request segment row r × (Requests b request words value r × (IsKey words × (tag ≡ tag_of words × (HasCleanBit b r k × IsTarget b (key_of request) target r))))))
+            → IsPassOf b r × (KeepsSegments b r × (IsNextRow b request segment row r
+                × (Requests b request words value r × (IsKey words
+                × (tag ≡ tag_of words × (HasCleanBit b r k × IsTarget b (key_of request) target r))))))
         may_store segment row tag unrefused next key_of_words tagged =
             let same = there.ready.plain ∙ had.plain in let a = asks w key value now request asked in
             let stored = sym (subst (IsToldBy (reply_now b g request)) unrefused told) in
             let row_is : IsNextRow b request segment row r = record { current = ap (λ (x : PlainPart). x.current) same ∙ next.0; used = same_used p r segment same ∙ next.1; fits = next.2 } in
-            let requests : Requests b request words value r = record { of = (a.0 ∙ sym copied, a.1); stored = stored ∙ (λ i. reply_to request (is_some ((sym (there.same.finds (moment_of request))) i)) ((sym there.same.version) i)) } in
+            let requests : Requests b request words value r = record { of = (a.0 ∙ sym copied, a.1); stored = stored
+                ∙ (λ i. reply_to request (is_some ((sym (there.same.finds (moment_of request))) i))
+                ((sym there.same.version) i)) } in
             (there.ready.moved.pass, (keeps, (row_is, (requests, (key_of_words, (tagged, (there.ready.clean, there.target_is)))))))
 
         pub ends_stored : ¬ (has_room b.shape p ≡ false) → refusal ≡ None → (segment row : ℕ) (t s : Pass) → StoresUnderBit b request segment row r t → KeepsSegments b t → UsesRow segment r t
-            → AddsAtOnce b (Freed (number t) bucket true ∷ []) t s → (bucket_after b.shape (trace s) bucket).holder ≡ None → s.plain ≡ t.plain → memo s ≡ memo t → (TakesAtMost 0 g r → TakesAtMost (most_steps_of_write request) p s) → (TakesAtMost (most_steps_of_growth b.shape) g r → TakesAtMost (most_steps_of_write request + most_steps_of_growth b.shape) p s) → Writes b request write.Stored p s
+            → AddsAtOnce b (Freed (number t) bucket true ∷ []) t s
+                → (bucket_after b.shape (trace s) bucket).holder ≡ None → s.plain ≡ t.plain → memo s ≡ memo t
+                → (TakesAtMost 0 g r → TakesAtMost (most_steps_of_write request) p s)
+                → (TakesAtMost (most_steps_of_growth b.shape) g r
+                → TakesAtMost (most_steps_of_write request + most_steps_of_growth b.shape) p s)
+                → Writes b request write.Stored p s
         ends_stored rows unrefused segment row t s done kept uses freed free plain same steps grown =
             let freed' = subst (λ n. AddsAtOnce b (Freed (number t) n true ∷ []) t s) at_home freed in
             let free' = subst (λ n. (bucket_after b.shape (trace s) n).holder ≡ None) at_home free in
             let answer = stored_answer b request segment row p g r t s quiet had_it there.own there.ready done kept uses freed' free' plain same in
             let version = (after b.shape (seen g)).version k in
             let adds : standing (after b.shape (seen g)) (key_of request) ≡ None → adds_key request false ≡ true = λ absent.
-            adds_absent request version (ap (λ o. reply_to request (is_some o) version) (sym (none_present b (key_of request) (moment_of request) g absent)) ∙ subst (IsToldBy (reply_now b g request)) unrefused told) in
+            adds_absent request version (ap (λ o. reply_to request (is_some o) version)
+                (sym (none_present b (key_of request) (moment_of request) g absent))
+                ∙ subst (IsToldBy (reply_now b g request)) unrefused told) in
             let peeks = stored_peeking b request segment row p g r t s quiet had_it there.own there.ready done kept uses freed' free' plain same in
             writes_with b request write.Stored p s rows took_it.unlocked (λ e. cc) (λ e. cc)
             (stored_goes_on b request segment row p g r t s quiet had_it there.own there.ready done kept uses freed' free' plain same) (segment, answer.0, answer.1) (
@@ -227,7 +258,12 @@ module _ (b : Board) (w : When) (request : Request) (key value words : List ℕ)
             )
             (⊎_elim
             (λ none. inl (steps none))
-            (λ more. inr (grown more.0, in_need_wider b.shape (key_of request) (number p) (trace g) (trace r) (trace p) (trace s) (moved_on b _ p g had_it.moved) (begins_on (trace r) (trace t) (trace s) (moved_on b _ r t done.2) (moved_on b _ t s freed.moved)) (subst (λ n. DrewInNeed b.shape (key_of request) n (trace g) (trace r)) had.moved.same more.1)))
+            (λ more. inr (grown more.0, in_need_wider b.shape (key_of request) (number p) (trace g) (trace r)
+                (trace p) (trace s) (moved_on b _ p g had_it.moved)
+                (begins_on (trace r) (trace t) (trace s) (moved_on b _ r t done.2) (moved_on b _ t s freed.moved))
+                (subst (λ n. DrewInNeed b.shape (key_of request) n (trace g) (trace r)) had.moved.same more.1)))
             (room_steps b (key_of request) g g r still looks.peeks.moved.pass clean_there found room target given found_now made drawn))
             (stored_grows b request segment row p g r t s quiet had_it there.own there.ready done kept uses freed' free' plain same (seen g) draws adds)
-            (enters_once s (begins_on (trace g) (trace r) (trace s) (moved_on b _ g r there.ready.moved) (begins_on (trace r) (trace t) (trace s) (moved_on b _ r t done.2) (moved_on b _ t s freed.moved))) peeks) (unread_set s peeks)
+            (enters_once s (begins_on (trace g) (trace r) (trace s) (moved_on b _ g r there.ready.moved)
+                (begins_on (trace r) (trace t) (trace s) (moved_on b _ r t done.2) (moved_on b _ t s freed.moved)))
+                peeks) (unread_set s peeks)

@@ -30,7 +30,9 @@ IsDraft z (next m) = Unit {0}
 draft_at : (z : Shape) (n : ℕ) (x : Content) (items : ℕ → Content) → IsDraft z x → ((m : ℕ) → IsDraft z (items m)) → (m : ℕ) → IsDraft z (cond (eqb n m) x (items m))
 draft_at z n x items i old m = ⊎_elim (λ t. rw t i) (λ f. rw f (old m)) (cases_Bool (eqb n m))
 
-draft_acts : (z : Shape) (e : Event) (h : List Event) (b : ℕ) → is (bucket_at z e) b ≡ true → IsLawful z (e ∷ h) → ((b n : ℕ) → IsDraft z ((bucket_after z h b).items n)) → (n : ℕ) → IsDraft z ((acts e (bucket_after z h b)).items n)
+draft_acts : (z : Shape) (e : Event) (h : List Event) (b : ℕ) → is (bucket_at z e) b ≡ true → IsLawful z (e ∷ h)
+    → ((b n : ℕ) → IsDraft z ((bucket_after z h b).items n)) → (n : ℕ)
+    → IsDraft z ((acts e (bucket_after z h b)).items n)
 draft_acts z (Took p a) h b t l old = old b
 draft_acts z (Freed p a x) h b t l old = old b
 draft_acts z (Replied p q y) h b t l old = old b
@@ -51,14 +53,16 @@ drafts z (e ∷ h) l b n = ⊎_elim
     (λ f. rw f (drafts z h l.0 b n))
     (cases_Bool (is (bucket_at z e) b))
 
-draft_content : (z : Shape) (h : List Event) (b d : ℕ) (u : Bucket) (c : Content) → IsValid z → u.chained < d → IsContent h b u (8 * d + 1) c → IsDraft z c → (content_word h c ≡ 0) ⊎ IsItemWord (content_word h c)
+draft_content : (z : Shape) (h : List Event) (b d : ℕ) (u : Bucket) (c : Content) → IsValid z → u.chained < d
+    → IsContent h b u (8 * d + 1) c → IsDraft z c → (content_word h c ≡ 0) ⊎ IsItemWord (content_word h c)
 draft_content z h b d u nothing v lt i x = inl refl
 draft_content z h b d u (item a) v lt i x = let p = i.0 in absurd (omega arith)
 draft_content z h b d u (next m) v lt i x = let e = i.2 in absurd (omega arith)
 draft_content z h b d u (copy w) v lt i x = let t = tagged x.0.key in let y = x.1 in
     inr (tag_of x.0.key, y.0, x.0.segment, x.0.row, (t.0, t.1, low_segment z x.0.segment v x.2, low_row z x.0.row v x.3), y.1, y.2)
 
-pub draft_word : (z : Shape) (h : List Event) (m b d : ℕ) → IsValid z → IsLawful z h → home_of h m ≡ Some (home b d) → chained_to (marked h) b < d → (word z h (OfOverflow m 1) ≡ 0) ⊎ IsItemWord (word z h (OfOverflow m 1))
+pub draft_word : (z : Shape) (h : List Event) (m b d : ℕ) → IsValid z → IsLawful z h → home_of h m ≡ Some (home b d)
+    → chained_to (marked h) b < d → (word z h (OfOverflow m 1) ≡ 0) ⊎ IsItemWord (word z h (OfOverflow m 1))
 draft_word z h m b d v l is' lt = let u = bucket_after z h b in let e = chained_marked z h b in
     rw (ap (overflow_word z h 1) is' ∙ word_content z h u (8 * d + 1) (omega arith))
     (draft_content z h b d u (u.items (8 * d + 1)) v (omega arith) ((chain_of z h l b).contents (8 * d + 1)) (drafts z h l b (8 * d + 1)))

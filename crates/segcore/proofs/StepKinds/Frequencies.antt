@@ -45,7 +45,9 @@ names z h b n t s r f v l i q lf e = by_content ((bucket_after z h b).items n) r
     by_content (next m) is' k e = let a = q.0 in let lt = home_drawn z h m _ l k.3 in let d = drawn_few z h l in let o = few_drawn z v in absurd (omega arith)
     by_content (copy w) is' k e = let a = i.0 in let x = k.0 in absurd (omega arith)
     by_content (item a) is' k e = let st = (coherent z h l).items b n a is' in
-        let parts = same_parts (tag_of a.key) (frequency_of h a.segment a.row) a.segment a.row t f s r (low_frequency z h a.segment a.row l) lf (low_segment z a.segment v st.within.0) q.2 (low_row z a.row v st.within.1) q.3 e in
+        let parts = same_parts (tag_of a.key) (frequency_of h a.segment a.row) a.segment a.row t f s r
+            (low_frequency z h a.segment a.row l) lf (low_segment z a.segment v st.within.0) q.2
+            (low_row z a.row v st.within.1) q.3 e in
         record {
           slot = a;
           here = is';
@@ -71,7 +73,9 @@ bump_at z p b n c t s r f g h v lb i q lt lg l =
     let inside' = cell_in z h b n c l lb i.1 in
     let old = packed t f s r in
     ⊎_elim
-    (λ y. let x = names z h b n t s r f v l i.0 q (omega arith) (sym (word_content z h (bucket_after z h b) n (above (bucket_after z h b) n i.0)) ∙ (sym (at_word z h b n c i.1) ∙ eqb-true found old y)) in
+    (λ y. let x = names z h b n t s r f v l i.0 q (omega arith)
+        (sym (word_content z h (bucket_after z h b) n (above (bucket_after z h b) n i.0))
+        ∙ (sym (at_word z h b n c i.1) ∙ eqb-true found old y)) in
     let fq = x.frequency in
     made z (bump b n c t s r f g) p h (e ∷ []) (packed t g s r) (cond-true (eqb found old) (e ∷ []) [] y) (either_hit found old (packed t g s r) y) inside' (refl, tt)
     (l, record { guarded = tt; follows = tt; suits = (omega arith, lg) })
@@ -81,7 +85,9 @@ bump_at z p b n c t s r f g h v lb i q lt lg l =
   where
     change : Named z h b n t s r f → (b' n' : ℕ)
         → word_in z (Bumped p s r g ∷ h) (bucket_after z (Bumped p s r g ∷ h) b') n' ≡ cond (eqb b b' && eqb n n') (packed t g s r) (word_in z h (bucket_after z h b') n')
-    change x b' zero = sym (cond-false (eqb b b' && eqb n 0) (packed t g s r) _ (false_from_ne_true (eqb b b' && eqb n 0) (λ y. let w = eqb-true n 0 (and_parts (eqb b b') (eqb n 0) y).1 in let lt' = above (bucket_after z h b) n i.0 in omega arith)))
+    change x b' zero = sym (cond-false (eqb b b' && eqb n 0) (packed t g s r) _
+        (false_from_ne_true (eqb b b' && eqb n 0) (λ y. let w = eqb-true n 0 (and_parts (eqb b b') (eqb n 0) y).1 in
+        let lt' = above (bucket_after z h b) n i.0 in omega arith)))
     change x b' (suc n') = ⊎_elim
         (λ y. let w = and_parts (eqb b b') (eqb n (suc n')) y in
         let is' : (bucket_after z h b').items (suc n') ≡ item x.slot = (λ j. (bucket_after z h (sym (eqb-true b b' w.0) j)).items (sym (eqb-true n (suc n') w.1) j)) ∙ x.here in

@@ -48,7 +48,9 @@ loop-pass-preserved c =
     let room = was.room in
     let guest : IsNewGuest index pass c.new-guest.result = record {
       index = c.new-guest.ensures.index ∙ c.in_ok-try_clone.ensures;
-      member = subst (λ (m : Member). Begins (shape_of index) (Some 0) pass m) (sym c.new-guest.ensures.member) (subst (λ (i : Index). Begins (shape_of i) (Some 0) pass c.in_ok-member.member) c.deref.ensures c.in_ok-member.ensures.begins);
+      member = subst (λ (m : Member). Begins (shape_of index) (Some 0) pass m) (sym c.new-guest.ensures.member)
+          (subst (λ (i : Index). Begins (shape_of i) (Some 0) pass c.in_ok-member.member) c.deref.ensures
+          c.in_ok-member.ensures.begins);
       held = c.new-guest.ensures.held;
     } in
     record {
@@ -58,7 +60,9 @@ loop-pass-preserved c =
       quiet = All-rest (IsQuiet (board_of index)) pass _ _ steps.0 was.quiet;
       bare = All-rest (λ (p : Pass). holding p ≡ None) pass _ _ steps.0 was.bare;
       all = was.all ∙ ap (λ l. yielded ++ l) steps.0 ∙ sym (append_assoc yielded (pass ∷ []) rest);
-      made = subst (λ (l : List Guest). AllZip (IsNewGuest index) (yielded ++ pass ∷ []) l) (sym {A = List Guest} pushed.items) (zip_push (IsNewGuest index) yielded before pass c.new-guest.result was.made guest);
+      made = subst (λ (l : List Guest). AllZip (IsNewGuest index) (yielded ++ pass ∷ []) l)
+          (sym {A = List Guest} pushed.items) (zip_push (IsNewGuest index) yielded before pass c.new-guest.result
+          was.made guest);
     }
 
 pub returns : goal.returns

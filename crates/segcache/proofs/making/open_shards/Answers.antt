@@ -42,7 +42,9 @@ loop-preserved c =
       record {
         count = sym (longer shards adds.shard c.loop.counter (sym was.count));
         new = All-append (IsNewShard shape) shards (adds.shard ∷ []) was.new (All-cons (IsNewShard shape) adds.shard [] adds.is_new (All-nil (IsNewShard shape)));
-        homes_of = subst (λ (l : List Home). AllZip IsHomeOf (shards ++ adds.shard ∷ []) l) (sym {A = List Home} pushed.items) (zip_push IsHomeOf shards before adds.shard home was.homes_of adds.home_of);
+        homes_of = subst (λ (l : List Home). AllZip IsHomeOf (shards ++ adds.shard ∷ []) l)
+            (sym {A = List Home} pushed.items) (zip_push IsHomeOf shards before adds.shard home was.homes_of
+            adds.home_of);
         long = three_long (λ guest w is. is.items ≡ w.items ++ guest ∷ []) adds.guests old new adds.deals ∙ was.long;
         rows_of = rows_more shape home old new shards adds was.rows_of;
         len = omega (arith, pushed.len, len);

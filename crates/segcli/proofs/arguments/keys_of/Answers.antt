@@ -9,7 +9,9 @@ use Rattle.segcli.proofs.Options.{option_read}
 use Rattle.segcli.proofs.arguments.keys_of.Goals as goal
 
 -- a number that was made one that isn't 0, by putting 1 for 0
-at_least_one : (n : ℕ) (r : Option NonZeroU32) (one : NonZeroU32) {x : NonZeroU32} → MatchOption r (n ≡ 0) (λ y. non_zero_u32_get y ≡ n) → non_zero_u32_get one ≡ 1 → x ≡ unwrap_or r one → non_zero_u32_get x ≡ max 1 n
+at_least_one : (n : ℕ) (r : Option NonZeroU32) (one : NonZeroU32) {x : NonZeroU32}
+    → MatchOption r (n ≡ 0) (λ y. non_zero_u32_get y ≡ n) → non_zero_u32_get one ≡ 1 → x ≡ unwrap_or r one
+    → non_zero_u32_get x ≡ max 1 n
 at_least_one n None one zero is e = ap non_zero_u32_get e ∙ (is ∙ ap (max 1) (sym zero))
 at_least_one n (Some y) one same is e = let some = y.ok in omega (arith, ap non_zero_u32_get e, same, some)
 

@@ -29,7 +29,8 @@ returns-then-turn-clause-clears c = λ deadline.
     let turn = c.clear_row-turn in
     let tried = c.loop-tried.tried in
     let below = c.loop-tried-test.true in
-    clears_then (board_of c.args.index.now) (Some c.args.terms.least) deadline (2 * tried) 2 16 c.loop-tried.effort turn.result.effort c.plus-effort.result c.args.pass.now c.loop-tried.pass turn.new.pass
+    clears_then (board_of c.args.index.now) (Some c.args.terms.least) deadline (2 * tried) 2 16 c.loop-tried.effort
+        turn.result.effort c.plus-effort.result c.args.pass.now c.loop-tried.pass turn.new.pass
     (omega (arith, below)) c.plus-effort.ensures (c.loop-tried.invariant.clears deadline) (turn.ensures.clears deadline)
 
 pub loop-tried-preserved : goal.loop-tried-preserved
@@ -49,7 +50,9 @@ loop-tried-preserved c =
       refilled = let x = ap (λ (e : Effort). e.refilled) sum in let y = was.refilled in let z = few.0 in omega (arith, x, y, z);
       kept = let x = ap (λ (e : Effort). e.kept) sum in let y = was.kept in let z = few.1 in omega (arith, x, y, z);
       keys = let x = ap (λ (e : Effort). e.keys) sum in let y = was.keys in let z = few.2 in omega (arith, x, y, z);
-      clears = λ deadline. clears_then b (Some c.args.terms.least) deadline (2 * tried) 2 (2 * (tried + 1)) c.loop-tried.effort turn.result.effort c.plus-effort.result p q r (omega arith) sum (was.clears deadline) (turn.ensures.clears deadline);
+      clears = λ deadline. clears_then b (Some c.args.terms.least) deadline (2 * tried) 2 (2 * (tried + 1))
+          c.loop-tried.effort turn.result.effort c.plus-effort.result p q r (omega arith) sum (was.clears deadline)
+          (turn.ensures.clears deadline);
     }
 
 pub returns-in_default-clause-clears : goal.returns-in_default-clause-clears

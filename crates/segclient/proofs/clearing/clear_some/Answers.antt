@@ -6,4 +6,6 @@ pub returns-in_default-clause-clears : goal.returns-in_default-clause-clears
 returns-in_default-clause-clears c = nothing_cleared (board_of c.args.index.now) c.args.policy.cutoff c.args.policy.deadline c.none.result c.args.pass.now c.none.ensures
 
 pub returns-in_default-as_mut-clause-clears : goal.returns-in_default-as_mut-clause-clears
-returns-in_default-as_mut-clause-clears c = nothing_cleared (board_of c.args.index.now) c.args.policy.cutoff c.args.policy.deadline c.none-in_default-as_mut.result c.args.pass.now c.none-in_default-as_mut.ensures
+returns-in_default-as_mut-clause-clears c =
+    nothing_cleared (board_of c.args.index.now) c.args.policy.cutoff c.args.policy.deadline
+    c.none-in_default-as_mut.result c.args.pass.now c.none-in_default-as_mut.ensures

@@ -27,7 +27,9 @@ returns-in_default c =
         let x = ap (λ (e : Effort). e.kept) c.none.ensures in omega (arith, x),
         let x = ap (λ (e : Effort). e.keys) c.none.ensures in omega (arith, x),
       );
-      sets = λ start is. subst (λ e. MakesPut b plan (most_for_set b.shape) c.args.told e start p) (sym c.none.ensures) (sets_end b plan (most_for_set b.shape) c.args.told start p (omega arith) c.in_default.not-NoRoom is);
+      sets = λ start is. subst (λ e. MakesPut b plan (most_for_set b.shape) c.args.told e start p)
+          (sym c.none.ensures) (sets_end b plan (most_for_set b.shape) c.args.told start p (omega arith)
+          c.in_default.not-NoRoom is);
     }
 
 pub returns-then-not-is_made-clause-sets : goal.returns-then-not-is_made-clause-sets

@@ -44,7 +44,8 @@ returns-in-Stored-clause-sets c =
     let was = c.loop-tries.invariant in
     record {
       calls = sets write.Stored ∷ busy_sets c.loop-tries.tries;
-      makes = set_more (board_of c.args.index.now) c.args.order write.Stored c.loop-tries.tries c.args.pass.now c.loop-tries.pass c.set_once.new.pass c.requires.timely was.busy was.plain tt c.in-Stored.ensures.writes;
+      makes = set_more (board_of c.args.index.now) c.args.order write.Stored c.loop-tries.tries c.args.pass.now
+          c.loop-tries.pass c.set_once.new.pass c.requires.timely was.busy was.plain tt c.in-Stored.ensures.writes;
       few = let long = busy_long c.loop-tries.tries in omega (arith, long);
       are = (c.loop-tries.tries, refl);
       no_room = λ e. absurd (stored_is e);
@@ -74,7 +75,9 @@ returns-in-BucketFull-clause-sets c =
     let was = c.loop-tries.invariant in
     record {
       calls = sets write.BucketFull ∷ busy_sets c.loop-tries.tries;
-      makes = set_more (board_of c.args.index.now) c.args.order write.BucketFull c.loop-tries.tries c.args.pass.now c.loop-tries.pass c.set_once.new.pass c.requires.timely was.busy was.plain tt c.in-BucketFull.ensures.writes;
+      makes = set_more (board_of c.args.index.now) c.args.order write.BucketFull c.loop-tries.tries c.args.pass.now
+          c.loop-tries.pass c.set_once.new.pass c.requires.timely was.busy was.plain tt
+          c.in-BucketFull.ensures.writes;
       few = let long = busy_long c.loop-tries.tries in omega (arith, long);
       are = (c.loop-tries.tries, refl);
       no_room = λ e. absurd (full_is e);

@@ -34,7 +34,9 @@ loop-row-preserved c =
       current = row_current b segment row cutoff q r told stayed ∙ was.current;
       until = until_then p q r was.until (row_until b segment row cutoff q r told stayed);
       few = let few = was.few in let one = moved.ensures.few in omega (arith, few, one);
-      keeps = λ deadline. row_more b (Some cutoff) deadline cutoff segment row cutoff row moved.result c.loop-row.kept told p q r refl (omega arith) c.requires.own was.on.same (moved.ensures.value segment row cutoff) (was.keeps deadline) stayed;
+      keeps = λ deadline. row_more b (Some cutoff) deadline cutoff segment row cutoff row moved.result
+          c.loop-row.kept told p q r refl (omega arith) c.requires.own was.on.same
+          (moved.ensures.value segment row cutoff) (was.keeps deadline) stayed;
     }
 
 pub returns-in-NoRoom : goal.returns-in-NoRoom
@@ -59,5 +61,7 @@ returns-in-NoRoom c =
       until = until_then p q r was.until (row_until b segment row cutoff q r told stayed);
       few = let few = was.few in let one = moved.ensures.few in omega (arith, few, one, below, rows);
       keeps = λ deadline. arranges_as b (Some cutoff) deadline (row + 1) b.shape.rows effort effort p r (omega (arith, below, rows)) refl refl refl
-          (row_more b (Some cutoff) deadline cutoff segment row cutoff row moved.result c.loop-row.kept told p q r refl (omega arith) c.requires.own was.on.same (moved.ensures.value segment row cutoff) (was.keeps deadline) stayed);
+          (row_more b (Some cutoff) deadline cutoff segment row cutoff row moved.result c.loop-row.kept told p q r
+              refl (omega arith) c.requires.own was.on.same (moved.ensures.value segment row cutoff)
+              (was.keeps deadline) stayed);
     }

@@ -10,7 +10,10 @@ use Rattle.segclient.proofs.Rooms.{gives_up, PassesOver, passes_on}
 use Rattle.segclient.proofs.room.make_room_in_order.Goals as goal
 
 -- the segment was given up
-room_made : (c : goal.After-was_refilled) → MakesRoom (board_of c.args.index.now) None c.args.policy.deadline (most_in_turn (board_of c.args.index.now).shape) true (effort_from 1 0 (c.loop-tried.keys + c.from-keys.result)) c.args.pass.now c.give_up-is_refilled.new.pass
+room_made : (c : goal.After-was_refilled)
+    → MakesRoom (board_of c.args.index.now) None c.args.policy.deadline
+    (most_in_turn (board_of c.args.index.now).shape) true (effort_from 1 0 (c.loop-tried.keys + c.from-keys.result))
+    c.args.pass.now c.give_up-is_refilled.new.pass
 room_made c =
     let b = board_of c.args.index.now in
     let was = c.loop-tried.invariant in
@@ -25,7 +28,9 @@ room_made c =
     (most_in_turn b.shape) (keys + c.from-keys.result) (omega arith) (ap (λ n. keys + n) c.from-keys.ensures) given
 
 -- none was given up so far
-passed_over : (b : Board) (deadline most total keys : ℕ) (effort : Effort) (p q : Pass) → most ≤ total → effort ≡ effort_from 0 0 keys → PassesOver b deadline most keys p q → Arranges b None deadline total effort p q
+passed_over : (b : Board) (deadline most total keys : ℕ) (effort : Effort) (p q : Pass) → most ≤ total
+    → effort ≡ effort_from 0 0 keys → PassesOver b deadline most keys p q
+    → Arranges b None deadline total effort p q
 passed_over b deadline most total keys effort p q enough is over =
     arranges_as b None deadline most total (effort_from 0 0 keys) effort p q enough
     (ap (λ (e : Effort). e.refilled) is) (ap (λ (e : Effort). e.kept) is) (ap (λ (e : Effort). e.keys) is) over
@@ -74,11 +79,14 @@ returns-in_default-clause-arranges c =
     let b = board_of c.args.index.now in
     let p = c.args.pass.now in
     let below : c.loop-tried.tried < b.shape.segments_each = subst (λ s. c.loop-tried.tried < s.segments_each) c.shape-tried-end.ensures c.loop-tried-test.true in
-    passed_over b c.args.policy.deadline (2 * c.loop-tried.tried) (most_in_turn b.shape) c.loop-tried.keys c.evicting.result p c.loop-tried.pass (omega arith) c.evicting.ensures c.loop-tried.invariant.over
+    passed_over b c.args.policy.deadline (2 * c.loop-tried.tried) (most_in_turn b.shape) c.loop-tried.keys
+        c.evicting.result p c.loop-tried.pass (omega arith) c.evicting.ensures c.loop-tried.invariant.over
 
 pub returns-clause-arranges : goal.returns-clause-arranges
 returns-clause-arranges c =
     let b = board_of c.args.index.now in
     let p = c.args.pass.now in
     let ends = ap (λ s. s.segments_each) c.shape-tried-end.ensures in
-    passed_over b c.args.policy.deadline (2 * c.loop-tried.tried) (most_in_turn b.shape) c.loop-tried.keys c.evicting-2.result p c.loop-tried.pass (omega (arith, ends)) c.evicting-2.ensures c.loop-tried.invariant.over
+    passed_over b c.args.policy.deadline (2 * c.loop-tried.tried) (most_in_turn b.shape) c.loop-tried.keys
+        c.evicting-2.result p c.loop-tried.pass (omega (arith, ends)) c.evicting-2.ensures
+        c.loop-tried.invariant.over

@@ -23,13 +23,18 @@ returns-in_default-refill c =
       on = c.refill.ensures.refills.on;
       ring = refl;
       queues = c.in-Some.ensures.variant;
-      cleared = refill_stays b c.args.pass.now c.refill.new.pass c.requires.quiet segment c.args.deadline c.refill.result c.args.segments.now.source (c.is_source.ensures c.if-is_source.false) c.refill.ensures.refills c.requires.cleared;
+      cleared = refill_stays b c.args.pass.now c.refill.new.pass c.requires.quiet segment c.args.deadline
+          c.refill.result c.args.segments.now.source (c.is_source.ensures c.if-is_source.false)
+          c.refill.ensures.refills c.requires.cleared;
       takes = left_free b c.args.deadline segment c.refill.result c.args.pass.now c.refill.new.pass c.in_default-refill.not-Refilled c.in-Some-oldest_in.ensures.own.0 c.refill.ensures.refills;
     }
 
 pub returns-clause-cleared : goal.returns-clause-cleared
 returns-clause-cleared c =
-    refill_stays (board_of c.args.index.now) c.args.pass.now c.refill.new.pass c.requires.quiet c.in-Some-oldest_in.segment c.args.deadline c.refill.result c.args.segments.now.source (c.is_source.ensures c.if-is_source.false) c.refill.ensures.refills c.requires.cleared
+    refill_stays (board_of c.args.index.now) c.args.pass.now c.refill.new.pass c.requires.quiet
+        c.in-Some-oldest_in.segment c.args.deadline c.refill.result c.args.segments.now.source
+        (c.is_source.ensures c.if-is_source.false) c.refill.ensures.refills c.requires.cleared
 
 pub returns-clause-takes : goal.returns-clause-takes
-returns-clause-takes c = took_free (board_of c.args.index.now) c.args.deadline c.in-Some-oldest_in.segment c.args.pass.now c.refill.new.pass c.in-Some-oldest_in.ensures.own.0 c.in-Refilled.ensures.refills
+returns-clause-takes c = took_free (board_of c.args.index.now) c.args.deadline c.in-Some-oldest_in.segment
+    c.args.pass.now c.refill.new.pass c.in-Some-oldest_in.ensures.own.0 c.in-Refilled.ensures.refills

@@ -39,7 +39,9 @@ returns-in_default c = record {
     not_yours = search rules;
     costs = record {
       order = λ in_use. search (rules, in_use);
-      tries = λ rows is. no_tries c.args.board.now (λ key. StoodIn c.args.board.now.shape c.args.segment key c.args.pass.now c.args.pass.now) rows c.args.pass.now c.args.pass.now (stays c.args.board.now c.args.pass.now c.requires.quiet.pass);
+      tries = λ rows is. no_tries c.args.board.now
+          (λ key. StoodIn c.args.board.now.shape c.args.segment key c.args.pass.now c.args.pass.now) rows
+          c.args.pass.now c.args.pass.now (stays c.args.board.now c.args.pass.now c.requires.quiet.pass);
       draws_nothing = λ bucket. refl;
       reads_nothing = refl;
     };
@@ -54,7 +56,9 @@ returns-then-ne c = record {
     not_yours = search rules;
     costs = record {
       order = λ in_use. search (rules, in_use);
-      tries = λ rows is. no_tries c.args.board.now (λ key. StoodIn c.args.board.now.shape c.args.segment key c.args.pass.now c.args.pass.now) rows c.args.pass.now c.args.pass.now (stays c.args.board.now c.args.pass.now c.requires.quiet.pass);
+      tries = λ rows is. no_tries c.args.board.now
+          (λ key. StoodIn c.args.board.now.shape c.args.segment key c.args.pass.now c.args.pass.now) rows
+          c.args.pass.now c.args.pass.now (stays c.args.board.now c.args.pass.now c.requires.quiet.pass);
       draws_nothing = λ bucket. refl;
       reads_nothing = refl;
     };

@@ -14,5 +14,7 @@ returns-then-not-has_row c = record {
 
 pub returns : goal.returns
 returns c = record {
-  evicts = row_out c.args.board.now c.args.segment c.args.row c.evict_used_row.result c.args.pass.now c.evict_used_row.new.pass (c.if-not-has_row.ensures.yes refl) c.evict_used_row.ensures.evicts c.evict_used_row.ensures.steps;
+  evicts = row_out c.args.board.now c.args.segment c.args.row c.evict_used_row.result c.args.pass.now
+      c.evict_used_row.new.pass (c.if-not-has_row.ensures.yes refl) c.evict_used_row.ensures.evicts
+      c.evict_used_row.ensures.steps;
 }

@@ -13,7 +13,9 @@ returns-in_default c = record {
     not_yours = search rules;
     costs = record {
       order = λ into in_use t. search (rules, in_use);
-      tries = λ rows is. no_tries c.args.board.now (WasOften c.args.board.now.shape c.args.segment c.args.cutoff c.args.pass.now c.args.pass.now) rows c.args.pass.now c.args.pass.now (stays c.args.board.now c.args.pass.now c.requires.quiet.pass);
+      tries = λ rows is. no_tries c.args.board.now
+          (WasOften c.args.board.now.shape c.args.segment c.args.cutoff c.args.pass.now c.args.pass.now) rows
+          c.args.pass.now c.args.pass.now (stays c.args.board.now c.args.pass.now c.requires.quiet.pass);
       draws_nothing = λ bucket. refl;
       reads_nothing = refl;
     };
@@ -28,7 +30,9 @@ returns-then-ne c = record {
     not_yours = search rules;
     costs = record {
       order = λ into in_use t. search (rules, in_use);
-      tries = λ rows is. no_tries c.args.board.now (WasOften c.args.board.now.shape c.args.segment c.args.cutoff c.args.pass.now c.args.pass.now) rows c.args.pass.now c.args.pass.now (stays c.args.board.now c.args.pass.now c.requires.quiet.pass);
+      tries = λ rows is. no_tries c.args.board.now
+          (WasOften c.args.board.now.shape c.args.segment c.args.cutoff c.args.pass.now c.args.pass.now) rows
+          c.args.pass.now c.args.pass.now (stays c.args.board.now c.args.pass.now c.requires.quiet.pass);
       draws_nothing = λ bucket. refl;
       reads_nothing = refl;
     };

@@ -14,7 +14,8 @@ returns-then-not-has_row c = record {
 
 pub returns-in-Some : goal.returns-in-Some
 returns-in-Some c = record {
-  keeps = row_answered c.args.board.now c.args.segment c.args.row c.in-Some.into c.args.cutoff c.args.pass.now c.keep_used_row.new.pass c.requires.quiet (c.if-not-has_row.ensures.yes refl) c.in-Some.ensures.target
+  keeps = row_answered c.args.board.now c.args.segment c.args.row c.in-Some.into c.args.cutoff c.args.pass.now
+      c.keep_used_row.new.pass c.requires.quiet (c.if-not-has_row.ensures.yes refl) c.in-Some.ensures.target
       c.keep_used_row.result c.keep_used_row.ensures.keeps c.keep_used_row.ensures.steps;
 }
 

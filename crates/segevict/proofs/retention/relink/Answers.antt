@@ -19,7 +19,9 @@ try_to_relink-requires g c = let l = c.loop-found in
 pub loop-found-preserved : goal.loop-found-preserved
 loop-found-preserved g c = let i = c.loop-found.invariant in let t = c.in-Err.ensures.tries in
     let high = t.0.higher i.relinking.earlier.0 i.relinking.earlier.1 in record {
-      relinking = retry_later c.args.board.now g.named.key (relink_event g.named c.args.to.segment c.args.to.row) c.args.target.place c.loop-found.old c.in-Err.found c.args.pass.now c.loop-found.pass c.try_to_relink.new.pass i.relinking
+      relinking = retry_later c.args.board.now g.named.key (relink_event g.named c.args.to.segment c.args.to.row)
+          c.args.target.place c.loop-found.old c.in-Err.found c.args.pass.now c.loop-found.pass
+          c.try_to_relink.new.pass i.relinking
           (is_relink g.named c.args.to.segment c.args.to.row) t.0;
       tried = tried_later c.args.target.word c.loop-found.old c.in-Err.found c.args.pass.now c.loop-found.pass c.try_to_relink.new.pass i.tried high.0 high.1 c.in-Err.ensures.steps;
       plain = t.2 ∙ i.plain;
@@ -29,7 +31,9 @@ loop-found-preserved g c = let i = c.loop-found.invariant in let t = c.in-Err.en
 pub returns : goal.returns
 returns g c = let i = c.loop-found.invariant in let t = c.in_default.ensures.tries in record {
   relinks = record {
-    did = came_about c.args.board.now g.named.key (relink_event g.named c.args.to.segment c.args.to.row) c.args.target.place c.loop-found.old 0 c.args.pass.now c.loop-found.pass c.try_to_relink.new.pass i.relinking t.did;
+    did = came_about c.args.board.now g.named.key (relink_event g.named c.args.to.segment c.args.to.row)
+        c.args.target.place c.loop-found.old 0 c.args.pass.now c.loop-found.pass c.try_to_relink.new.pass
+        i.relinking t.did;
     plain = t.plain ∙ i.plain;
     memo = t.memo ∙ i.memo;
   };

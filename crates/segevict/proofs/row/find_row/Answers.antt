@@ -36,8 +36,17 @@ loop-place-smaller c = let l = c.look-word in let b = c.args.board.now in
 pub loop-place-preserved : goal.loop-place-preserved
 loop-place-preserved c = let l = c.look-word in let b = c.args.board.now in
     let one = one_step b c.loop-place.pass l.new.pass _ _ l.ensures.step in record {
-      seeking = seeking_on b c.args.bucket c.args.item _ _ _ _ l.result c.loop-place.invariant.seeking (step_idles b _ _ _ _ l.ensures.step l.ensures.did) l.ensures.reads c.next_place.result (λ same. both_ways _ c.if-same_item.false (c.same_item.ensures.1 (subst (IsSameItem l.result) (sym c.pack-sought.ensures) same))) c.next_place.ensures c.in-Some.next c.in-Some.is;
-      steps = (let before = c.loop-place.invariant.steps in let more = one_more b c.args.bucket c.args.item _ _ _ _ l.result c.loop-place.invariant.seeking (step_idles b _ _ _ _ l.ensures.step l.ensures.did) l.ensures.reads c.next_place.result (λ same. both_ways _ c.if-same_item.false (c.same_item.ensures.1 (subst (IsSameItem l.result) (sym c.pack-sought.ensures) same))) c.next_place.ensures c.in-Some.next c.in-Some.is in omega (arith, before, one, more));
+      seeking = seeking_on b c.args.bucket c.args.item _ _ _ _ l.result c.loop-place.invariant.seeking
+          (step_idles b _ _ _ _ l.ensures.step l.ensures.did) l.ensures.reads c.next_place.result
+          (λ same. both_ways _ c.if-same_item.false
+          (c.same_item.ensures.1 (subst (IsSameItem l.result) (sym c.pack-sought.ensures) same)))
+          c.next_place.ensures c.in-Some.next c.in-Some.is;
+      steps = (let before = c.loop-place.invariant.steps in
+          let more = one_more b c.args.bucket c.args.item _ _ _ _ l.result c.loop-place.invariant.seeking
+          (step_idles b _ _ _ _ l.ensures.step l.ensures.did) l.ensures.reads c.next_place.result
+          (λ same. both_ways _ c.if-same_item.false
+          (c.same_item.ensures.1 (subst (IsSameItem l.result) (sym c.pack-sought.ensures) same)))
+          c.next_place.ensures c.in-Some.next c.in-Some.is in omega (arith, before, one, more));
     }
 
 pub returns-in-None-clause-idles : goal.returns-in-None-clause-idles
@@ -50,17 +59,25 @@ returns-in-None-clause-finds c = let l = c.look-word in let b = c.args.board.now
     (λ same. both_ways _ c.if-same_item.false (c.same_item.ensures.1 (subst (IsSameItem l.result) (sym c.pack-sought.ensures) same))) c.next_place.ensures c.in-None.is
 
 pub returns-then-same_item-clause-looks : goal.returns-then-same_item-clause-looks
-returns-then-same_item-clause-looks c = let l = c.look-word in let q = c.loop-place.pass in let i = c.loop-place.invariant.seeking.idles.moved in has_later c.args.pass.now q l.new.pass i.same i.steps (_, starts q l.new.pass _ _ l.ensures.step.told)
+returns-then-same_item-clause-looks c = let l = c.look-word in let q = c.loop-place.pass in
+    let i = c.loop-place.invariant.seeking.idles.moved in
+    has_later c.args.pass.now q l.new.pass i.same i.steps (_, starts q l.new.pass _ _ l.ensures.step.told)
 
 pub returns-in-None-clause-looks : goal.returns-in-None-clause-looks
-returns-in-None-clause-looks c = let l = c.look-word in let q = c.loop-place.pass in let i = c.loop-place.invariant.seeking.idles.moved in has_later c.args.pass.now q l.new.pass i.same i.steps (_, starts q l.new.pass _ _ l.ensures.step.told)
+returns-in-None-clause-looks c = let l = c.look-word in let q = c.loop-place.pass in
+    let i = c.loop-place.invariant.seeking.idles.moved in
+    has_later c.args.pass.now q l.new.pass i.same i.steps (_, starts q l.new.pass _ _ l.ensures.step.told)
 
 pub returns-then-same_item-clause-steps : goal.returns-then-same_item-clause-steps
 returns-then-same_item-clause-steps c = let l = c.look-word in let b = c.args.board.now in
     let one = one_step b c.loop-place.pass l.new.pass _ _ l.ensures.step in let before = c.loop-place.invariant.steps in
-    let short = place_left b c.args.bucket c.loop-place.place c.loop-place.pass c.loop-place.invariant.seeking.idles.moved.pass c.loop-place.invariant.seeking.chain in omega (arith, one, before, short)
+    let short = place_left b c.args.bucket c.loop-place.place c.loop-place.pass
+        c.loop-place.invariant.seeking.idles.moved.pass c.loop-place.invariant.seeking.chain in
+        omega (arith, one, before, short)
 
 pub returns-in-None-clause-steps : goal.returns-in-None-clause-steps
 returns-in-None-clause-steps c = let l = c.look-word in let b = c.args.board.now in
     let one = one_step b c.loop-place.pass l.new.pass _ _ l.ensures.step in let before = c.loop-place.invariant.steps in
-    let short = place_left b c.args.bucket c.loop-place.place c.loop-place.pass c.loop-place.invariant.seeking.idles.moved.pass c.loop-place.invariant.seeking.chain in omega (arith, one, before, short)
+    let short = place_left b c.args.bucket c.loop-place.place c.loop-place.pass
+        c.loop-place.invariant.seeking.idles.moved.pass c.loop-place.invariant.seeking.chain in
+        omega (arith, one, before, short)

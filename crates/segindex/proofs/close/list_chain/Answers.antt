@@ -37,7 +37,9 @@ loop-depth-preserved c = record {
       let words = c.args.words.now in let home = c.args.home in let depth = c.loop-depth.depth in let inv = c.loop-depth.invariant.lists trace rest in
       let same : c.shape.result.buckets ≡ (shape_of words).buckets = ap (λ (z : Shape). z.buckets) c.shape.ensures in
       let few : c.in-Some.number < 65536 = let e = c.in-Some.ensures.some in let w = (c.in-Some.ensures.variant.0 refl).1 in omega arith in (
-        subst (λ n. IsBucketIn words trace home (depth + 1) (n + c.in-Some.number)) (sym same) (next_bucket words trace home depth c.loop-depth.bucket rest inv.0 c.in-Some.number (c.in-Some.ensures.some ∙ c.item.ensures) few),
+        subst (λ n. IsBucketIn words trace home (depth + 1) (n + c.in-Some.number)) (sym same)
+            (next_bucket words trace home depth c.loop-depth.bucket rest inv.0 c.in-Some.number
+            (c.in-Some.ensures.some ∙ c.item.ensures) few),
         λ lists. lists_bucket (shape_of words) trace rest.lawful home depth c.list_bucket.new.pairs.items (c.in_ok-list_bucket.ensures.lists trace home depth rest inv.0 (inv.1 lists)),
       );
   few = let few = c.loop-depth.invariant.few in omega (arith, few, c.in_ok-list_bucket.ensures.few);
@@ -46,7 +48,8 @@ loop-depth-preserved c = record {
 pub returns : goal.returns
 returns c = record {
   lists = λ trace rest lists.
-      let deep = not_deeper c.args.words.now trace c.args.home c.loop-depth.depth c.loop-depth.bucket rest (c.loop-depth.invariant.lists trace rest).0 in let over = c.loop-depth-test.false in absurd (omega arith);
+      let deep = not_deeper c.args.words.now trace c.args.home c.loop-depth.depth c.loop-depth.bucket rest
+          (c.loop-depth.invariant.lists trace rest).0 in let over = c.loop-depth-test.false in absurd (omega arith);
   few = let up = c.loop-depth.auto.depth-end in let few = c.loop-depth.invariant.few in omega (arith, few, up);
   wanted = tt;
 }

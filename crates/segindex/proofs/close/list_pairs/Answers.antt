@@ -19,6 +19,8 @@ returns c = record {
       let past = c.loop-bucket-test.false in let up = c.loop-bucket.auto.bucket-end in
       let all : c.loop-bucket.bucket ≡ (shape_of words).buckets = omega arith in
       subst (λ n. IsListed words trace n 1 c.loop-bucket.pairs.items) all (c.loop-bucket.invariant.lists trace rest);
-  few = let past = c.loop-bucket-test.false in let up = c.loop-bucket.auto.bucket-end in let few = c.loop-bucket.invariant.few in let same = ap (λ (z : Shape). z.buckets) c.shape-bucket-end.ensures in omega (arith, few, past, up, same);
+  few = let past = c.loop-bucket-test.false in let up = c.loop-bucket.auto.bucket-end in
+      let few = c.loop-bucket.invariant.few in let same =
+      ap (λ (z : Shape). z.buckets) c.shape-bucket-end.ensures in omega (arith, few, past, up, same);
   wanted = tt;
 }

@@ -32,11 +32,15 @@ of_hold b key now hold.Miss p q is = is.answer.1
 of_hold b key now hold.Busy p q is = tt
 of_hold b key now hold.AlreadyHolding p q is = tt
 
-of_write : (b : Board) (request : Request) (told : WriteAnswer) (p q : Pass) → Writes b request told p q → (said : Option Reply) → reply_of_write told ≡ said → IfSome (effect_of_write request said) (λ effect. Had b.shape effect p q)
+of_write : (b : Board) (request : Request) (told : WriteAnswer) (p q : Pass) → Writes b request told p q
+    → (said : Option Reply) → reply_of_write told ≡ said
+    → IfSome (effect_of_write request said) (λ effect. Had b.shape effect p q)
 of_write b request told p q is None none = tt
 of_write b request told p q is (Some said) same = write_since b request told said p q is same
 
-of_delete : (b : Board) (key : List ℕ) (now : ℕ) (told : DeleteAnswer) (p q : Pass) → Deletes b key now told p q → (said : Option Reply) → reply_of_delete told ≡ said → IfSome (effect_of_write (Delete key now) said) (λ effect. Had b.shape effect p q)
+of_delete : (b : Board) (key : List ℕ) (now : ℕ) (told : DeleteAnswer) (p q : Pass) → Deletes b key now told p q
+    → (said : Option Reply) → reply_of_delete told ≡ said
+    → IfSome (effect_of_write (Delete key now) said) (λ effect. Had b.shape effect p q)
 of_delete b key now told p q is None none = tt
 of_delete b key now told p q is (Some said) same = delete_since b key now told said p q is same
 

@@ -54,11 +54,18 @@ returns-then-is_holding c = record {
 }
 
 pub returns-then-hit-now : goal.returns-then-hit-now
-returns-then-hit-now c = let b = c.args.board.now in let p = c.args.pass.now in let q = c.scan_for.new.pass in let r = c.leave_segment.new.pass in let f = c.in-Found in let hit = f.hit in let s = f.ensures.scan in let m = s.0 in let x = s.2 in
+returns-then-hit-now c = let b = c.args.board.now in let p = c.args.pass.now in let q = c.scan_for.new.pass in
+    let r = c.leave_segment.new.pass in let f = c.in-Found in let hit = f.hit in let s = f.ensures.scan in
+    let m = s.0 in let x = s.2 in
     let left = leaves b hit.item.seg q r c.leave_segment.ensures.moved in let reads = leave_then b m q r hit.item.seg x.reads c.leave_segment.ensures in record {
       holds = holds_none b c.args.key.now c.args.now Miss p m r c.requires.pass s.1 reads
-          (let most = paced_from b c.args.key.now p m q 1 s.1 x.tries f.ensures.steps in let away = c.leave_segment.ensures.steps in omega (arith, most, away)) (few_out m q r x.tries left) (left.1 ∙ x.only_scans)
-          (λ keeps. (keeps, since_look b p m r (λ start. ReadsBetween b.shape c.args.key.now c.args.now (event.seen start) (seen r) None) s.1 reads (expired_reads b c.args.key.now hit m q r c.args.now x.answer c.leave_segment.ensures (let past = c.if-hit-now.true in omega arith)))) (search rules);
+          (let most = paced_from b c.args.key.now p m q 1 s.1 x.tries f.ensures.steps in
+              let away = c.leave_segment.ensures.steps in omega (arith, most, away)) (few_out m q r x.tries left)
+              (left.1 ∙ x.only_scans)
+          (λ keeps. (keeps, since_look b p m r (λ start. ReadsBetween b.shape c.args.key.now c.args.now
+              (event.seen start) (seen r) None) s.1 reads
+              (expired_reads b c.args.key.now hit m q r c.args.now x.answer c.leave_segment.ensures (let past =
+              c.if-hit-now.true in omega arith)))) (search rules);
     }
 
 pub returns-else-hit-now : goal.returns-else-hit-now
@@ -70,7 +77,9 @@ returns-else-hit-now c =
     let read = enter_then b p m t hit.item.seg (looks b p m s.1.look) late in
     let found = found_from b.shape hit.place (item_word hit.item) key v.result (trace m) (trace t) (trace p) (up b key p m s.1) later in
     let starts = starts_on p m r (trace m) (look_starts b p m s.1) (steps_to m t r set.view late.reads.moved.steps) in
-    let holds = takes_hold b p t r hit.place hit.item key v.result (record { segment = hit.item.seg; row = hit.item.row }) c.requires.pass c.if-is_holding.ensures read found refl refl set.pass set.view set.sets c.args.now hit.deadline
+    let holds = takes_hold b p t r hit.place hit.item key v.result
+        (record { segment = hit.item.seg; row = hit.item.row }) c.requires.pass c.if-is_holding.ensures read found
+        refl refl set.pass set.view set.sets c.args.now hit.deadline
     (deadline_lasts b q t hit.item.seg hit.deadline v.ensures.reads.looked.did.moved (is_inside b m q hit.item.seg x.reads.reads) x.answer.1) c.if-hit-now.false (trace m) starts later.saw.between.0 in
     let held = Some (held_at b.shape (trace t) key v.result hit.item.seg) in
     let still = out_then q t r (looked b q t v.ensures.reads.looked.did.moved) (same_view t r set.view) in
@@ -94,12 +103,18 @@ returns-else-hit-now c =
 
 pub returns-in-Passed : goal.returns-in-Passed
 returns-in-Passed c = let b = c.args.board.now in let p = c.args.pass.now in let q = c.scan_for.new.pass in let s = c.in-Passed.ensures.scan in let m = s.0 in let x = s.2 in record {
-  holds = holds_none b c.args.key.now c.args.now Miss p m q c.requires.pass s.1 x.reads (let most = paced_from b c.args.key.now p m q 0 s.1 x.tries c.in-Passed.ensures.steps in omega (arith, most)) x.tries x.only_scans
-      (λ keeps. (keeps, since_look b p m q (λ start. ReadsBetween b.shape c.args.key.now c.args.now (event.seen start) (seen q) None) s.1 x.reads (gone_reads b.shape c.args.key.now c.args.now (trace m) (trace q) x.answer))) (search rules);
+  holds = holds_none b c.args.key.now c.args.now Miss p m q c.requires.pass s.1 x.reads (let most =
+      paced_from b c.args.key.now p m q 0 s.1 x.tries c.in-Passed.ensures.steps in
+      omega (arith, most)) x.tries x.only_scans
+      (λ keeps. (keeps, since_look b p m q (λ start. ReadsBetween b.shape c.args.key.now c.args.now
+          (event.seen start) (seen q) None) s.1 x.reads
+          (gone_reads b.shape c.args.key.now c.args.now (trace m) (trace q) x.answer))) (search rules);
 }
 
 pub returns-in-Busy : goal.returns-in-Busy
 returns-in-Busy c = let b = c.args.board.now in let p = c.args.pass.now in let q = c.scan_for.new.pass in let s = c.in-Busy.ensures.scan in let m = s.0 in let x = s.2 in record {
-  holds = holds_none b c.args.key.now c.args.now Busy p m q c.requires.pass s.1 x.reads (let most = paced_from b c.args.key.now p m q 0 s.1 x.tries c.in-Busy.ensures.steps in omega (arith, most)) x.tries x.only_scans
+  holds = holds_none b c.args.key.now c.args.now Busy p m q c.requires.pass s.1 x.reads (let most =
+      paced_from b c.args.key.now p m q 0 s.1 x.tries c.in-Busy.ensures.steps in
+      omega (arith, most)) x.tries x.only_scans
       (λ keeps. (keeps, since_look b p m q (λ start. 64 ≤ stirred b.shape c.args.key.now (event.seen start) (seen q)) s.1 x.reads (let more = x.answer in omega (arith, more)))) (search rules);
 }

@@ -15,7 +15,8 @@ returns c =
     let m = scan.0 in let is = scan.1.look.did.moved.pass in let from = position b.shape (trace m) (place_of bucket 1) in
     let x = whole_scan b c.args.key.now from v.result m v.new.pass (first_place b.shape c.args.key.now bucket (trace m) c.requires.pass.pass.valid home).1 is scan.2.0 scan.2.1 in record {
       reads = v.ensures.reads;
-      steps = chain_paced b c.args.key.now (position b.shape (trace p) (place_of bucket 1)) v.result p v.new.pass (first_place b.shape c.args.key.now bucket (trace p) c.requires.pass.pass.valid home).1
+      steps = chain_paced b c.args.key.now (position b.shape (trace p) (place_of bucket 1)) v.result p v.new.pass
+          (first_place b.shape c.args.key.now bucket (trace p) c.requires.pass.pass.valid home).1
           (scan_place b c.args.key.now from v.result m v.new.pass scan.2.0 scan.2.1) v.ensures.steps;
       scan = (m, scan.1, record { reads = scan.2.0; tries = x.1; only_scans = x.2; answer = x.0 });
     }

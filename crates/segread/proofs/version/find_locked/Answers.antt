@@ -11,7 +11,9 @@ use Rattle.segread.proofs.Striding.{scan_unset, strides, strides_left}
 use Rattle.segread.proofs.version.find_locked.Goals as goal
 
 pub returns-then-hit-now-clause-answer : goal.returns-then-hit-now-clause-answer
-returns-then-hit-now-clause-answer c = let b = c.args.board.now in let f = c.in-Found in let s = f.ensures.scan in let m = s.0 in let x = s.2 in let q = c.scan_for.new.pass in let r = c.leave_segment.new.pass in let out = leaves b f.hit.item.seg q r c.leave_segment.ensures.moved in (
+returns-then-hit-now-clause-answer c = let b = c.args.board.now in let f = c.in-Found in let s = f.ensures.scan in
+    let m = s.0 in let x = s.2 in let q = c.scan_for.new.pass in let r = c.leave_segment.new.pass in
+    let out = leaves b f.hit.item.seg q r c.leave_segment.ensures.moved in (
   m,
   s.1,
   record {
@@ -23,7 +25,9 @@ returns-then-hit-now-clause-answer c = let b = c.args.board.now in let f = c.in-
 )
 
 pub returns-else-hit-now-clause-answer : goal.returns-else-hit-now-clause-answer
-returns-else-hit-now-clause-answer c = let b = c.args.board.now in let f = c.in-Found in let s = f.ensures.scan in let m = s.0 in let x = s.2 in let q = c.scan_for.new.pass in let r = c.leave_segment.new.pass in let out = leaves b f.hit.item.seg q r c.leave_segment.ensures.moved in (
+returns-else-hit-now-clause-answer c = let b = c.args.board.now in let f = c.in-Found in let s = f.ensures.scan in
+    let m = s.0 in let x = s.2 in let q = c.scan_for.new.pass in let r = c.leave_segment.new.pass in
+    let out = leaves b f.hit.item.seg q r c.leave_segment.ensures.moved in (
   m,
   s.1,
   record {

@@ -18,7 +18,9 @@ loop-pass-preserved c =
     let quiet = All-rest (IsQuiet (board_of c.args.index.now)) pass _ _ steps.0 was.quiet in
     let fresh : IsFresh start.place start.value.now start.policy c.args.index.now pass c.new.result = record {
       cache = c.new.ensures.cache;
-      number = c.new.ensures.number ∙ (c.number-number.ensures ∙ (All-head (IsQuiet (board_of c.args.index.now)) pass _ (subst (All (IsQuiet (board_of c.args.index.now))) steps.0 was.quiet)).pass.numbered);
+      number = c.new.ensures.number ∙ (c.number-number.ensures
+          ∙ (All-head (IsQuiet (board_of c.args.index.now)) pass _
+          (subst (All (IsQuiet (board_of c.args.index.now))) steps.0 was.quiet)).pass.numbered);
       puts = c.new.ensures.value ∙ c.copy.ensures.value;
       none = c.new.ensures.counts;
       first = c.in_ok-client.client;

@@ -7,5 +7,7 @@ use Rattle.segreplay.proofs.run.read_all.Given as goal
 abbrev pub invariant-loop-read : goal.invariant-loop-read
 invariant-loop-read g l = record {
   works : g.S.Source.has_failed l.source ≡ false;
-  ran : (seen : List ℕ) × (made : List Turn) × g.S.Source.hands l.fn.source seen l.source × AllPlay made l.fn.players l.players × HasRead l.fn.reading.rules seen made l.reading × AddsLives made l.fn.lives l.lives;
+  ran : (seen : List ℕ) × (made : List Turn) × g.S.Source.hands l.fn.source seen l.source
+      × AllPlay made l.fn.players l.players × HasRead l.fn.reading.rules seen made l.reading
+      × AddsLives made l.fn.lives l.lives;
 }

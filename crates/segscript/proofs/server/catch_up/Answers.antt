@@ -5,7 +5,8 @@ use Rattle.segscript.proofs.Meetings.{catches_up, quiet_of, stays_there, written
 use Rattle.segscript.proofs.server.catch_up.Goals as goal
 
 pub returns-then-last-place : goal.returns-then-last-place
-returns-then-last-place c = stays_there (board_of c.args.index.now) c.args.last c.args.place c.args.passes.now.items c.if-last-place.true (quiet_of (board_of c.args.index.now) c.args.passes.now.items c.requires.quiet)
+returns-then-last-place c = stays_there (board_of c.args.index.now) c.args.last c.args.place c.args.passes.now.items
+    c.if-last-place.true (quiet_of (board_of c.args.index.now) c.args.passes.now.items c.requires.quiet)
 
 pub returns : goal.returns
 returns c =

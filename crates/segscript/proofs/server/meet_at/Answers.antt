@@ -15,7 +15,8 @@ returns-then-first-second c =
     let within : c.args.first < length front = (let less = c.if-first-second.true in let long = cut.ensures.front_len in omega arith) in
     let some : 0 < length back = (let second = c.requires.second in let long = cut.ensures.back_len in omega arith) in
     subst₂ (λ k old. HaveMet (board_of c.args.index.now) c.args.first k old (set front c.args.first c.meet.new.first ++ set back 0 c.meet.new.second)) cut.ensures.front_len (sym cut.ensures.value)
-    (met_onward (board_of c.args.index.now) front back c.args.first p q c.meet.new.first c.meet.new.second within (slice_get-get_or front c.args.first _ within) (slice_get-get_or back 0 _ some) c.meet.ensures.meets)
+    (met_onward (board_of c.args.index.now) front back c.args.first p q c.meet.new.first c.meet.new.second within
+        (slice_get-get_or front c.args.first _ within) (slice_get-get_or back 0 _ some) c.meet.ensures.meets)
 
 pub returns-else-first-second : goal.returns-else-first-second
 returns-else-first-second c =
@@ -28,4 +29,5 @@ returns-else-first-second c =
     let within : c.args.second < length front = (let not_less = c.if-first-second.false in let apart = c.requires.apart in let long = cut.ensures.front_len in omega arith) in
     let some : 0 < length back = (let first = c.requires.first in let long = cut.ensures.back_len in omega arith) in
     subst₂ (λ k old. HaveMet (board_of c.args.index.now) k c.args.second old (set front c.args.second met.new.second ++ set back 0 met.new.first)) cut.ensures.front_len (sym cut.ensures.value)
-    (met_back (board_of c.args.index.now) front back c.args.second p q met.new.second met.new.first within (slice_get-get_or front c.args.second _ within) (slice_get-get_or back 0 _ some) met.ensures.meets)
+    (met_back (board_of c.args.index.now) front back c.args.second p q met.new.second met.new.first within
+        (slice_get-get_or front c.args.second _ within) (slice_get-get_or back 0 _ some) met.ensures.meets)

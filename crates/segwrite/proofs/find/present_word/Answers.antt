@@ -12,7 +12,9 @@ pub returns-in_err-target : goal.returns-in_err-target
 returns-in_err-target g c = let b = c.args.board.now in let p = c.args.pass.now in
     let absent : c.own_word.result ≡ None = c.in_err-target.was in record {
       peeks = peeks_none b g.key p c.requires.0;
-      presents = subst (λ o. IsPresentWord b g.key c.args.now c.args.found o p) (sym c.from_residual.ensures) (none_present b g.key c.args.now p (own_none b g.key c.args.found p c.requires.1.1.1 (sym c.own_word.ensures ∙ absent)));
+      presents = subst (λ o. IsPresentWord b g.key c.args.now c.args.found o p) (sym c.from_residual.ensures)
+          (none_present b g.key c.args.now p (own_none b g.key c.args.found p c.requires.1.1.1
+          (sym c.own_word.ensures ∙ absent)));
       steps = omega arith;
     }
 
@@ -48,7 +50,8 @@ returns-clause-presents g c = let b = c.args.board.now in let p = c.args.pass.no
     let own = own_target b g.key c.args.found target p r.1.1.1 of in
     let word : item_word c.unwrap-item.result ≡ target.word = subst (λ o. IfSome o (λ item. item_word item ≡ target.word)) c.unwrap-item.ensures c.unpack.ensures.some in
     subst (λ o. IsPresentWord b g.key c.args.now c.args.found o c.leave_segment.new.pass) (sym c.then_some.ensures)
-    (tells_word b g.key target p r.0 own.0 own.1 c.unwrap-item.result word e.new.pass c.leave_segment.new.pass r.1.1.0 e.ensures.enters e.result e.ensures.deadline c.leave_segment.ensures c.args.now c.args.found of)
+    (tells_word b g.key target p r.0 own.0 own.1 c.unwrap-item.result word e.new.pass c.leave_segment.new.pass
+        r.1.1.0 e.ensures.enters e.result e.ensures.deadline c.leave_segment.ensures c.args.now c.args.found of)
 
 pub returns-clause-steps : goal.returns-clause-steps
 returns-clause-steps g c = let came = c.enter_segment-deadline.ensures.enters.steps in let left = c.leave_segment.ensures.steps in omega (arith, came, left)

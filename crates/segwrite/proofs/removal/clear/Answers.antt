@@ -15,7 +15,8 @@ loop-found-init g c = let r = c.requires in record {
 pub loop-found-preserved : goal.loop-found-preserved
 loop-found-preserved g c = let i = c.loop-found.invariant in let s = c.clear.ensures.step.1 in
     let high = c.in-Err.ensures.missed.higher i.clearing.earlier.0 i.clearing.earlier.1 in record {
-      clearing = retry_later c.args.board.now g.left.0 (unlink_event g.left.0 g.left.1) c.args.target.place c.loop-found.old c.in-Err.found c.args.pass.now c.loop-found.pass c.clear.new.pass i.clearing
+      clearing = retry_later c.args.board.now g.left.0 (unlink_event g.left.0 g.left.1) c.args.target.place
+          c.loop-found.old c.in-Err.found c.args.pass.now c.loop-found.pass c.clear.new.pass i.clearing
           (is_unlink g.left.0 g.left.1) c.in-Err.ensures.missed;
       tried = tried_later c.args.target.word c.loop-found.old c.in-Err.found c.args.pass.now c.loop-found.pass c.clear.new.pass i.tried high.0 high.1
           (let one = one_step c.args.board.now c.loop-found.pass c.clear.new.pass _ _ s in omega (arith, one));
@@ -25,7 +26,9 @@ loop-found-preserved g c = let i = c.loop-found.invariant in let s = c.clear.ens
 
 pub returns-clause-did : goal.returns-clause-did
 returns-clause-did g c =
-    came_about c.args.board.now g.left.0 (unlink_event g.left.0 g.left.1) c.args.target.place c.loop-found.old 0 c.args.pass.now c.loop-found.pass c.clear.new.pass c.loop-found.invariant.clearing c.in_default.ensures.cleared
+    came_about c.args.board.now g.left.0 (unlink_event g.left.0 g.left.1) c.args.target.place c.loop-found.old 0
+        c.args.pass.now c.loop-found.pass c.clear.new.pass c.loop-found.invariant.clearing
+        c.in_default.ensures.cleared
 
 pub returns-clause-steps : goal.returns-clause-steps
 returns-clause-steps g c =

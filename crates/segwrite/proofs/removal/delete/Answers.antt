@@ -11,7 +11,9 @@ use Rattle.segwrite.proofs.removal.delete.Goals as goal
 pub returns-then-not-take_to_write : goal.returns-then-not-take_to_write
 returns-then-not-take_to_write c = let b = c.args.board.now in let s = c.of-sought.ensures in
     let home = s.sought.bucket ∙ ap (bucket_of b.shape) s.key in
-    record { deletes = deletes_nothing b c.args.key.now c.args.now c.args.pass.now c.take_to_write.new.pass (subst (λ k. TakesToWrite b k false c.args.pass.now c.take_to_write.new.pass) home c.if-not-take_to_write.ensures.takes) c.take_to_write.ensures.steps }
+    record { deletes = deletes_nothing b c.args.key.now c.args.now c.args.pass.now c.take_to_write.new.pass
+        (subst (λ k. TakesToWrite b k false c.args.pass.now c.take_to_write.new.pass) home
+        c.if-not-take_to_write.ensures.takes) c.take_to_write.ensures.steps }
 
 pub remove-requires : goal.remove-requires
 remove-requires c = let b = c.args.board.now in let s = c.of-sought in let took = c.if-not-take_to_write.ensures.takes in let q = c.take_to_write.new.pass in
@@ -21,6 +23,8 @@ pub returns : goal.returns
 returns c = let b = c.args.board.now in let s = c.of-sought.ensures in
     let home = s.sought.bucket ∙ ap (bucket_of b.shape) s.key in
     record {
-      deletes = deletes b c.args.key.now c.args.now _ _ _ c.requires.quiet (subst (λ k. TookToWrite b k c.args.pass.now c.take_to_write.new.pass) home c.if-not-take_to_write.ensures.takes) c.take_to_write.ensures.steps c.remove.result
+      deletes = deletes b c.args.key.now c.args.now _ _ _ c.requires.quiet
+          (subst (λ k. TookToWrite b k c.args.pass.now c.take_to_write.new.pass) home
+          c.if-not-take_to_write.ensures.takes) c.take_to_write.ensures.steps c.remove.result
           (subst (λ k. Removes b (Delete k c.args.now) c.remove.result c.take_to_write.new.pass c.remove.new.pass) s.key c.remove.ensures.removes) c.remove.ensures.steps;
     }

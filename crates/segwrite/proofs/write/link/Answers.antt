@@ -17,7 +17,9 @@ loop-found-init g c = let b = c.args.board.now in let r = c.requires in let item
 pub loop-found-preserved : goal.loop-found-preserved
 loop-found-preserved g c = let i = c.loop-found.invariant in let s = c.replace.ensures.step.1 in let item = c.args.item in
     let high = c.in-Err.ensures.missed.higher i.linking.earlier.0 i.linking.earlier.1 in record {
-      linking = retry_later c.args.board.now (key_of g.request) (link_event g.request item.seg item.row) c.args.target.place c.loop-found.old c.in-Err.found c.args.pass.now c.loop-found.pass c.replace.new.pass i.linking
+      linking = retry_later c.args.board.now (key_of g.request) (link_event g.request item.seg item.row)
+          c.args.target.place c.loop-found.old c.in-Err.found c.args.pass.now c.loop-found.pass c.replace.new.pass
+          i.linking
           (is_link g.request item.seg item.row) c.in-Err.ensures.missed;
       tried = tried_later c.args.target.word c.loop-found.old c.in-Err.found c.args.pass.now c.loop-found.pass c.replace.new.pass i.tried high.0 high.1
           (let one = one_step c.args.board.now c.loop-found.pass c.replace.new.pass _ _ s in omega (arith, one));
@@ -27,7 +29,9 @@ loop-found-preserved g c = let i = c.loop-found.invariant in let s = c.replace.e
 
 pub returns-clause-did : goal.returns-clause-did
 returns-clause-did g c = let item = c.args.item in
-    came_about c.args.board.now (key_of g.request) (link_event g.request item.seg item.row) c.args.target.place c.loop-found.old 0 c.args.pass.now c.loop-found.pass c.replace.new.pass c.loop-found.invariant.linking c.in_default.ensures.replaced
+    came_about c.args.board.now (key_of g.request) (link_event g.request item.seg item.row) c.args.target.place
+        c.loop-found.old 0 c.args.pass.now c.loop-found.pass c.replace.new.pass c.loop-found.invariant.linking
+        c.in_default.ensures.replaced
 
 pub returns-then-target-eq0-clause-steps : goal.returns-then-target-eq0-clause-steps
 returns-then-target-eq0-clause-steps g c = let one = one_step c.args.board.now c.args.pass.now c.link.new.pass _ _ c.link.ensures.step.1 in omega (arith, one)

@@ -5,4 +5,6 @@ use Rattle.segbase.proofs.Dealt.{rule_opens}
 use Rattle.segbase.proofs.board.Board.make.Goals as goal
 
 pub of_words-requires : goal.of_words-requires
-of_words-requires c = subst (λ (words : List ℕ). Rule c.args.shape (opening words [] first_sight)) (sym c.as_slice.ensures.value) (rule_opens (Unit {0}) c.args.shape c.in_ok-words.words.items c.requires c.in_ok-words.ensures)
+of_words-requires c = subst (λ (words : List ℕ). Rule c.args.shape (opening words [] first_sight))
+    (sym c.as_slice.ensures.value) (rule_opens (Unit {0}) c.args.shape c.in_ok-words.words.items c.requires
+    c.in_ok-words.ensures)

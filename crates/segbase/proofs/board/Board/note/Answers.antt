@@ -11,4 +11,5 @@ split_seat-requires c =
 
 pub returns-clause-pass : goal.returns-clause-pass
 returns-clause-pass c = let split = c.split_seat.ensures in
-    (as_was c.args.self.now c.args.pass.now (record { seat = c.split_seat.new.seat; plain = c.args.pass.now.plain }) c.requires.pass split.0 split.2 refl, ap (λ (m : Me (Unit {0}) Sight). m.0) split.2, refl)
+    (as_was c.args.self.now c.args.pass.now (record { seat = c.split_seat.new.seat; plain = c.args.pass.now.plain })
+        c.requires.pass split.0 split.2 refl, ap (λ (m : Me (Unit {0}) Sight). m.0) split.2, refl)

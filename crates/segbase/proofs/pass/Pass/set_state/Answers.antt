@@ -4,4 +4,6 @@ use Rattle.segbase.proofs.Owned.{state_there}
 use Rattle.segbase.proofs.pass.Pass.set_state.Goals as goal
 
 pub returns : goal.returns
-returns c = ap (λ x. record c.args.self.now { plain = x }) (changes c.args.self.now.plain c.args.segment (λ own. record own { state = c.args.state }) c.index_mut.result.now (sym (state_there _) ∙ c.requires.own) c.index_mut.ensures.value)
+returns c = ap (λ x. record c.args.self.now { plain = x })
+    (changes c.args.self.now.plain c.args.segment (λ own. record own { state = c.args.state })
+    c.index_mut.result.now (sym (state_there _) ∙ c.requires.own) c.index_mut.ensures.value)

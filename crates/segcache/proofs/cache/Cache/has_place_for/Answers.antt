@@ -22,7 +22,9 @@ returns-then-not-has_place_for c =
     let below : place < length homes = omega (arith, test, end) in
     let out : c.has_place_for.result ≡ false = search rules in (
       λ e. absurd (false≢true e),
-      λ zip. absurd (false≢true (sym out ∙ c.has_place_for.ensures.1 (at_place HasPlaceFor homes guests place c.index.result.now c.index-in-loop-place.result.now below c.index.ensures c.index-in-loop-place.ensures zip))),
+      λ zip. absurd (false≢true (sym out ∙ c.has_place_for.ensures.1
+          (at_place HasPlaceFor homes guests place c.index.result.now c.index-in-loop-place.result.now below
+          c.index.ensures c.index-in-loop-place.ensures zip))),
     )
 
 pub loop-place-preserved : goal.loop-place-preserved

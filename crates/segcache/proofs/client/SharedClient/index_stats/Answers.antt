@@ -35,7 +35,9 @@ loop-place-preserved c =
       record {
         long = length-set new place is ∙ was.long;
         rest = same_rest old new place is was.rest;
-        made = three_next (λ a was is. of_guest.MakesCall (ReturnsTable a) was is) each old new place told c.index_mut.result.now is below was.long was.rest c.index_mut.ensures.value was.made c.index_stats-stats.ensures;
+        made = three_next (λ a was is. of_guest.MakesCall (ReturnsTable a) was is) each old new place told
+            c.index_mut.result.now is below was.long was.rest c.index_mut.ensures.value was.made
+            c.index_stats-stats.ensures;
         sums = c.table_sum-sum.ensures ∙ ap (λ s. table_sum s told) was.sums ∙ sym (table_more each told);
         wants = was.wants;
         holds = was.holds;

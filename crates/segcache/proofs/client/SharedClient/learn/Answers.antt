@@ -37,7 +37,8 @@ index_mut-requires c =
     let new = c.loop-note.self.guests in
     let have = new.ok.0 in
     let split = was.all ∙ ap (λ l. c.loop-note.yielded ++ l) c.in-Some.ensures.steps.0 in
-    let below = within IsFor c.args.self.now.guests.items new.items c.args.notes.items c.loop-note.yielded c.in-Some.note (into_iter_items c.next.new.self) c.loop-note.place was.at was.long split c.requires.notes in
+    let below = within IsFor c.args.self.now.guests.items new.items c.args.notes.items c.loop-note.yielded
+        c.in-Some.note (into_iter_items c.next.new.self) c.loop-note.place was.at was.long split c.requires.notes in
     omega (arith, below, have)
 
 pub learn-requires : goal.learn-requires
@@ -45,7 +46,9 @@ learn-requires c =
     let was = c.loop-note.invariant in
     let split = was.all ∙ ap (λ l. c.loop-note.yielded ++ l) c.in-Some.ensures.steps.0 in
     record {
-      note = there IsFor c.args.self.now.guests.items c.loop-note.self.guests.items c.args.notes.items c.loop-note.yielded c.in-Some.note (into_iter_items c.next.new.self) c.loop-note.place c.index_mut.result.now was.at was.rest split c.requires.notes c.index_mut.ensures.value;
+      note = there IsFor c.args.self.now.guests.items c.loop-note.self.guests.items c.args.notes.items
+          c.loop-note.yielded c.in-Some.note (into_iter_items c.next.new.self) c.loop-note.place
+          c.index_mut.result.now was.at was.rest split c.requires.notes c.index_mut.ensures.value;
     }
 
 pub loop-note-preserved : goal.loop-note-preserved

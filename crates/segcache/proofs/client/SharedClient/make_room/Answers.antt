@@ -16,7 +16,9 @@ returns-then-made c =
     let have = self.guests.ok.0 in
     let below : place < length self.guests.items = omega (arith, wanted, have) in
     let is : c.make_room-made.result ≡ true = search rules in
-    makes_room_in c.args.now c.make_room-made.result self _ place c.index_mut-guest.result.now c.make_room-made.new.self c.in-Some.is below c.index_mut-guest.ensures.value c.make_room-made.ensures refl refl
+    makes_room_in c.args.now c.make_room-made.result self _ place c.index_mut-guest.result.now
+        c.make_room-made.new.self c.in-Some.is below c.index_mut-guest.ensures.value c.make_room-made.ensures refl
+        refl
     (ap (λ made. wants_after made self.wants) (sym is))
 
 pub returns-else-made : goal.returns-else-made
@@ -27,5 +29,7 @@ returns-else-made c =
     let have = self.guests.ok.0 in
     let below : place < length self.guests.items = omega (arith, wanted, have) in
     let is : c.make_room-made.result ≡ false = search rules in
-    makes_room_in c.args.now c.make_room-made.result self _ place c.index_mut-guest.result.now c.make_room-made.new.self c.in-Some.is below c.index_mut-guest.ensures.value c.make_room-made.ensures refl refl
+    makes_room_in c.args.now c.make_room-made.result self _ place c.index_mut-guest.result.now
+        c.make_room-made.new.self c.in-Some.is below c.index_mut-guest.ensures.value c.make_room-made.ensures refl
+        refl
     (ap (λ made. wants_after made self.wants) (sym is))

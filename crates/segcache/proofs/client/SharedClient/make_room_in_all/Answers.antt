@@ -36,7 +36,9 @@ loop-place-preserved c =
       record {
         long = length-set new place is ∙ was.long;
         rest = same_rest old new place is was.rest;
-        made = three_next (λ a was is. of_guest.MakesCall (of_guest.At c.args.now (MakesRoomFor a)) was is) each old new place made c.index_mut.result.now is below was.long was.rest c.index_mut.ensures.value was.made c.make_room-made.ensures;
+        made = three_next (λ a was is. of_guest.MakesCall (of_guest.At c.args.now (MakesRoomFor a)) was is) each old
+            new place made c.index_mut.result.now is below was.long was.rest c.index_mut.ensures.value was.made
+            c.make_room-made.ensures;
         all = ap (λ (b : Bool). b && made) was.all ∙ sym (fold_push (λ (b one : Bool). b && one) true each made);
         wants = was.wants;
         holds = was.holds;
@@ -55,6 +57,8 @@ returns c =
     let within = c.loop-place.auto.place-end in
     record {
       each = each;
-      calls = (all_three (λ a was is. of_guest.MakesCall (of_guest.At c.args.now (MakesRoomFor a)) was is) each old new place (omega (arith, end, over, within)) was.long was.made, record { wants = was.wants; holds = was.holds });
+      calls = (all_three (λ a was is. of_guest.MakesCall (of_guest.At c.args.now (MakesRoomFor a)) was is) each old
+          new place (omega (arith, end, over, within)) was.long was.made,
+          record { wants = was.wants; holds = was.holds });
       all = was.all;
     }

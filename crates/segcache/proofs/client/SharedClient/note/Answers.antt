@@ -19,7 +19,8 @@ loop-place-init c =
       room = omega (arith, room, end);
       long = refl;
       rest = refl;
-      made = subst (λ (l : List Note). AllThree (λ a was is. of_guest.MakesCall (Notes a) was is) l [] []) (sym {A = List Note} made.items) (three_none (λ a was is. of_guest.MakesCall (Notes a) was is));
+      made = subst (λ (l : List Note). AllThree (λ a was is. of_guest.MakesCall (Notes a) was is) l [] [])
+          (sym {A = List Note} made.items) (three_none (λ a was is. of_guest.MakesCall (Notes a) was is));
       wants = refl;
       holds = refl;
     }
@@ -43,8 +44,10 @@ loop-place-preserved c =
       room = omega (arith, pushed.capacity, room);
       long = length-set new place is ∙ was.long;
       rest = same_rest old new place is was.rest;
-      made = subst (λ (l : List Note). AllThree (λ a was is. of_guest.MakesCall (Notes a) was is) l (take (place + 1) old) (take (place + 1) (slice_set new place is))) (sym {A = List Note} pushed.items)
-          (three_next (λ a was is. of_guest.MakesCall (Notes a) was is) c.loop-place.notes.items old new place note c.index_mut.result.now is below was.long was.rest c.index_mut.ensures.value was.made c.note.ensures);
+      made = subst (λ (l : List Note). AllThree (λ a was is. of_guest.MakesCall (Notes a) was is) l
+          (take (place + 1) old) (take (place + 1) (slice_set new place is))) (sym {A = List Note} pushed.items)
+          (three_next (λ a was is. of_guest.MakesCall (Notes a) was is) c.loop-place.notes.items old new place note
+              c.index_mut.result.now is below was.long was.rest c.index_mut.ensures.value was.made c.note.ensures);
       wants = was.wants;
       holds = was.holds;
     }

@@ -18,7 +18,9 @@ loop-place-preserved c =
     record {
       long = length-set new place is ∙ was.long;
       rest = same_rest old new place is was.rest;
-      made = zip_next (of_guest.MakesCall (λ board. SetsTimeToLive c.args.seconds)) old new place c.index_mut.result.now is below was.long was.rest c.index_mut.ensures.value was.made c.set_time_to_live.ensures;
+      made = zip_next (of_guest.MakesCall (λ board. SetsTimeToLive c.args.seconds)) old new place
+          c.index_mut.result.now is below was.long was.rest c.index_mut.ensures.value was.made
+          c.set_time_to_live.ensures;
       wants = was.wants;
       holds = was.holds;
     }

@@ -15,7 +15,8 @@ returns-in-Refused c = record {
   among = c.pop.new.self.items;
   homes = c.in-Some.ensures.items;
   is_refusal = c.in-Refused.ensures.1;
-  same = put_back c.args.self.now.homes.items c.pop.new.self.items c.push_reserved.new.self.items c.in-Some.home c.in-Refused.home c.in-Some.ensures.items c.push_reserved.ensures.items c.in-Refused.ensures.0;
+  same = put_back c.args.self.now.homes.items c.pop.new.self.items c.push_reserved.new.self.items c.in-Some.home
+      c.in-Refused.home c.in-Some.ensures.items c.push_reserved.ensures.items c.in-Refused.ensures.0;
   pairs = c.new.ensures.items;
 }
 

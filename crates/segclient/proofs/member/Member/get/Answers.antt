@@ -7,4 +7,6 @@ returns-clause-member c =
     let b = board_of c.args.index.now in
     let old = c.args.self.now in
     let call = c.get-told in
-    member_goes c.args.index.now old call.new.pass c.requires.member call.ensures.reads.on (nothing_stays b old.pass call.new.pass c.requires.member.0 call.ensures.reads.on call.ensures.reads.keeps.entries)
+    member_goes c.args.index.now old call.new.pass c.requires.member call.ensures.reads.on
+        (nothing_stays b old.pass call.new.pass c.requires.member.0 call.ensures.reads.on
+        call.ensures.reads.keeps.entries)

@@ -7,4 +7,6 @@ returns-clause-member c =
     let b = board_of c.args.share.now.index.value in
     let old = c.args.self.now in
     let call = c.hold in
-    member_goes c.args.share.now.index.value old call.new.pass c.requires.member call.ensures.holds.holds.on (hold_stays b old.pass call.new.pass c.requires.member.0 _ _ call.ensures.holds.answer call.ensures.holds.holds)
+    member_goes c.args.share.now.index.value old call.new.pass c.requires.member call.ensures.holds.holds.on
+        (hold_stays b old.pass call.new.pass c.requires.member.0 _ _ call.ensures.holds.answer
+        call.ensures.holds.holds)

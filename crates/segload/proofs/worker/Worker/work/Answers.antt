@@ -45,7 +45,9 @@ returns-then-not-enter g c =
           below = c.loop-call-test.true;
           until = subst (LetsThrough (g.G.Gate.may_answer c.args.gate.now) c.loop-call.call) pass was.let_through;
           told_of = subst (IsToldOf (g.G.Gate.told c.args.gate.now) c.loop-call.call) pass was.told_of;
-          stopped = subst (λ n. g.G.Gate.may_answer c.args.gate.now n c.loop-call.call false) pass (subst (g.G.Gate.may_answer c.args.gate.now c.number-pass.result c.loop-call.call) c.if-not-enter.true c.enter.ensures);
+          stopped = subst (λ n. g.G.Gate.may_answer c.args.gate.now n c.loop-call.call false) pass
+              (subst (g.G.Gate.may_answer c.args.gate.now c.number-pass.result c.loop-call.call) c.if-not-enter.true
+              c.enter.ensures);
         },
         record { quiet = was.at_work.quiet; workload = was.at_work.workload; calls = was.at_work.calls; all = was.at_work.all; counts = was.at_work.counts; few = was.at_work.few },
       );

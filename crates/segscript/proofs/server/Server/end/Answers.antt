@@ -15,9 +15,12 @@ there passes holds rest hold p n few items len value =
     let here : n ≡ length rest.items = len ∙ rest.ok.0 in
     ap (slice_get passes.items) (sym here) ∙ slice_get_read passes.items (length passes.items) n p refl (omega arith) value
 
-idle : (b : Board) (passes : Vec Pass Global) (holds rest : Vec (Option Hold) Global) (hold : Option Hold) (p : Pass) (n : ℕ) → AreInOrder b passes.items holds.items → length holds.items ≤ length passes.items
+idle : (b : Board) (passes : Vec Pass Global) (holds rest : Vec (Option Hold) Global) (hold : Option Hold)
+    (p : Pass) (n : ℕ) → AreInOrder b passes.items holds.items → length holds.items ≤ length passes.items
     → holds.items ≡ rest.items ++ hold ∷ [] → n ≡ rest.len → p ≡ slice_index_or passes.items n p → IsIdle b hold p
-idle b passes holds rest hold p n in_order few items len value = last_idle b passes.items rest.items hold p (subst (AreInOrder b passes.items) items in_order) (there passes holds rest hold p n few items len value)
+idle b passes holds rest hold p n in_order few items len value =
+    last_idle b passes.items rest.items hold p (subst (AreInOrder b passes.items) items in_order)
+    (there passes holds rest hold p n few items len value)
 
 pub loop-hold-init : goal.loop-hold-init
 loop-hold-init c =
@@ -40,10 +43,14 @@ index_mut-requires c =
     omega arith
 
 pub leave-requires-clause-quiet : goal.leave-requires-clause-quiet
-leave-requires-clause-quiet c = (idle c.args.self.index.now.board c.loop-hold.passes c.loop-hold.holds c.pop.new.self c.in-Some.hold c.index_mut.result.now c.len.result c.loop-hold.invariant.in_order c.loop-hold.invariant.few c.in-Some.ensures.items c.len.ensures c.index_mut.ensures.value).quiet
+leave-requires-clause-quiet c = (idle c.args.self.index.now.board c.loop-hold.passes c.loop-hold.holds
+    c.pop.new.self c.in-Some.hold c.index_mut.result.now c.len.result c.loop-hold.invariant.in_order
+    c.loop-hold.invariant.few c.in-Some.ensures.items c.len.ensures c.index_mut.ensures.value).quiet
 
 pub leave-requires-clause-hold : goal.leave-requires-clause-hold
-leave-requires-clause-hold c = (idle c.args.self.index.now.board c.loop-hold.passes c.loop-hold.holds c.pop.new.self c.in-Some.hold c.index_mut.result.now c.len.result c.loop-hold.invariant.in_order c.loop-hold.invariant.few c.in-Some.ensures.items c.len.ensures c.index_mut.ensures.value).hold
+leave-requires-clause-hold c = (idle c.args.self.index.now.board c.loop-hold.passes c.loop-hold.holds c.pop.new.self
+    c.in-Some.hold c.index_mut.result.now c.len.result c.loop-hold.invariant.in_order c.loop-hold.invariant.few
+    c.in-Some.ensures.items c.len.ensures c.index_mut.ensures.value).hold
 
 pub loop-hold-preserved : goal.loop-hold-preserved
 loop-hold-preserved c =
@@ -60,9 +67,15 @@ loop-hold-preserved c =
     record {
       all = length-set passes c.len.result q ∙ before.all;
       few = let few = before.few in let same = length-set passes c.len.result q in omega arith;
-      in_order = subst (λ n. AreInOrder b (set passes n q) rest.items) (sym here) (rest_in_order b passes rest.items c.in-Some.hold q (subst (AreInOrder b passes) c.in-Some.ensures.items before.in_order));
-      left = subst (λ n. NoneKeepsFrom (length rest.items) (set passes n q)) (sym here) (one_more_left passes (length rest.items) q c.leave.ensures.left (subst (λ n. NoneKeepsFrom n passes) more before.left));
-      leave = subst (λ n. LeftFrom b (length rest.items) old (set passes n q)) (sym here) (one_left b (length rest.items) old passes p q (subst (λ n. LeftFrom b n old passes) more before.leave) at c.leave.ensures.leaves);
+      in_order = subst (λ n. AreInOrder b (set passes n q) rest.items) (sym here)
+          (rest_in_order b passes rest.items c.in-Some.hold q
+          (subst (AreInOrder b passes) c.in-Some.ensures.items before.in_order));
+      left = subst (λ n. NoneKeepsFrom (length rest.items) (set passes n q)) (sym here)
+          (one_more_left passes (length rest.items) q c.leave.ensures.left
+          (subst (λ n. NoneKeepsFrom n passes) more before.left));
+      leave = subst (λ n. LeftFrom b (length rest.items) old (set passes n q)) (sym here)
+          (one_left b (length rest.items) old passes p q (subst (λ n. LeftFrom b n old passes) more before.leave) at
+          c.leave.ensures.leaves);
     }
 
 pub returns-clause-all : goal.returns-clause-all

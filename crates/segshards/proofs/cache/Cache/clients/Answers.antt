@@ -36,7 +36,9 @@ loop-init c =
       are = c.requires.passes;
       new = All-same New _ _ made.items (All-nil New);
       dealt = λ shape are_new.
-          let all = subst (λ (l : Vec Pass). length l.items ≡ shape.passes) (sym c.index.ensures) (new_long shape c.args.self.now.shards.items lists are_new 0 first (omega (arith, long, some, have))) in (
+          let all = subst (λ (l : Vec Pass). length l.items ≡ shape.passes) (sym c.index.ensures)
+              (new_long shape c.args.self.now.shards.items lists are_new 0 first (omega (arith, long, some, have)))
+              in (
             subst (λ (l : List Client). AreDealt shape c.args.self.now.shards.items lists l 0) (sym {A = List Client} made.items) (none_dealt shape c.args.self.now.shards.items lists are_new),
             omega (arith, all, its, threads),
           );
@@ -51,7 +53,9 @@ returns-clause-all c = λ shape are_new.
     let within = c.loop.auto.counter-end in
     all_dealt shape shards c.loop.lists.items c.loop.clients.items c.loop.counter dealt.0 (elim c.loop-test.branch [
       | else-loop-test w ↦ let over = w.loop-test in omega (arith, over, within, threads)
-      | then-loop-test+in_ok-client+in_default w ↦ none_left shape shards c.loop.lists.items c.loop.clients.items c.loop.counter dealt.0 (subst (λ f. IfNone f (Any (λ (l : Vec Pass). l.items ≡ []) c.loop.lists.items)) w.in_default.is w.in_ok-client.ensures.none)
+      | then-loop-test+in_ok-client+in_default w ↦ none_left shape shards c.loop.lists.items c.loop.clients.items
+          c.loop.counter dealt.0 (subst (λ f. IfNone f (Any (λ (l : Vec Pass). l.items ≡ []) c.loop.lists.items))
+          w.in_default.is w.in_ok-client.ensures.none)
     ]) was.new
 
 pub loop-preserved : goal.loop-preserved

@@ -37,8 +37,12 @@ loop-index-preserved c =
       can = tt;
       finite = tt;
       room = omega (arith, steps.1, pushed.len, pushed.capacity);
-      shards = one_came index_in c.loop-index.whole.items c.push_reserved.new.self.items c.new.result c.in-Some.index (into_iter_items c.loop-index.index-iterator) (into_iter_items c.next.new.self) c.args.self.shards.items pushed.items c.new.ensures.index steps.0 was.shards;
-      passes = one_came passes_in c.loop-index.whole.items c.push_reserved.new.self.items c.new.result c.in-Some-next.passes (into_iter_items c.loop-index.lists) (into_iter_items c.next-in-loop-index.new.self) c.args.lists.items pushed.items c.new.ensures.passes c.in-Some-next.ensures.items was.passes;
+      shards = one_came index_in c.loop-index.whole.items c.push_reserved.new.self.items c.new.result
+          c.in-Some.index (into_iter_items c.loop-index.index-iterator) (into_iter_items c.next.new.self)
+          c.args.self.shards.items pushed.items c.new.ensures.index steps.0 was.shards;
+      passes = one_came passes_in c.loop-index.whole.items c.push_reserved.new.self.items c.new.result
+          c.in-Some-next.passes (into_iter_items c.loop-index.lists) (into_iter_items c.next-in-loop-index.new.self)
+          c.args.lists.items pushed.items c.new.ensures.passes c.in-Some-next.ensures.items was.passes;
       all = both.1;
     }
 

@@ -69,7 +69,9 @@ loop-shard-preserved c =
       at = omega (arith, at, parts);
       long = length-set new place is ∙ was.long;
       rest = same_rest old new place is was.rest;
-      added = three_next is_added yielded old new place shard one is here was.long was.rest c.index_mut.ensures.value was.added (c.in_ok-push.ensures.items ∙ ap (λ p. one.items ++ p ∷ []) c.into_pass.ensures);
+      added = three_next is_added yielded old new place shard one is here was.long was.rest
+          c.index_mut.ensures.value was.added (c.in_ok-push.ensures.items
+          ∙ ap (λ p. one.items ++ p ∷ []) c.into_pass.ensures);
     }
 
 pub returns : goal.returns
@@ -85,5 +87,7 @@ returns c =
     let at = was.at in
     let long = c.requires.long in
     record {
-      added = subst (λ (l : List one.Client). AreAdded l old new) (sym {A = List one.Client} all) (all_three is_added yielded old new c.loop-shard.place (omega (arith, same, at, long)) was.long was.added);
+      added = subst (λ (l : List one.Client). AreAdded l old new) (sym {A = List one.Client} all)
+          (all_three is_added yielded old new c.loop-shard.place (omega (arith, same, at, long)) was.long
+          was.added);
     }

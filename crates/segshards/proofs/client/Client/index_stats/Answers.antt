@@ -39,9 +39,14 @@ loop-place-preserved c =
       record {
         long = length-set new place is ∙ was.long;
         rest = same_rest old new place is was.rest;
-        made = three_next (λ a was is. of_one.MakesCall (ReturnsTable a) was is) each old new place told c.index_mut.result.now is below was.long was.rest c.index_mut.ensures.value was.made c.index_stats-stats.ensures.reads;
+        made = three_next (λ a was is. of_one.MakesCall (ReturnsTable a) was is) each old new place told
+            c.index_mut.result.now is below was.long was.rest c.index_mut.ensures.value was.made
+            c.index_stats-stats.ensures.reads;
         sums = c.table_sum-sum.ensures ∙ ap (λ s. table_sum s told) was.sums ∙ sym (table_more each told);
-        same = map-set_same seat_of new place is c.index_mut.result.now (call_same (ReturnsTable told) c.index_mut.result.now is (λ b x y made. made.counts.keeps.settings.number) c.index_stats-stats.ensures.reads ∙ ap seat_of c.index_mut.ensures.value) ∙ was.same;
+        same = map-set_same seat_of new place is c.index_mut.result.now
+            (call_same (ReturnsTable told) c.index_mut.result.now is
+            (λ b x y made. made.counts.keeps.settings.number) c.index_stats-stats.ensures.reads
+            ∙ ap seat_of c.index_mut.ensures.value) ∙ was.same;
         clock = was.clock;
         holds = was.holds;
       },

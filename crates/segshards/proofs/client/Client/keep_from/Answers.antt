@@ -20,7 +20,8 @@ loop-place-preserved c =
     record {
       long = length-set new place is ∙ was.long;
       rest = same_rest old new place is was.rest;
-      made = zip_next (of_one.MakesCall (λ board. SetsCutoff c.args.cutoff)) old new place c.index_mut.result.now is below was.long was.rest c.index_mut.ensures.value was.made c.keep_from.ensures.sets;
+      made = zip_next (of_one.MakesCall (λ board. SetsCutoff c.args.cutoff)) old new place c.index_mut.result.now is
+          below was.long was.rest c.index_mut.ensures.value was.made c.keep_from.ensures.sets;
       clock = was.clock;
       holds = was.holds;
     }

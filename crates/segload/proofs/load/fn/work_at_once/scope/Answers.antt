@@ -37,14 +37,17 @@ loop-worker-init g c =
 
 pub spawn_with-requires-clause-runs : goal.spawn_with-requires-clause-runs
 spawn_with-requires-clause-runs g c =
-    let begins = first_begins c.captures.index.now.board c.captures.plan (c.len-count.result - into_iter_len c.loop-worker.worker-iterator) c.in-Some.worker (into_iter_items c.next.new.self) (into_iter_items c.loop-worker.worker-iterator)
+    let begins = first_begins c.captures.index.now.board c.captures.plan
+        (c.len-count.result - into_iter_len c.loop-worker.worker-iterator) c.in-Some.worker
+        (into_iter_items c.next.new.self) (into_iter_items c.loop-worker.worker-iterator)
     c.in-Some.ensures.steps.0 c.loop-worker.invariant.rest in
     search rules
 
 pub spawn_with-requires-clause-keeps : goal.spawn_with-requires-clause-keeps
 spawn_with-requires-clause-keeps g c =
     let b = c.captures.index.now.board in
-    let begins = first_begins b c.captures.plan (c.len-count.result - into_iter_len c.loop-worker.worker-iterator) c.in-Some.worker (into_iter_items c.next.new.self) (into_iter_items c.loop-worker.worker-iterator)
+    let begins = first_begins b c.captures.plan (c.len-count.result - into_iter_len c.loop-worker.worker-iterator)
+        c.in-Some.worker (into_iter_items c.next.new.self) (into_iter_items c.loop-worker.worker-iterator)
     c.in-Some.ensures.steps.0 c.loop-worker.invariant.rest in
     let is = c.number.ensures ∙ begins.0.at_work.quiet.pass.numbered in
     let may_answer = g.G.Gate.may_answer c.captures.gate.now in
@@ -73,7 +76,9 @@ loop-worker-preserved-in-Ok g c =
       finite = tt;
       room = let room = was.room in omega (arith, pushed.capacity);
       few = omega (arith, pushed.len, steps.1);
-      rest = rest_begin b c.captures.plan gone (c.len-count.result - into_iter_len c.next.new.self) c.in-Some.worker (into_iter_items c.next.new.self) (into_iter_items c.loop-worker.worker-iterator) steps.0 (omega (arith, steps.1)) was.rest;
+      rest = rest_begin b c.captures.plan gone (c.len-count.result - into_iter_len c.next.new.self) c.in-Some.worker
+          (into_iter_items c.next.new.self) (into_iter_items c.loop-worker.worker-iterator) steps.0
+          (omega (arith, steps.1)) was.rest;
       ours = subst (AllAt (Ours b c.captures.gate.now c.captures.plan)) (sym pushed.items)
           (all_pushed (Ours b c.captures.gate.now c.captures.plan) threads.items c.in-Ok.thread was.ours (ap (λ p. p.index.now.board) of, ap (λ p. p.gate.now) of, ap (λ p. p.plan) of));
       in_order = λ all. subst (AllAt InOrder) (sym pushed.items)
@@ -93,7 +98,9 @@ loop-worker-preserved-in_default g c =
       finite = tt;
       room = was.room;
       few = omega (arith, steps.1);
-      rest = rest_begin b c.captures.plan gone (c.len-count.result - into_iter_len c.next.new.self) c.in-Some.worker (into_iter_items c.next.new.self) (into_iter_items c.loop-worker.worker-iterator) steps.0 (omega (arith, steps.1)) was.rest;
+      rest = rest_begin b c.captures.plan gone (c.len-count.result - into_iter_len c.next.new.self) c.in-Some.worker
+          (into_iter_items c.next.new.self) (into_iter_items c.loop-worker.worker-iterator) steps.0
+          (omega (arith, steps.1)) was.rest;
       ours = was.ours;
       in_order = λ e. absurd (omega (arith, steps.1));
     }
@@ -115,6 +122,11 @@ returns g c =
           let kept = (joined.each n worker here).1 in
           let there = slice_get_read threads.items (vec_len threads) n kept.handle threads.ok.0 here kept.handle_is in
           let ours = was.ours n kept.handle there in
-          worked_there b c.captures.plan kept.handle.promise.index.now.board (g.G.Gate.may_answer c.captures.gate.now) (g.G.Gate.may_answer kept.handle.promise.gate.now) (g.G.Gate.told c.captures.gate.now) (g.G.Gate.told kept.handle.promise.gate.now) kept.handle.promise.plan n kept.handle.promise.pass worker (slice_index_or worked.items n worker)
-          ours.0 (ap (λ gate. g.G.Gate.may_answer gate) ours.1) (ap (λ gate. g.G.Gate.told gate) ours.1) ours.2 (was.in_order (omega (arith, all, over.0)) n kept.handle there) (get_or_from_slice_get worked.items n worker worker at) kept.kept,
+          worked_there b c.captures.plan kept.handle.promise.index.now.board
+              (g.G.Gate.may_answer c.captures.gate.now) (g.G.Gate.may_answer kept.handle.promise.gate.now)
+              (g.G.Gate.told c.captures.gate.now) (g.G.Gate.told kept.handle.promise.gate.now)
+              kept.handle.promise.plan n kept.handle.promise.pass worker (slice_index_or worked.items n worker)
+          ours.0 (ap (λ gate. g.G.Gate.may_answer gate) ours.1) (ap (λ gate. g.G.Gate.told gate) ours.1) ours.2
+              (was.in_order (omega (arith, all, over.0)) n kept.handle there)
+              (get_or_from_slice_get worked.items n worker worker at) kept.kept,
     )
