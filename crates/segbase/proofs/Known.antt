@@ -1,6 +1,5 @@
 -- What a pass knows of its segments after one of them was changed.
-use Rattle.std.proofs.Common.{◌≡◌, ◌≢◌, ℕ, zero, suc, ◌-◌, nat_le, cond, List, [], ◌∷◌, length, set, Option, Some,
-    None, IsSome, option_map, slice_get, slice_index_or, refl, sym, ap, ◌∙◌, subst, ⊎_elim, arith, length-set}
+use Rattle.std.proofs.Common.{◌≡◌, ◌≢◌, ℕ, zero, suc, ◌-◌, nat_le, cond, List, [], ◌∷◌, length, set, Option, Some, None, IsSome, option_map, slice_get, slice_index_or, refl, sym, ap, ◌∙◌, subst, ⊎_elim, arith, length-set}
 use Rattle.std.proofs.lemmas.Bool.{cases_Bool, cases_eq, cond-true, cond-false, leb-true, false≢true}
 use Rattle.std.proofs.lemmas.Option.{none-some, get_or_from_slice_get}
 use Rattle.std.specs.Global.{Vec}

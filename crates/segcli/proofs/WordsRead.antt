@@ -1,6 +1,5 @@
 -- What is read of the words, from what `clap` says of its matches and of its faults.
-use Rattle.std.proofs.Common.{◌≡◌, ◌∙◌, ◌==◌, length, ◌⊎◌, ◌||◌, Bool, cond, true, false, not, List, [], ◌∷◌,
-    Option, Some, None, Result, Ok, Err, IsSomeAnd, ap, refl, sym, subst, true≢false, inl, inr, map, codes}
+use Rattle.std.proofs.Common.{◌≡◌, ◌∙◌, ◌==◌, length, ◌⊎◌, ◌||◌, Bool, cond, true, false, not, List, [], ◌∷◌, Option, Some, None, Result, Ok, Err, IsSomeAnd, ap, refl, sym, subst, true≢false, inl, inr, map, codes}
 use Rattle.std.specs.Prelude.{⊤, Box, option_map}
 use Rattle.std.specs.List.{find, list_any}
 use Rattle.std.specs.Str.{bytes_eq}

@@ -1,4 +1,5 @@
--- What becomes of the item of a row in a keep: it is left, since no word names it or it was read too seldom; or it is moved, or no word named it any more under the bit; or there is no row or no bit for it.
+-- What becomes of the item of a row in a keep: it is left, since no word names it or it was read too seldom; or
+-- it is moved, or no word named it any more under the bit; or there is no row or no bit for it.
 use Rattle.std.proofs.Common.{◌≡◌, ◌≢◌, Bool, ℕ, ◌+◌, ◌*◌, ◌/◌, ◌%◌, ◌^◌, ◌<◌, ◌≤◌, true, false, eqb, List, [], ◌∷◌, ◌++◌, None, refl, sym, ap, ◌∙◌, subst, inl, inr, ⊎_elim, arith}
 use Rattle.std.proofs.lemmas.Bool.{cond-true, eq-eqb, lt-ltb, ne_eqb}
 use Rattle.std.proofs.lemmas.Option.{same_Some}

@@ -17,8 +17,7 @@ use Rattle.segcore.proofs.Moments.{seen_begins}
 use Rattle.segcore.proofs.Standing.{legal}
 use Rattle.segbase.specs.declared.closing.Words.{Words}
 use Rattle.segbase.specs.Words.{AreAll, Board, Closes, ClosesAll, IsAtRest, number, Pass, shape_of, trace, view}
-use Rattle.segindex.specs.Closing.{Pairs, pair_of, pairs_of, listed, IsListed, IsEnd, IsContent, IsContentSeen,
-    HasContent, HasPairs, WantsMemory, IsPairsAtRest, AreAllQuiet, IsEndOfAll, IsContentOfAll, WantsMemoryOfAll}
+use Rattle.segindex.specs.Closing.{Pairs, pair_of, pairs_of, listed, IsListed, IsEnd, IsContent, IsContentSeen, HasContent, HasPairs, WantsMemory, IsPairsAtRest, AreAllQuiet, IsEndOfAll, IsContentOfAll, WantsMemoryOfAll}
 use Rattle.segindex.proofs.Pairs.{AreDistinct, IsOrdered, ordered, listed_sorted, listed_unsorted, one_list}
 
 same_options : {A : Type 0} (a b : Option A) → ((x : A) → a ≡ Some x → b ≡ Some x) → ((x : A) → b ≡ Some x → a ≡ Some x) → a ≡ b

@@ -1,6 +1,5 @@
 -- The passes of a new index are quiet.
-use Rattle.std.proofs.Common.{refl, ◌≡◌, ℕ, zero, suc, ◌-◌, ◌≤◌, All, List, get_or, nat_le, nat_lt, cond, is_some,
-    Some, None, option_map, replicate, slice_get, sym, ap, ◌∙◌, subst, ⊎_elim, arith, Option}
+use Rattle.std.proofs.Common.{refl, ◌≡◌, ℕ, zero, suc, ◌-◌, ◌≤◌, All, List, get_or, nat_le, nat_lt, cond, is_some, Some, None, option_map, replicate, slice_get, sym, ap, ◌∙◌, subst, ⊎_elim, arith, Option}
 use Rattle.std.proofs.lemmas.Bool.{cases_Bool, cond-true, cond-false, le-ltb}
 use Rattle.std.proofs.lemmas.Option.{none-some, same_Some, slice_get-get_or}
 use Rattle.segword.specs.Words.{Shape}

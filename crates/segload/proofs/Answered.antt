@@ -1,6 +1,5 @@
 -- What a call of an index came to, as a command of a load.
-use Rattle.std.proofs.Common.{◌≡◌, ◌≢◌, ℕ, ◌+◌, ◌*◌, ◌<◌, ◌≤◌, Bool, true, false, is_some, List, [], ◌∷◌, Option,
-    Some, None, ◌⊎◌, option_and_then, refl, sym, ap, ◌∙◌, subst, inl, inr, zero-mul, arith, ⊎_elim}
+use Rattle.std.proofs.Common.{◌≡◌, ◌≢◌, ℕ, ◌+◌, ◌*◌, ◌<◌, ◌≤◌, Bool, true, false, is_some, List, [], ◌∷◌, Option, Some, None, ◌⊎◌, option_and_then, refl, sym, ap, ◌∙◌, subst, inl, inr, zero-mul, arith, ⊎_elim}
 use Rattle.std.specs.Prelude.{◌↔◌}
 use Rattle.std.proofs.lemmas.Bool.{false≢true, lt-ltb}
 use Rattle.std.proofs.lemmas.Option.{same_Some, none-some}

@@ -1,6 +1,5 @@
 -- An eviction of several keys is one entry for each; and so what is served is a longer history.
-use Rattle.std.proofs.Common.{◌≡◌, ℕ, ◌+◌, Bool, true, false, cond, not, List, [], ◌∷◌, ◌++◌, length, filter,
-    count_by, Option, Some, None, IsSomeAnd, refl, sym, ap, ◌∙◌, subst, append_assoc, arith, MatchBool, MatchOption}
+use Rattle.std.proofs.Common.{◌≡◌, ℕ, ◌+◌, Bool, true, false, cond, not, List, [], ◌∷◌, ◌++◌, length, filter, count_by, Option, Some, None, IsSomeAnd, refl, sym, ap, ◌∙◌, subst, append_assoc, arith, MatchBool, MatchOption}
 use Rattle.std.specs.declared.cmp.Ordering.TheVariants.{Less}
 use Rattle.std.specs.Ordering.{is_eq, ordering_reverse}
 use Rattle.std.specs.List.{AllByRecursion}

@@ -1,7 +1,5 @@
 -- A keep moves items one after the other; so each law of a keep is one of a single move.
-use Rattle.std.proofs.Common.{◌≡◌, ◌≢◌, ℕ, ◌+◌, ◌*◌, ◌≤◌, ◌<◌, ◌==◌, ◌&&◌, Bool, true, false, cond, not, List, [],
-    ◌∷◌, length, map, Option, Some, None, is_some, refl, sym, ap, ◌∙◌, subst, count_by, nat_le, arith, drop, get_or,
-    ◌⊎◌, inl, inr, slice_index_or, IsSomeAnd, MatchOption}
+use Rattle.std.proofs.Common.{◌≡◌, ◌≢◌, ℕ, ◌+◌, ◌*◌, ◌≤◌, ◌<◌, ◌==◌, ◌&&◌, Bool, true, false, cond, not, List, [], ◌∷◌, length, map, Option, Some, None, is_some, refl, sym, ap, ◌∙◌, subst, count_by, nat_le, arith, drop, get_or, ◌⊎◌, inl, inr, slice_index_or, IsSomeAnd, MatchOption}
 use Rattle.std.proofs.lemmas.Bool.{false≢true, eqb-false}
 use Rattle.std.proofs.lemmas.Option.{none-some, same_Some}
 use Rattle.std.proofs.lemmas.Map.Lookups.{exact_bytes}

@@ -12,9 +12,7 @@ use Rattle.segmodel.specs.Places.{bucket_of}
 use Rattle.segmodel.specs.Request.{key_of, value_of, reply_to}
 use Rattle.segmodel.specs.Cache.{Cache, key_cmp, standing, unless_expired, present, value_under, put, without, with_segment}
 use Rattle.segmodel.specs.History.{StandsIn, Follows, next, after, IsLegal, is_of, entries_of, stirred, IsSameAt, writes}
-use Rattle.segmodel.specs.Laws.{is_change_of, value_left_by, changes_segment, segment_left_by, is_before,
-    is_refill_of, deadline_set_by, EarlierIsLegal, StandsAsLeft, ReadsAsLeft, DeadlineAsSet, CasFailsWhereWritten,
-    StirredCountsAdded, UnstirredReadsTheSame}
+use Rattle.segmodel.specs.Laws.{is_change_of, value_left_by, changes_segment, segment_left_by, is_before, is_refill_of, deadline_set_by, EarlierIsLegal, StandsAsLeft, ReadsAsLeft, DeadlineAsSet, CasFailsWhereWritten, StirredCountsAdded, UnstirredReadsTheSame}
 use Rattle.segmodel.proofs.Counts.{count_by-cons}
 use Rattle.segmodel.proofs.Keys.{same_key, at_self}
 use Rattle.segmodel.proofs.Moves.{standing-moved, value-moved}

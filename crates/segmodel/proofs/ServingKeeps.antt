@@ -1,7 +1,5 @@
 -- What is served keeps what always holds of a state.
-use Rattle.std.proofs.Common.{◌≡◌, ℕ, ◌<◌, ◌⊎◌, inl, inr, ◌&&◌, ◌≢◌, eq-eqb, not, IsSomeAnd, Bool, true, false,
-    cond, List, [], ◌∷◌, length, Option, Some, None, is_some, refl, sym, ap, ◌∙◌, subst, arith, nat_le, nat_lt,
-    MatchBool, MatchOption}
+use Rattle.std.proofs.Common.{◌≡◌, ℕ, ◌<◌, ◌⊎◌, inl, inr, ◌&&◌, ◌≢◌, eq-eqb, not, IsSomeAnd, Bool, true, false, cond, List, [], ◌∷◌, length, Option, Some, None, is_some, refl, sym, ap, ◌∙◌, subst, arith, nat_le, nat_lt, MatchBool, MatchOption}
 use Rattle.std.proofs.lemmas.Bool.{false≢true}
 use Rattle.std.specs.List.{list_all}
 use Rattle.std.specs.Map.{lookup}
@@ -21,9 +19,7 @@ use Rattle.segmodel.specs.Request.{key_of, value_of, reply_to}
 use Rattle.segmodel.specs.Cache.{key_cmp, standing, present, reply_in}
 use Rattle.segmodel.specs.History.{NoneStandsIn}
 use Rattle.segmodel.specs.State.{State, IsSound, is_in_use, is_stored, is_locked}
-use Rattle.segmodel.specs.Serving.{IsGiven, IsReplied, is_out_of_rows, is_own, lacks_word, may_chain, stored,
-    after_reply, reply_of_write, reply_of_delete, ServesStore, ServesDelete, ServesEvict, may_go, is_held,
-    refill_answer, after_refill}
+use Rattle.segmodel.specs.Serving.{IsGiven, IsReplied, is_out_of_rows, is_own, lacks_word, may_chain, stored, after_reply, reply_of_write, reply_of_delete, ServesStore, ServesDelete, ServesEvict, may_go, is_held, refill_answer, after_refill}
 use Rattle.segmodel.specs.Turns.{held_after}
 use Rattle.segmodel.specs.Laws.{RefilledWhereNoneStands, HeldIsNotRefilled}
 use Rattle.segmodel.proofs.Counts.{both}

@@ -21,8 +21,7 @@ use Rattle.segstore.proofs.Readers.{stays, reader_then, enter_then}
 use Rattle.segread.specs.declared.scan.Hit.{Hit}
 use Rattle.segread.specs.declared.scan.Scan.{Scan}
 use Rattle.segread.specs.declared.scan.Scan.TheVariants.{Found, Passed, Busy}
-use Rattle.segread.specs.Scanning.{HasDeadline, place_of, words_below, IsPlaceOf, IsScanner, IsTry, ComesIn, Tries,
-    CountsTries, AdvancesSearch, HasPassed, IsHit, IsPast, GivesUp, IsEnded, IsWay, IsScanFrom, IsScanAnswer}
+use Rattle.segread.specs.Scanning.{HasDeadline, place_of, words_below, IsPlaceOf, IsScanner, IsTry, ComesIn, Tries, CountsTries, AdvancesSearch, HasPassed, IsHit, IsPast, GivesUp, IsEnded, IsWay, IsScanFrom, IsScanAnswer}
 use Rattle.segread.specs.Hits.{OnlyScans, TriesFew}
 use Rattle.segread.proofs.ComingIn.{tries_none, tries_once, tries_then, at_most, word_more, words_few, words_most}
 use Rattle.segread.proofs.Tries.{Trying, hit_from, word_wider, counts_none, counts_later, counts_then}

@@ -21,9 +21,7 @@ use Rattle.segread.specs.Scanning.{HasDeadline, words_below, IsPlaceOf, ComesIn,
 use Rattle.segread.specs.Gets.{Attempts, ReadsVersionBetween, HasNoBit, Disturbs, IsMissed, IsSeen, MovesOn}
 use Rattle.segread.proofs.Answered.{gone_reads}
 use Rattle.segread.proofs.Deadlines.{by_word, read_deadline, found_reads, found_expired}
-use Rattle.segread.proofs.ComingIn.{StaysOut, LooksOnce, looked, leaves, raises_none, glances_none, glances_one,
-    glances_then, glance_once, once_between, out_then, scans_once, tries_out, at_most, attempts, attempts_once,
-    attempts_out, attempts_at_most, word_more, words_few}
+use Rattle.segread.proofs.ComingIn.{StaysOut, LooksOnce, looked, leaves, raises_none, glances_none, glances_one, glances_then, glance_once, once_between, out_then, scans_once, tries_out, at_most, attempts, attempts_once, attempts_out, attempts_at_most, word_more, words_few}
 use Rattle.segread.proofs.Disturbing.{still_no_bit, glances_grow, set_reads, clear_reads, by_entries, by_bit}
 use Rattle.segread.proofs.Hits.{read_in, read_value, found_on, hit_raises}
 use Rattle.segread.proofs.OneMoment.{one_moment}

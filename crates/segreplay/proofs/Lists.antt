@@ -1,7 +1,5 @@
 -- Players, caches and totals, place by place.
-use Rattle.std.proofs.Common.{◌≡◌, ◌<◌, ◌+◌, ◌-◌, ℕ, zero, suc, List, [], ◌∷◌, ◌++◌, get_or, length, drop,
-    slice_index_or, refl, sym, ap, subst, ◌∙◌, take, add-one, arith, append_assoc, append-nil, drop-cons, OnOk,
-    Result, Ok, Err}
+use Rattle.std.proofs.Common.{◌≡◌, ◌<◌, ◌+◌, ◌-◌, ℕ, zero, suc, List, [], ◌∷◌, ◌++◌, get_or, length, drop, slice_index_or, refl, sym, ap, subst, ◌∙◌, take, add-one, arith, append_assoc, append-nil, drop-cons, OnOk, Result, Ok, Err}
 use Rattle.std.proofs.lemmas.List.{map-append, take_all, take_more}
 use Rattle.std.proofs.Math.Seq.{drop-length}
 use Rattle.std.specs.List.{AllZip}

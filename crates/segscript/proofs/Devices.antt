@@ -1,8 +1,7 @@
 -- What was taken so far, one write on; and how often a reader handed out nothing.
 use Rattle.std.proofs.Math.Dec.{eqb-suc-zero}
 use Rattle.std.proofs.lemmas.Bool.{true≢false}
-use Rattle.std.proofs.Common.{Err, Ok, Result, cond, inl, inr, ap, refl, sym, ◌∙◌, Bool, ◌∷◌, arith, zero, suc, ◌≤◌,
-    ◌<◌, eqb, false, ◌≡◌, ℕ, List, [], ◌++◌, length, take, drop, append_assoc, append-nil}
+use Rattle.std.proofs.Common.{Err, Ok, Result, cond, inl, inr, ap, refl, sym, ◌∙◌, Bool, ◌∷◌, arith, zero, suc, ◌≤◌, ◌<◌, eqb, false, ◌≡◌, ℕ, List, [], ◌++◌, length, take, drop, append_assoc, append-nil}
 use Rattle.std.proofs.lemmas.List.{take-append-drop}
 use Rattle.segmodel.specs.Words.{Outcome}
 use Rattle.segscript.specs.Spelling.{PassTurn}

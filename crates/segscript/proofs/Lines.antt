@@ -6,8 +6,7 @@ use Rattle.std.proofs.lemmas.List.Splits.{join_with_byte-slice_split}
 use Rattle.std.proofs.lemmas.Option.{same_Some}
 use Rattle.segscript.specs.Laws.{LinesFit}
 use Rattle.segscript.specs.Reading.{ReadsAs}
-use Rattle.segscript.specs.Spelling.{argument_parts, arguments_of, commands, IsNumber, IsSayable, IsValueWord,
-    line_words, named_among, pass_word, PassTurn, spelling, turn_words, value_word, verb, verb_word}
+use Rattle.segscript.specs.Spelling.{argument_parts, arguments_of, commands, IsNumber, IsSayable, IsValueWord, line_words, named_among, pass_word, PassTurn, spelling, turn_words, value_word, verb, verb_word}
 use Rattle.segscript.specs.declared.line.Verb.{Verb}
 use Rattle.segscript.specs.declared.reason.Part.{Part}
 use Rattle.segscript.specs.declared.reason.Part.TheVariants as part

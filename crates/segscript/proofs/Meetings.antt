@@ -1,6 +1,5 @@
 -- What the passes of a server have seen, and what they learn where two of them meet.
-use Rattle.std.proofs.Common.{◌≡◌, ◌≢◌, ◌⊎◌, ◌<◌, ℕ, zero, suc, All, List, [], ◌∷◌, ◌++◌, get_or, length, set,
-    slice_get, take, Option, Some, refl, append-nil, sym, ap, subst, ◌∙◌, inl, inr, ⊎_elim, arith}
+use Rattle.std.proofs.Common.{◌≡◌, ◌≢◌, ◌⊎◌, ◌<◌, ℕ, zero, suc, All, List, [], ◌∷◌, ◌++◌, get_or, length, set, slice_get, take, Option, Some, refl, append-nil, sym, ap, subst, ◌∙◌, inl, inr, ⊎_elim, arith}
 use Rattle.std.proofs.Math.Seq.{take-append_seam}
 use Rattle.std.proofs.lemmas.List.{length-set, set-append_left, set-append_right}
 use Rattle.std.proofs.lemmas.Option.{get_or_from_slice_get, same_Some, slice_get-get_or, slice_get_within}

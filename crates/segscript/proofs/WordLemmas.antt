@@ -1,7 +1,5 @@
 -- A line is cut at its spaces, and no word of a script has one.
-use Rattle.std.proofs.Common.{zero, suc, ◌≡◌, ◌≢◌, ℕ, ◌+◌, ◌-◌, ◌<◌, ◌≤◌, ◌^◌, List, [], ◌∷◌, ◌++◌, length, get_or,
-    take, drop, map, eqb, false, refl, sym, ◌∙◌, ap, arith, rules, inl, inr, append_assoc, length-append,
-    length-drop, length-take}
+use Rattle.std.proofs.Common.{zero, suc, ◌≡◌, ◌≢◌, ℕ, ◌+◌, ◌-◌, ◌<◌, ◌≤◌, ◌^◌, List, [], ◌∷◌, ◌++◌, length, get_or, take, drop, map, eqb, false, refl, sym, ◌∙◌, ap, arith, rules, inl, inr, append_assoc, length-append, length-drop, length-take}
 use Rattle.std.specs.List.{slice_split, All, AllByRecursion, join_with_byte}
 use Rattle.std.specs.Prelude.{decimal}
 use Rattle.std.specs.Int.{IsInRange}

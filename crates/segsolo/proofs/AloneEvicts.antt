@@ -1,7 +1,5 @@
 -- With one pass, an evict is served as the model says.
-use Rattle.std.proofs.Common.{◌≡◌, ◌≢◌, ℕ, ◌+◌, ◌&&◌, not, Bool, true, false, cond, List, ◌++◌, length, filter,
-    count_by, IsSomeAnd, Option, Some, None, option_map, refl, sym, ap, subst, ◌∙◌, inl, inr, ⊎_elim, arith, eqb,
-    eq-eqb}
+use Rattle.std.proofs.Common.{◌≡◌, ◌≢◌, ℕ, ◌+◌, ◌&&◌, not, Bool, true, false, cond, List, ◌++◌, length, filter, count_by, IsSomeAnd, Option, Some, None, option_map, refl, sym, ap, subst, ◌∙◌, inl, inr, ⊎_elim, arith, eqb, eq-eqb}
 use Rattle.std.specs.Prelude.{◌↔◌, MatchBool}
 use Rattle.std.specs.List.{list_any}
 use Rattle.std.proofs.lemmas.Bool.{false≢true, cases_Bool, eqb-true}
@@ -35,8 +33,7 @@ use Rattle.segsolo.proofs.AlonePass.{frequencies_as, more_seen, at_state, not_ow
 use Rattle.segsolo.proofs.AloneRows.{bring_nothing, frequencies_kept, served, still_named}
 use Rattle.segsolo.proofs.AloneRefills.{with_at-same, with_at-other, by_segment}
 use Rattle.segsolo.proofs.AloneWidths.{same_widths}
-use Rattle.segsolo.proofs.AloneEvictions.{is_evicted, filter_alike, any_of, each_item, items_left, stood_before,
-    stands_still, evictions_unstored, stood_in, length_left, stored_still, evicts_none, on_the_way}
+use Rattle.segsolo.proofs.AloneEvictions.{is_evicted, filter_alike, any_of, each_item, items_left, stood_before, stands_still, evictions_unstored, stood_in, length_left, stored_still, evicts_none, on_the_way}
 use Rattle.segcore.proofs.Caches.{one_test}
 use Rattle.segmodel.proofs.LawLemmas.{count_by-append}
 

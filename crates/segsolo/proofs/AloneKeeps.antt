@@ -1,7 +1,5 @@
 -- With one pass, a keep is served as the model says.
-use Rattle.std.proofs.Common.{◌≡◌, ◌≢◌, ◌⊎◌, ℕ, zero, suc, ◌+◌, ◌<◌, ◌≤◌, ◌==◌, ◌&&◌, add-one, Bool, true, false,
-    cond, not, List, [], drop, get_or, length, Option, Some, None, unwrap_or, refl, sym, ap, ◌∙◌, subst, inl, inr,
-    ⊎_elim, arith, eq-eqb}
+use Rattle.std.proofs.Common.{◌≡◌, ◌≢◌, ◌⊎◌, ℕ, zero, suc, ◌+◌, ◌<◌, ◌≤◌, ◌==◌, ◌&&◌, add-one, Bool, true, false, cond, not, List, [], drop, get_or, length, Option, Some, None, unwrap_or, refl, sym, ap, ◌∙◌, subst, inl, inr, ⊎_elim, arith, eq-eqb}
 use Rattle.std.proofs.lemmas.Bool.{cases_eq, lt-leb, ne_eqb}
 use Rattle.std.proofs.lemmas.Option.{none-some, same_Some}
 use Rattle.std.proofs.Math.ListN.{drop_of_length-le}
@@ -32,7 +30,8 @@ abbrev rows_left : Board → ℕ → ℕ → ℕ → ℕ → ℕ → State → K
 rows_left b segment into cutoff row count state =
     keep_rows b.shape segment into cutoff (drop row (state.filling segment).keys) (drop row (state.filling segment).frequencies) count state
 
--- The row was gone over: the pass is alone again, items are still moved into the same segment, as many rows of the segment are used, and the rows after it come to what this row and they came to before.
+-- The row was gone over: the pass is alone again, items are still moved into the same segment, as many rows of
+-- the segment are used, and the rows after it come to what this row and they came to before.
 record GoesOnTo (b : Board) (segment into cutoff row count more : ℕ) (p q : Pass) : Type 0 where
   pub alone : IsAlone b q
   pub target : IsKeepTarget segment into q

@@ -1,12 +1,9 @@
 -- With one pass, whether the item of a row is to be moved, and the state that it is at once it was moved.
-use Rattle.std.proofs.Common.{◌≡◌, ◌≢◌, ◌⊎◌, ℕ, ◌+◌, ◌<◌, ◌≤◌, ◌&&◌, cond, eqb, nat_le, not, Bool, true, false,
-    IsSomeAnd, List, [], ◌∷◌, ◌++◌, drop, get_or, length, Option, Some, None, option_map, refl, sym, ap, ◌∙◌, subst,
-    ⊎_elim, arith, eq-eqb}
+use Rattle.std.proofs.Common.{◌≡◌, ◌≢◌, ◌⊎◌, ℕ, ◌+◌, ◌<◌, ◌≤◌, ◌&&◌, cond, eqb, nat_le, not, Bool, true, false, IsSomeAnd, List, [], ◌∷◌, ◌++◌, drop, get_or, length, Option, Some, None, option_map, refl, sym, ap, ◌∙◌, subst, ⊎_elim, arith, eq-eqb}
 use Rattle.std.specs.BTreeMap.{is_at}
 use Rattle.std.proofs.lemmas.Bool.{and_from, and_right, cases_Bool, cond-false, eqb-true, false≢true, le-leb, lt-leb}
 use Rattle.segmodel.specs.declared.entry.Entry.TheVariants as entry
-use Rattle.segmodel.specs.Words.{after, bucket_of, Cached, entries_of, Entry, is_among, is_last_of, is_locked,
-    is_named, is_of, IsSound, key_cmp, moved_to, standing, stands_in, StandsIn, State, with_segment}
+use Rattle.segmodel.specs.Words.{after, bucket_of, Cached, entries_of, Entry, is_among, is_last_of, is_locked, is_named, is_of, IsSound, key_cmp, moved_to, standing, stands_in, StandsIn, State, with_segment}
 use Rattle.segmodel.proofs.Counts.{both, count_by-cons}
 use Rattle.segmodel.proofs.Keeping.{in_there, IsKept-moved}
 use Rattle.segmodel.proofs.Moves.{standing-moved}

@@ -1,7 +1,5 @@
 -- What a pass keeps of its own segments stays so over its calls: those that link and refill nothing, a link of its next row, and a refilling.
-use Rattle.std.proofs.Common.{◌≡◌, ◌≢◌, ℕ, ◌+◌, ◌*◌, ◌/◌, ◌%◌, ◌<◌, Bool, true, false, cond, eqb, nat_lt, ◌&&◌,
-    is_some, IsSome, List, [], ◌∷◌, ◌++◌, Option, Some, None, refl, sym, ap, ◌∙◌, subst, ⊎_elim, arith, mod-lt,
-    div-add-mod', mul_comm, unwrap_or}
+use Rattle.std.proofs.Common.{◌≡◌, ◌≢◌, ℕ, ◌+◌, ◌*◌, ◌/◌, ◌%◌, ◌<◌, Bool, true, false, cond, eqb, nat_lt, ◌&&◌, is_some, IsSome, List, [], ◌∷◌, ◌++◌, Option, Some, None, refl, sym, ap, ◌∙◌, subst, ⊎_elim, arith, mod-lt, div-add-mod', mul_comm, unwrap_or}
 use Rattle.std.proofs.lemmas.Bool.{cases_Bool, cases_eq, cases_lt, lt-ltb, le-ltb, cond-true, cond-false, eq-eqb, ne_eqb, false≢true}
 use Rattle.std.proofs.lemmas.Nat.{mul-add-lt}
 use Rattle.std.proofs.lemmas.Option.{same_Some, none-some}
@@ -22,9 +20,7 @@ use Rattle.segbase.specs.declared.pass.PlainPart.{PlainPart}
 use Rattle.segbase.specs.Words.{with_deadline, AddsAtOnce, AddsEvents, Board, current_of, IsPassOf, number, own_of, deadline_of, deadline_in}
 use Rattle.segbase.specs.Words.{own_segment, OwnSegment, Pass, seen, state_in, state_of, trace}
 use Rattle.segbase.specs.Words.{used_in, used_of, with_current, with_state, with_used}
-use Rattle.segbase.proofs.Known.{state_set, used_set, state_apart, used_apart, state_kept, used_kept, owner_stated,
-    owner_counted, deadline_set, owner_lasting, state_lasting, used_lasting, deadline_counted, deadline_apart,
-    deadline_stated}
+use Rattle.segbase.proofs.Known.{state_set, used_set, state_apart, used_apart, state_kept, used_kept, owner_stated, owner_counted, deadline_set, owner_lasting, state_lasting, used_lasting, deadline_counted, deadline_apart, deadline_stated}
 use Rattle.segbase.proofs.Owned.{owner_of, owns_state, state_there, used_there, moved_still, deadline_there}
 use Rattle.segstore.specs.Refilling.{refilled, refilled_aside}
 use Rattle.segstore.specs.Segments.{KeepsSegments}

@@ -39,8 +39,7 @@ use Rattle.segstore.proofs.TakenBits.{both_no_tries}
 use Rattle.segwrite.proofs.FirstEmpty.{first_wider, took_marked}
 use Rattle.segwrite.proofs.Filling.{fills_nowhere, fills_still, fills_undrawn, fills_untried, fills_seen}
 use Rattle.segstore.proofs.UnderBit.{moved_bucket, moved_bit}
-use Rattle.segstore.proofs.UnderWrite.{HasBegun, took_has, took_moved, took_clean, took_keeps, tries, tries_undrawn,
-    write_goes_on, write_adds, write_drew, write_undrawn, write_peeking, write_takes, still_both}
+use Rattle.segstore.proofs.UnderWrite.{HasBegun, took_has, took_moved, took_clean, took_keeps, tries, tries_undrawn, write_goes_on, write_adds, write_drew, write_undrawn, write_peeking, write_takes, still_both}
 
 -- ---- after the search
 

@@ -36,8 +36,7 @@ use Rattle.segwrite.proofs.Steps.{told_steps}
 use Rattle.segwrite.proofs.Refused.{asks, adds_absent, refused_goes_on, refused_undrawn, refused_peeking, refused_takes, refused_answer}
 use Rattle.segwrite.proofs.Presence.{began, may_enter, taken_moved, peek_nowhere, enters_for, enters_none, came_wider, none_present, unread_if}
 use Rattle.segwrite.proofs.Rooms.{searches_still, finds_of, as_found, DrawsOnce, HasRoom, has_room as room_for, no_room, room_steps, unroomed_steps}
-use Rattle.segwrite.proofs.Sets.{found_clean, may_free, full_goes_on, full_undrawn, full_peeking, full_takes,
-    full_answer, stored_goes_on, stored_answer, stored_first, stored_peeking, stored_takes, stored_grows}
+use Rattle.segwrite.proofs.Sets.{found_clean, may_free, full_goes_on, full_undrawn, full_peeking, full_takes, full_answer, stored_goes_on, stored_answer, stored_first, stored_peeking, stored_takes, stored_grows}
 use Rattle.segstore.proofs.UnderBit.{moved_at}
 use Rattle.segstore.proofs.UnderWrite.{HasBegun, begun, took_keeps}
 

@@ -10,8 +10,7 @@ use Rattle.segcore.specs.declared.cell.Cell.TheVariants.{OfCounter, OfBucket, Of
 use Rattle.segcore.specs.Kind.{Step, May, take}
 use Rattle.segcore.specs.Word.{address, word}
 use Rattle.segcore.specs.World.{IsFresh, IsOpening, Reaches, ReachesOn}
-use Rattle.segcore.specs.Example.{shape, a, b, moved, view_of, opening, view_in, after_steps, to_opened, to_stored,
-    to_bumped, to_moved, to_added, refusing, to_refused, to_replaced, to_relinked, to_evicted, to_refilled}
+use Rattle.segcore.specs.Example.{shape, a, b, moved, view_of, opening, view_in, after_steps, to_opened, to_stored, to_bumped, to_moved, to_added, refusing, to_refused, to_replaced, to_relinked, to_evicted, to_refilled}
 use Rattle.segcore.proofs.Addresses.{in_count}
 use Rattle.segcore.proofs.WorkedExample.Trace.{filled, stored_first, bumped_next, moved_next, added_next, refused_next, replaced_next, move_fits, relinked_next, evicted_next, elsewhere_next}
 
