@@ -95,16 +95,28 @@ module _ {S : Type 0} where
         turn = suc (steps_of rule.views);
         now = (λ j. record v { trace = es ++ k.rest j; looks = k.rest j ∷ v.looks; turn = suc (steps_of rule.views) });
         legal = rw is kept.legal;
-      } in
-      (x, keeps, tt, ruled, (record { told = told; met = begins_on es me.0.met rule.trace old.met;
-          among = λ n past. ruled.lawful.later n (let few = ruled.few in omega arith); is_pass = refl;
-          memo = refl }, refl))
+      } in (
+        x,
+        keeps,
+        tt,
+        ruled,
+        (
+          record {
+            told = told;
+            met = begins_on es me.0.met rule.trace old.met;
+            among = λ n past. ruled.lawful.later n (let few = ruled.few in omega arith);
+            is_pass = refl;
+            memo = refl;
+          },
+          refl,
+        ),
+      )
 
 -- the same over a board's own table, as a step of it asks
 pub step_of : (b : Board) (p : Pass) (st : Step) (spot : Spot) (i : ℕ) (f : ℕ → ℕ) → CanStep b p st spot f → i ≡ address b.shape (cell_of b.shape spot) → i < b.table.shared.table_id.words
     → (p.seat.table_id ≡ b.table.shared.table_id) × (i < b.table.shared.table_id.words)
-        × Allows (Rule b.table.shared.key) b.table.shared.table_id.slots p.seat.id p.seat.me i f
-        (λ found me'. Learns b.table.shared.key st found p.seat.me.0 me'.0 × (me'.1 ≡ p.seat.me.1))
+    × Allows (Rule b.table.shared.key) b.table.shared.table_id.slots p.seat.id p.seat.me i f
+    (λ found me'. Learns b.table.shared.key st found p.seat.me.0 me'.0 × (me'.1 ≡ p.seat.me.1))
 step_of b p st spot i f can place within = (
   can.pass.table,
   within,
@@ -114,7 +126,7 @@ step_of b p st spot i f can place within = (
 
 pub store_of : (b : Board) (p : Pass) (st : Step) (spot : Spot) (i : ℕ) (f : ℕ → ℕ) → CanStep b p st spot f → i ≡ address b.shape (cell_of b.shape spot) → i < b.table.shared.table_id.words
     → (p.seat.table_id ≡ b.table.shared.table_id) × (i < b.table.shared.table_id.words)
-        × Allows (Rule b.table.shared.key) b.table.shared.table_id.slots p.seat.id p.seat.me i f
-        (λ _ me'. ((found : ℕ) × Learns b.table.shared.key st found p.seat.me.0 me'.0) × (me'.1 ≡ p.seat.me.1))
+    × Allows (Rule b.table.shared.key) b.table.shared.table_id.slots p.seat.id p.seat.me i f
+    (λ _ me'. ((found : ℕ) × Learns b.table.shared.key st found p.seat.me.0 me'.0) × (me'.1 ≡ p.seat.me.1))
 store_of b p st spot i f can place within = let s = step_of b p st spot i f can place within in
     (s.0, s.1, λ x rule homes at fits. let r = s.2 x rule homes at fits in (r.0, r.1, r.2, r.3, ((get_or x.words i 0, r.4.0), r.4.1)))

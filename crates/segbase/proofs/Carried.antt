@@ -58,10 +58,12 @@ carries S z id x u pass view met is_pass ended s rule at =
       sights = λ j y is. ⊎_elim
           (λ t. ⊎_elim
           (λ o. subst (IsSight rule.views rule.trace) o.1
-              (record { seen = subst (λ v. Begins v.trace rule.trace) (sym view) old.seen;
-              met = subst (λ m. Begins m rule.trace) (sym met) old.met;
-              own = λ _. subst (λ v. get_elem? rule.views v.number ≡ some v) (sym view) (old.own pass);
-              ended = subst (AreViews rule.views) (sym ended) old.ended }))
+          (record {
+            seen = subst (λ v. Begins v.trace rule.trace) (sym view) old.seen;
+            met = subst (λ m. Begins m rule.trace) (sym met) old.met;
+            own = λ _. subst (λ v. get_elem? rule.views v.number ≡ some v) (sym view) (old.own pass);
+            ended = subst (AreViews rule.views) (sym ended) old.ended;
+          }))
           (λ o. rule.sights j y o.1)
           (at_set s.views id j u y t))
           (λ t. subst (IsSight rule.views rule.trace) t (record { seen = old.seen; met = begins_all rule.trace; own = λ yes. absurd (false≢true yes); ended = tt }))

@@ -113,8 +113,8 @@ deals S z id x pass first fewer s rule at =
     let views = there ++ new ∷ [] in
     let known : (n : ℕ) (u : View) → get_elem? there n ≡ some u → get_elem? views n ≡ some u = λ n u e. at_longer there (new ∷ []) n u e in
     let old_number : (y : Sight) (j : ℕ) → get_elem? s.views j ≡ some y → y.is_pass ≡ true
-        → y.view.number < length rule.views = λ y j e yes. inside_list rule.views y.view.number y.view
-        ((rule.sights j y e).own yes) in
+    → y.view.number < length rule.views = λ y j e yes. inside_list rule.views y.view.number y.view
+    ((rule.sights j y e).own yes) in
     let set_number : (y : Sight) (j : ℕ) → get_elem? (set s.views id (dealer x)) j ≡ some y → y.is_pass ≡ true → y.view.number < length rule.views = λ y j e yes. ⊎_elim
     (λ t. subst (λ (u : Sight). u.view.number < length rule.views) t.1 (old_number x id at pass))
     (λ t. old_number y j t.1 yes)
@@ -133,12 +133,20 @@ deals S z id x pass first fewer s rule at =
       few = let more : length views ≡ length rule.views + 1 = length-append there (new ∷ []) ∙ ap (λ n. n + 1) long in omega arith;
       sights = λ j y is. ⊎_elim
           (λ t. ⊎_elim
-          (λ o. subst (IsSight views h) o.1 (record { seen = old.seen; met = old.met;
-              own = λ _. subst (λ n. get_elem? views n ≡ some w) (sym first)
-              (known 0 w (set_here rule.views 0 w (inside_list rule.views 0 v here))); ended = still x id at }))
-          (λ o. let a = rule.sights j y o.1 in record { seen = a.seen; met = a.met;
-              own = λ yes. known y.view.number y.view (set_else rule.views 0 y.view.number w
-              (λ e. o.0 (rule.one j id y x o.1 at yes pass (e ∙ sym first))) ∙ a.own yes); ended = still y j o.1 })
+          (λ o. subst (IsSight views h) o.1 (record {
+            seen = old.seen;
+            met = old.met;
+            own = λ _. subst (λ n. get_elem? views n ≡ some w) (sym first)
+                (known 0 w (set_here rule.views 0 w (inside_list rule.views 0 v here)));
+            ended = still x id at;
+          }))
+          (λ o. let a = rule.sights j y o.1 in record {
+            seen = a.seen;
+            met = a.met;
+            own = λ yes. known y.view.number y.view (set_else rule.views 0 y.view.number w
+                (λ e. o.0 (rule.one j id y x o.1 at yes pass (e ∙ sym first))) ∙ a.own yes);
+            ended = still y j o.1;
+          })
           (at_set s.views id j (dealer x) y t))
           (λ t. subst (IsSight views h) t.1 (record { seen = (h, sym (append-nil h)); met = (h, sym (append-nil h)); own = λ _. at_last there new v.dealt (long ∙ sym all); ended = tt }))
           (snoc_at (set s.views id (dealer x)) (newcomer x) y j is);
@@ -147,10 +155,12 @@ deals S z id x pass first fewer s rule at =
           (λ o. subst (IsHeld (set s.views id (dealer x))) o.1 (id, dealer x, set_here s.views id (dealer x) (inside_list s.views id x at), inl (pass, refl)))
           (λ o. held_moved s.views id x (dealer x) u at (λ has. absurd (o.0 (sym (l.knows n u o.1).number ∙ (ap (λ (y : View). y.number) (sym (pass_only x u pass has)) ∙ first)))) (rule.held n u o.1))
           (at_set rule.views 0 n w u t)))
-          (λ t. subst (IsHeld (set s.views id (dealer x) ++ newcomer x ∷ [])) t.1
-              (length (set s.views id (dealer x)), newcomer x,
-              at_last (set s.views id (dealer x)) (newcomer x) (length (set s.views id (dealer x))) refl,
-              inl (refl, refl)))
+          (λ t. subst (IsHeld (set s.views id (dealer x) ++ newcomer x ∷ [])) t.1 (
+            length (set s.views id (dealer x)),
+            newcomer x,
+            at_last (set s.views id (dealer x)) (newcomer x) (length (set s.views id (dealer x))) refl,
+            inl (refl, refl),
+          ))
           (snoc_at there new u n is);
       one = λ i j a b ai bj pa pb e. ⊎_elim
           (λ t. ⊎_elim

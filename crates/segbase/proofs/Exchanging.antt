@@ -36,8 +36,8 @@ pub missed : (b : Board) (p q : Pass) (step : Step) (event : Event) (place : Pla
     (a : Slot) → IsPassOf b p → HasBit b.shape (trace p) (number p) bucket → cell step ≡ cell_at b.shape place
     → IsItemAt b.shape (trace p) bucket n (cell_at b.shape place)
     → (bucket_after b.shape (trace p) bucket).items n ≡ item a
-        → adds step (number p) found ≡ cond (eqb found old) (event ∷ []) [] → found ≢ old → Stepped b step found p q
-        → Missed b place old found p q
+    → adds step (number p) found ≡ cond (eqb found old) (event ∷ []) [] → found ≢ old → Stepped b step found p q
+    → Missed b place old found p q
 missed b p q step event place found old bucket n a is bit of at here adds_is other s =
     let h : List Event = s.told.more ++ trace p in
     let now : trace q ≡ h = ap (λ (v : View). v.trace) s.told.now ∙ ap (λ es. es ++ h) (adds_is ∙ cond-false (eqb found old) (event ∷ []) [] (ne_eqb found old other)) in

@@ -65,7 +65,7 @@ module _ (x : PlainPart) (s : ℕ) where
     pub own_here : own_segment (with_own s change x) s ≡ option_map change (own_segment x s)
     own_here = let low = nat_le x.first s in let old = slice_get x.segments.items at in ⊎_elim
         (λ t. cond-true low (slice_get (put_own x.segments at (option_map change (own_segment x s))).items at) None
-            t ∙ put_here x.segments at change (own_segment x s) (sym (cond-true low old None t)))
+        t ∙ put_here x.segments at change (own_segment x s) (sym (cond-true low old None t)))
         (λ f. cond-false low (slice_get (put_own x.segments at (option_map change (own_segment x s))).items at) None f ∙ sym (ap (option_map change) (cond-false low old None f)))
         (cases_Bool low)
 
@@ -75,11 +75,11 @@ module _ (x : PlainPart) (s : ℕ) where
         (λ there. let a = leb-true x.first s low in let c = leb-true x.first t there in
         ap (λ o. cond (nat_le x.first t) o None) (put_apart x.segments at (t - x.first) (option_map change (own_segment x s)) (λ e. ne (omega (arith, e)))))
         (λ f. cond-false (nat_le x.first t) (slice_get
-            (put_own x.segments at (option_map change (own_segment x s))).items (t - x.first)) None f
-            ∙ sym (cond-false (nat_le x.first t) (slice_get x.segments.items (t - x.first)) None f))
+        (put_own x.segments at (option_map change (own_segment x s))).items (t - x.first)) None f
+        ∙ sym (cond-false (nat_le x.first t) (slice_get x.segments.items (t - x.first)) None f))
         (cases_Bool (nat_le x.first t)))
         (λ f. ap (λ o. cond (nat_le x.first t) (slice_get (put_own x.segments at (option_map change o)).items
-            (t - x.first)) None) (cond-false (nat_le x.first s) (slice_get x.segments.items at) None f))
+        (t - x.first)) None) (cond-false (nat_le x.first s) (slice_get x.segments.items at) None f))
         (cases_Bool (nat_le x.first s))
 
     -- two changes that come to the same of the segment

@@ -141,15 +141,15 @@ then_reads b p q r segment i j = record {
 pub is_inside : (b : Board) (p q : Pass) (segment : ℕ) → ReadsIn b p q segment → 0 < inside (trace q) (number q) segment
 is_inside b p q segment i = subst (λ n. 0 < inside (trace q) n segment) (sym i.moved.same)
     (let e : inside (trace q) (number p) segment ≡ inside (trace p) (number p) segment + 1 = i.inside segment
-        ∙ cond-true (eqb segment segment) (inside (trace p) (number p) segment + 1)
-        (inside (trace p) (number p) segment) (eq-eqb segment segment refl) in omega arith)
+    ∙ cond-true (eqb segment segment) (inside (trace p) (number p) segment + 1)
+    (inside (trace p) (number p) segment) (eq-eqb segment segment refl) in omega arith)
 
 pub leave_then : (b : Board) (p q r : Pass) (segment : ℕ) → ReadsIn b p q segment → AddsEvents b (Left (number q) segment ∷ []) q r → Reads b p r
 leave_then b p q r segment i m =
     let out : (s : ℕ) → inside (trace r) (number p) s ≡ inside (trace p) (number p) s = λ s.
     subst (λ n. inside (trace r) n s ≡ cond (eqb segment s) (inside (trace q) n s - 1) (inside (trace q) n s))
-        i.moved.same (moved_inside b (Left (number q) segment ∷ []) q r s m
-        ∙ once_less (number q) segment s (trace q))
+    i.moved.same (moved_inside b (Left (number q) segment ∷ []) q r s m
+    ∙ once_less (number q) segment s (trace q))
     ∙ (ap (λ n. cond (eqb segment s) (n - 1) n) (i.inside s) ∙ one_less (eqb segment s) (inside (trace p) (number p) s)) in record {
       own = Left (number q) segment ∷ i.own;
       moved = moved_then b i.own (Left (number q) segment ∷ []) p q r i.moved m;

@@ -62,8 +62,8 @@ owns_state b p s is there =
     ⊎_elim
     (λ t. let low : first ≤ s = leb-true first s t in
     let got : is_some (slice_get p.plain.segments.items (s - first)) ≡ true =
-        sym (ap is_some (cond-true (nat_le first s) (slice_get p.plain.segments.items (s - first)) None t))
-        ∙ (sym (state_there (own_segment p.plain s)) ∙ there) in
+    sym (ap is_some (cond-true (nat_le first s) (slice_get p.plain.segments.items (s - first)) None t))
+    ∙ (sym (state_there (own_segment p.plain s)) ∙ there) in
     let within = got_within p.plain.segments.items (s - first) got in
     let owns = is.owns in let at = is.first in
     ap (λ x. x / each) (let e : s ≡ n * each + (s - first) = omega arith in e) ∙ div-mul-add n each (s - first) (omega arith))
@@ -80,5 +80,5 @@ state_owned b p s is own =
     let owns = is.owns in
     let low : nat_le first s ≡ true = le-leb first s (omega arith) in
     state_there (own_segment p.plain s) ∙ (ap is_some
-        (cond-true (nat_le first s) (slice_get p.plain.segments.items (s - first)) None low)
-        ∙ gets_within p.plain.segments.items (s - first) (omega arith))
+    (cond-true (nat_le first s) (slice_get p.plain.segments.items (s - first)) None low)
+    ∙ gets_within p.plain.segments.items (s - first) (omega arith))

@@ -37,10 +37,11 @@ read_as : (z : Shape) (h : List Event) (b n : ℕ) (x : Content) → IsValid z �
 read_as z h b n nothing v l at e is = refl
 read_as z h b n (item a) v l at e is =
     let st = (coherent z h l).items b n a e in
-    let f = low_frequency z h a.segment a.row l in
-    ((frequency_of h a.segment a.row, f, refl),
-        subst (λ t. 1 ≤ t) (sym (tag_of_word (tag_of a.key) (frequency_of h a.segment a.row) a.segment a.row f
-        (low_segment z a.segment v st.within.0) (low_row z a.row v st.within.1))) (some_tag a.key))
+    let f = low_frequency z h a.segment a.row l in (
+      (frequency_of h a.segment a.row, f, refl),
+      subst (λ t. 1 ≤ t) (sym (tag_of_word (tag_of a.key) (frequency_of h a.segment a.row) a.segment a.row f
+          (low_segment z a.segment v st.within.0) (low_row z a.row v st.within.1))) (some_tag a.key),
+    )
 read_as z h b n (next m) v l at e is = refl
 read_as z h b n (copy w) v l at e is = let a = at.0 in let i = is.0 in absurd (omega arith)
 

@@ -57,8 +57,8 @@ moved_by b p q st found is is' may told =
       steps = inl (told.more ++ trace p, starts p q st found told);
       kept = λ s stays. none_both s es told.more
           (none_refilled b.shape es (told.more ++ trace p) (trace p) (number p) s is.one_of
-              (subst (λ (v : View). IsLawful b.shape v.trace) told.now told.legal)
-              (quiet_inside told.more (trace p) (number p) s told.others) stays)
+          (subst (λ (v : View). IsLawful b.shape v.trace) told.now told.legal)
+          (quiet_inside told.more (trace p) (number p) s told.others) stays)
           (no_refill b.shape told.more (trace p) (number p) s is.one_of told.before told.others (stays_before es (trace p) (number p) s stays));
     }
 
@@ -79,13 +79,25 @@ stepped b st spot f found p q can table learns plain =
       alone = λ one. only_by b.shape.passes (number q) (trace q) one (rw same is.one_of) (subst (λ (z : Shape). (n : ℕ) → z.passes ≤ n → NoneBy n (trace q)) b.same learns.0.among);
       minds = subst (λ m. Minds b.shape (trace q) (number q) m) (sym learns.0.memo)
           (subst (λ n. Minds b.shape (trace q) n (sight p).memo) (sym same)
-          (minded_on b.shape (trace p) (trace q) (number p) (sight p).memo (adds st (number p) found ++ told.more,
-          ap (λ (v : View). v.trace) told.now ∙ sym (append_assoc (adds st (number p) found) told.more (trace p)))
+          (minded_on b.shape (trace p) (trace q) (number p) (sight p).memo (
+            adds st (number p) found ++ told.more,
+            ap (λ (v : View). v.trace) told.now ∙ sym (append_assoc (adds st (number p) found) told.more (trace p)),
+          )
           is.minds));
       numbered = ap (λ (x : PlainPart). x.number) plain ∙ (is.numbered ∙ sym same);
       first = ap (λ (x : PlainPart). x.first) plain ∙ (is.first ∙ ap (λ n. n * b.shape.segments_each) (sym same));
       rows = ap (λ (x : PlainPart). x.rows) plain ∙ is.rows;
       owns = ap (λ (x : PlainPart). length x.segments.items) plain ∙ is.owns;
-    } in record { told = told; did = record { moved = moved_by b p q st found is is' can.may told;
-        others = told.more; none = told.others; before = told.before; now = ap (λ (v : View). v.trace) told.now };
-        plain = plain; memo = learns.0.memo; met = learns.0.met }
+    } in record {
+      told = told;
+      did = record {
+        moved = moved_by b p q st found is is' can.may told;
+        others = told.more;
+        none = told.others;
+        before = told.before;
+        now = ap (λ (v : View). v.trace) told.now;
+      };
+      plain = plain;
+      memo = learns.0.memo;
+      met = learns.0.met;
+    }

@@ -25,16 +25,16 @@ unspared z h b l none = no_spare (bucket_after z h b).spare (λ m is. let held =
 taken : (b : Board) (bucket found : ℕ) (own t : Bool) (p q : Pass) → eqb (found % 2) 0 ≡ t → own ≡ has_bit b p bucket → Stepped b (take bucket own) found p q → Takes b bucket t p q
 taken b bucket found own true p q t is s =
     let did : AddsAtOnce b (Took (number p) bucket ∷ []) p q =
-        subst (λ es. AddsAtOnce b es p q) (cond-true (eqb (found % 2) 0) (Took (number p) bucket ∷ [])
-        (unless_own own (Bounced (number p) bucket)) t) s.did in
+    subst (λ es. AddsAtOnce b es p q) (cond-true (eqb (found % 2) 0) (Took (number p) bucket ∷ [])
+    (unless_own own (Bounced (number p) bucket)) t) s.did in
     let old : List Event = s.told.more ++ trace p in
     let now : trace q ≡ Took (number p) bucket ∷ old = ap (λ (v : View). v.trace) s.told.now ∙ ap (λ x. cond x (Took (number p) bucket ∷ []) (unless_own own (Bounced (number p) bucket)) ++ old) t in
     let lawful : IsLawful b.shape (Took (number p) bucket ∷ old) = subst (IsLawful b.shape) now s.told.legal in
     let guarded = lawful.1.guarded in
     let u : Bucket = bucket_after b.shape old bucket in
     let after : bucket_after b.shape (trace q) bucket ≡ acts (Took (number p) bucket) u =
-        ap (λ h. bucket_after b.shape h bucket) now
-        ∙ cond-true (eqb bucket bucket) (acts (Took (number p) bucket) u) u (eq-eqb bucket bucket refl) in (
+    ap (λ h. bucket_after b.shape h bucket) now
+    ∙ cond-true (eqb bucket bucket) (acts (Took (number p) bucket) u) u (eq-eqb bucket bucket refl) in (
       did,
       (guarded.0, ap (λ v. v.holder) after ∙ ap Some (sym did.moved.same)),
       ap (λ v. v.written) after ∙ free b.shape old bucket lawful.0 guarded.1,
@@ -42,8 +42,8 @@ taken b bucket found own true p q t is s =
     )
 taken b bucket found own false p q f is s =
     subst (λ o. AddsAtOnce b (unless_own o (Bounced (number p) bucket)) p q) is
-        (subst (λ es. AddsAtOnce b es p q) (cond-false (eqb (found % 2) 0) (Took (number p) bucket ∷ [])
-        (unless_own own (Bounced (number p) bucket)) f) s.did)
+    (subst (λ es. AddsAtOnce b es p q) (cond-false (eqb (found % 2) 0) (Took (number p) bucket ∷ [])
+    (unless_own own (Bounced (number p) bucket)) f) s.did)
 
 pub takes : (b : Board) (bucket found : ℕ) (p q : Pass) → Stepped b (take bucket (has_bit b p bucket)) found p q → Takes b bucket (eqb (found % 2) 0) p q
 takes b bucket found p q s = taken b bucket found (has_bit b p bucket) (eqb (found % 2) 0) p q refl refl s
@@ -62,7 +62,7 @@ pub held_word : (z : Shape) (h : List Event) (p b : ℕ) (info : Info) → (buck
     × (info.version ≡ (z.first_version + (bucket_after z h b).version) % 2 ^ 32)
 held_word z h p b info held is =
     let x = parts info.version ((z.first_version + (bucket_after z h b).version) % 2 ^ 32) 1 info.held (omega arith)
-        (is ∙ ap (λ o. (z.first_version + (bucket_after z h b).version) % 2 ^ 32 * 2 ^ 32 + bit_of o) held) in
+    (is ∙ ap (λ o. (z.first_version + (bucket_after z h b).version) % 2 ^ 32 * 2 ^ 32 + bit_of o) held) in
     (set_bit info.held x.1, x.0)
 
 -- under the bit, what an information look finds

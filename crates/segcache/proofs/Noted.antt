@@ -43,8 +43,8 @@ learns_none (kept.Cursor cursor) guest is = (refl, refl, refl)
 pub not_learned : (before after : Option Kept) (was : Kept) (guest : SharedClient) → before ≡ Some was → after ≡ Some was → is_note was ≡ false → LearnsFrom before after status.NoHandle guest guest
 not_learned before after was guest from into is =
     subst (λ (b : Option Kept). LearnsFrom b after status.NoHandle guest guest) (sym from)
-        (subst (λ (a : Option Kept). LearnsFrom (Some was) a status.NoHandle guest guest) (sym into)
-        (learns_none was guest is))
+    (subst (λ (a : Option Kept). LearnsFrom (Some was) a status.NoHandle guest guest) (sym into)
+    (learns_none was guest is))
 
 pub nothing_learned : (before after : Option Kept) (guest : SharedClient) → before ≡ None → after ≡ None → LearnsFrom before after status.NoHandle guest guest
 nothing_learned before after guest from into =

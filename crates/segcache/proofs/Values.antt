@@ -52,8 +52,8 @@ module _ (R Z : RattleType) (L : Laws Z) (g : Ghosts Z.Denot) where
   module _ {M : Type 1} {𝓤 : Ura M} {𝓛 : Logic 𝓤} {K : Type 0} {Γ : List (Item 𝓤)} {G : Goal 𝓤 𝓛.H} where
     pub loose_out : K → (d : Loose.Denot) (vs : List Val)
         → ((b o : ℕ) (h : Val) → d.at ≡ block_ptr b o → vs ≡ both (vptr b o) h ∷ [] → Good (layout Z) h
-            → Seq K 𝓛 (‵ (box_owns (g.dealloc_token d.alloc) R (block_ptr b o) d.value) ∷ ‵
-            (Z.own_val d.alloc (h ∷ [])) ∷ Γ) G)
+        → Seq K 𝓛 (‵ (box_owns (g.dealloc_token d.alloc) R (block_ptr b o) d.value) ∷ ‵
+        (Z.own_val d.alloc (h ∷ [])) ∷ Γ) G)
         → Seq K 𝓛 (‵ (Loose.own_val d vs) ∷ Γ) G
     loose_out t d vs k =
         fsplit t $ fpick t (λ vss. fsplit t $ feq_l t (λ ev. fsplit t $ feq_l t (λ ep. fsplit t $ handle_tells al t d.alloc vss.1.0 (λ h ea fits. move t (1 ∷ []) $ drop t $ move t (1 ∷ []) $
@@ -63,7 +63,7 @@ module _ (R Z : RattleType) (L : Laws Z) (g : Ghosts Z.Denot) where
 
     pub loose_in : K → (b o : ℕ) (h : Val) (a : Z.Denot) (x : R.Denot)
         → Step K 𝓛 (‵ (Loose.own_val (record { at = block_ptr b o; alloc = a; value = x }) (both (vptr b o) h ∷ []))
-            ∷ Γ) G (‵ (box_owns (g.dealloc_token a) R (block_ptr b o) x) ∷ ‵ (Z.own_val a (h ∷ [])) ∷ Γ) G
+        ∷ Γ) G (‵ (box_owns (g.dealloc_token a) R (block_ptr b o) x) ∷ ‵ (Z.own_val a (h ∷ [])) ∷ Γ) G
     loose_in t b o h a x = step (λ s. let v : Val = both (vptr b o) h in
         nothing t $ move t (2 ∷ 0 ∷ []) $ fjoin t $ feq_i t (List Val) (vptr b o ∷ []) (vptr b o ∷ []) refl $ fjoin t $ feq_i t (List Val) (v ∷ []) (v ∷ []) refl $ fjoin t $
         fpack t (Valss (RawPtr ∷ Z ∷ [])) (within (shape (loose.the_type R Z g)) (block_ptr b o, (a, tt)) (v ∷ [])) (vptr b o ∷ [], (h ∷ [], tt)) $ fjoin t $ s)
@@ -92,7 +92,7 @@ module _ {M : Type 1} {𝓤 : Ura M} {𝓛 : Logic 𝓤} {K : Type 0} {Γ : List
       → Step K 𝓛 (‵ (Handle.own_val (record { at = block_ptr b o; full = true; value = Some x }) (both (vptr b o) (vbool true) ∷ [])) ∷ Γ) G (‵ (box_owns token Kept (block_ptr b o) x) ∷ Γ) G
   full_in t b o x = step (λ s. let v : Val = both (vptr b o) (vbool true) in
       nothing t $ feq_i t (List Val) (vbool true ∷ []) (vbool true ∷ []) refl $ fjoin t $ feq_i t (List Val)
-          (vptr b o ∷ []) (vptr b o ∷ []) refl $ fjoin t $ feq_i t (List Val) (v ∷ []) (v ∷ []) refl $ fjoin t $
+      (vptr b o ∷ []) (vptr b o ∷ []) refl $ fjoin t $ feq_i t (List Val) (v ∷ []) (v ∷ []) refl $ fjoin t $
       fpack t (Valss fields) (within (shape handle.the_type) (block_ptr b o, (true, tt)) (v ∷ [])) (vptr b o ∷ [], (vbool true ∷ [], tt)) $ fjoin t $ s)
 
   -- a handle of nothing
@@ -100,8 +100,8 @@ module _ {M : Type 1} {𝓤 : Ura M} {𝓛 : Logic 𝓤} {K : Type 0} {Γ : List
       → Step K 𝓛 (‵ (Handle.own_val (record { at = null_ptr; full = false; value = None }) (both vnull (vbool false) ∷ [])) ∷ Γ) G Γ G
   none_in t = step (λ s. let v : Val = both vnull (vbool false) in
       nothing t $ nothing t $ feq_i t (List Val) (vbool false ∷ []) (vbool false ∷ []) refl $ fjoin t $ feq_i t
-          (List Val) (vnull ∷ []) (vnull ∷ []) refl $ fjoin t $ feq_i t (List Val) (v ∷ []) (v ∷ []) refl $ fjoin
-          t $
+      (List Val) (vnull ∷ []) (vnull ∷ []) refl $ fjoin t $ feq_i t (List Val) (v ∷ []) (v ∷ []) refl $ fjoin
+      t $
       fpack t (Valss fields) (within (shape handle.the_type) (null_ptr, (false, tt)) (v ∷ [])) (vnull ∷ [], (vbool false ∷ [], tt)) $ fjoin t $ s)
 
   -- a handle has a box, or nothing

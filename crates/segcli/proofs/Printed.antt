@@ -39,6 +39,11 @@ module _ {W : Type 0} (sink : Sink.Ghosts W) (more : (s t u : W) (a b : List ℕ
       → PrintOutcome (first ++ second) (output sink old new) end
   both_printed old mid new first second (Ok v) wrote same printed = (more old mid new first second wrote printed.0, printed.1 ∙ ap one_more same)
   both_printed old mid new first second (Err why) wrote same (inl (part, rest, begins, still)) =
-      inl (first ++ part, more old mid new first part wrote rest, begins_behind first part second begins, still
-      ∙ same)
+      inl (
+        first ++ part,
+        more old mid new first part wrote rest,
+        begins_behind first part second begins,
+        still
+            ∙ same,
+      )
   both_printed old mid new first second (Err why) wrote same (inr (all, once)) = inr (more old mid new first second wrote all, once ∙ ap one_more same)

@@ -69,7 +69,7 @@ module _ (i : Index) (time : ℕ) (key value : List ℕ) (old new : Member) (mem
       → Makes (board_of i) (plan until span) calls chosen between → steps ≡ []
       → Clears (board_of i) old.cutoff until steps between new.pass
       → AddsRoom (shape_of i) (number old.pass) old.cutoff (IsOnly until) (sum_by (came_to refilled_segments) calls)
-          (sum_by (came_to kept_items) calls) (sum_by (came_to evicted_keys) calls) (mine old.pass) (mine new.pass)
+      (sum_by (came_to kept_items) calls) (sum_by (came_to evicted_keys) calls) (mine old.pass) (mine new.pass)
   unstored until span calls chosen between steps are chooses makes none clears =
       let b = board_of i in
       let from = chosen_on b old.pass chosen member.0 chooses in
@@ -93,18 +93,18 @@ module _ (i : Index) (time : ℕ) (key value : List ℕ) (old new : Member) (mem
       let cleared = clears_come b old.cutoff until puts.steps between new.pass writes.on.quiet puts.clears in
       let same : number last.0 ≡ number old.pass = came.on.same ∙ from.on.same in
       let entry : mine between ≡ Wrote (number old.pass) (Set key value old.clock) Stored (Some writes.answer.0) ∷
-          mine last.0 = writes.answer.1 ∙ ap (λ n. Wrote n (Set key value old.clock) Stored (Some writes.answer.0) ∷
-          mine last.0) same in
+      mine last.0 = writes.answer.1 ∙ ap (λ n. Wrote n (Set key value old.clock) Stored (Some writes.answer.0) ∷
+      mine last.0) same in
       subst (λ l. Adds until put.Stored l puts.steps) (sym is) (
         mine last.0,
         from_old until puts.chosen last.0 (sum_by (came_to refilled_segments) (sets write.Stored ∷ earlier))
             (sum_by (came_to kept_items) (sets write.Stored ∷ earlier))
             (sum_by (came_to evicted_keys) (sets write.Stored ∷ earlier)) from
             (so_many b old.cutoff (IsOnly until) (sum_by (came_to refilled_segments) earlier)
-                (sum_by (came_to kept_items) earlier) (sum_by (came_to evicted_keys) earlier)
-                (sum_by (came_to refilled_segments) (sets write.Stored ∷ earlier))
-                (sum_by (came_to kept_items) (sets write.Stored ∷ earlier))
-                (sum_by (came_to evicted_keys) (sets write.Stored ∷ earlier)) puts.chosen last.0
+            (sum_by (came_to kept_items) earlier) (sum_by (came_to evicted_keys) earlier)
+            (sum_by (came_to refilled_segments) (sets write.Stored ∷ earlier))
+            (sum_by (came_to kept_items) (sets write.Stored ∷ earlier))
+            (sum_by (came_to evicted_keys) (sets write.Stored ∷ earlier)) puts.chosen last.0
             (stored_sum (came_to refilled_segments) earlier refl) (stored_sum (came_to kept_items) earlier refl) (stored_sum (came_to evicted_keys) earlier refl) came).adds,
         (
           writes.answer.0,
@@ -114,8 +114,8 @@ module _ (i : Index) (time : ℕ) (key value : List ℕ) (old new : Member) (mem
               (mine new.pass))
               (writes.on.same ∙ same)
               (subst (λ l. AddsRoom (shape_of i) (number between) old.cutoff IsAny
-                  (sum_by (came_to_step refilled_segments) puts.steps) (sum_by (came_to_step kept_items) puts.steps)
-                  (sum_by (came_to_step evicted_keys) puts.steps) l (mine new.pass)) entry cleared.adds),
+              (sum_by (came_to_step refilled_segments) puts.steps) (sum_by (came_to_step kept_items) puts.steps)
+              (sum_by (came_to_step evicted_keys) puts.steps) l (mine new.pass)) entry cleared.adds),
         ),
       )
   put_adds put.NoRoom puts = unstored puts.until puts.span puts.calls puts.chosen puts.between puts.steps
@@ -126,12 +126,12 @@ module _ (i : Index) (time : ℕ) (key value : List ℕ) (old new : Member) (mem
 
 pub room_adds : (i : Index) (made : Bool) (old new : Member) → IsMember i old → (room : MakesRoomFor made (board_of i) old new)
     → AddsRoom (shape_of i) (number old.pass) old.cutoff (IsOnly (deadline_of old))
-        (sum_by (came_to refilled_segments) room.calls) (sum_by (came_to kept_items) room.calls)
-        (sum_by (came_to evicted_keys) room.calls) (mine old.pass) (mine new.pass)
+    (sum_by (came_to refilled_segments) room.calls) (sum_by (came_to kept_items) room.calls)
+    (sum_by (came_to evicted_keys) room.calls) (mine old.pass) (mine new.pass)
 room_adds i made old new member room =
     (calls_come (board_of i) (room_plan old.cutoff (deadline_of old)) room.calls old.pass new.pass member.0
-        (room_open (board_of i) old.cutoff (deadline_of old) room.calls old.pass new.pass room.makes)
-        room.makes).adds
+    (room_open (board_of i) old.cutoff (deadline_of old) room.calls old.pass new.pass room.makes)
+    room.makes).adds
 
 -- ---- what stays, and what is counted
 

@@ -101,10 +101,16 @@ bare_within deadline cutoff = record {
 
 module _ (b : Board) (from to : Plan) (within : IsWithin from to) where
   call_within : (call : PutCall) (p q : Pass) → IsCall b from call p q → IsCall b to call p q
-  call_within (sets told) p q (key, value, now, is, fresh, set, writes) =
-      (key, value, now, within.request (Set key value now) is,
-      (λ until stores. subst (λ span. IsInSpan span until) (within.span (Set key value now) is)
-      (fresh until stores)), set, writes)
+  call_within (sets told) p q (key, value, now, is, fresh, set, writes) = (
+    key,
+    value,
+    now,
+    within.request (Set key value now) is,
+    (λ until stores. subst (λ span. IsInSpan span until) (within.span (Set key value now) is)
+        (fresh until stores)),
+    set,
+    writes,
+  )
   call_within (evicts segment told) p q is = is
   call_within (keeps segment row cutoff told) p q is = (is.0, (is.1.0, within.cutoff is.1.0 is.1.1, is.1.2), is.2)
   call_within (refills segment told) p q is = (is.0, subst (λ deadline. RefillsSegment b segment deadline told p q) within.deadline is.1)
@@ -239,15 +245,20 @@ module _ (b : Board) (cutoff : Option ℕ) (deadline : ℕ) where
       → Arranges b cutoff deadline (row + 1) (effort_from 0 (before + more) 0) p r
   row_more least segment at by row more before told p q r is enough own same count over stayed =
       arranges_then row 1 (effort_from 0 before 0) (effort_from 0 more 0) p q r over
-          (row_arranges least segment at by told (effort_from 0 more 0) q r is enough refl count refl (own
-          ∙ sym same) stayed)
+      (row_arranges least segment at by told (effort_from 0 more 0) q r is enough refl count refl (own
+      ∙ sym same) stayed)
 
   -- those of a client that keeps nothing are those of one that keeps
   abbrev pub arranges_wider : (most : ℕ) (effort : Effort) (p q : Pass)
       → (bare : Arranges b None deadline most effort p q) → (wide : Arranges b cutoff deadline most effort p q)
       × (wide.calls ≡ bare.calls)
   arranges_wider most effort p q bare = (
-    record { calls = bare.calls; makes = makes_within b (room_plan None deadline) (room_plan cutoff deadline)
-        (bare_within deadline cutoff) bare.calls p q bare.makes; few = bare.few; comes = bare.comes },
+    record {
+      calls = bare.calls;
+      makes = makes_within b (room_plan None deadline) (room_plan cutoff deadline)
+          (bare_within deadline cutoff) bare.calls p q bare.makes;
+      few = bare.few;
+      comes = bare.comes;
+    },
     refl,
   )

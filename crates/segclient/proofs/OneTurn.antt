@@ -54,8 +54,8 @@ both_none effort =
     let two : effort.kept ≡ 0 + effort.kept = omega arith in
     let three : effort.keys ≡ 0 + effort.keys = omega arith in
     ap (λ (n : ℕ). effort_from n effort.kept effort.keys) one
-        ∙ ap (λ (n : ℕ). effort_from (0 + effort.refilled) n effort.keys) two
-        ∙ ap (λ (n : ℕ). effort_from (0 + effort.refilled) (0 + effort.kept) n) three
+    ∙ ap (λ (n : ℕ). effort_from (0 + effort.refilled) n effort.keys) two
+    ∙ ap (λ (n : ℕ). effort_from (0 + effort.refilled) (0 + effort.kept) n) three
 
 pub aside_refilled : (segment : ℕ) (told : RefillAnswer) → refilled_by told ≡ came_to_step refilled_segments (refills_aside segment told)
 aside_refilled segment refill.Refilled = refl

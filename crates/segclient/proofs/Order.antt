@@ -62,15 +62,15 @@ room_open b cutoff deadline (sets told ∷ earlier) p q makes =
     let last = last_of b (room_plan cutoff deadline) (sets told) earlier p q makes in absurd (none-some (Set last.2.0 last.2.1 last.2.2) last.2.3)
 room_open b cutoff deadline (evicts segment told ∷ earlier) p q makes =
     let last = last_of b (room_plan cutoff deadline) (evicts segment told) earlier p q makes in
-        open_more (evicts segment told) earlier (evict_apart segment told)
-        (room_open b cutoff deadline earlier p last.0 last.1)
+    open_more (evicts segment told) earlier (evict_apart segment told)
+    (room_open b cutoff deadline earlier p last.0 last.1)
 room_open b cutoff deadline (keeps segment row by told ∷ earlier) p q makes =
     let last = last_of b (room_plan cutoff deadline) (keeps segment row by told) earlier p q makes in
-        open_more (keeps segment row by told) earlier (λ e. cc)
-        (room_open b cutoff deadline earlier p last.0 last.1)
+    open_more (keeps segment row by told) earlier (λ e. cc)
+    (room_open b cutoff deadline earlier p last.0 last.1)
 room_open b cutoff deadline (refills segment told ∷ earlier) p q makes =
     let last = last_of b (room_plan cutoff deadline) (refills segment told) earlier p q makes in
-        open_more (refills segment told) earlier (λ e. cc) (room_open b cutoff deadline earlier p last.0 last.1)
+    open_more (refills segment told) earlier (λ e. cc) (room_open b cutoff deadline earlier p last.0 last.1)
 
 -- ---- sets in a row
 
@@ -284,12 +284,12 @@ module _ (b : Board) (plan : Plan) where
       let own = empties.own ∙ makes_same b plan full.calls p q full.makes in
       let makes = one_more b plan (evicts segment answer) full.calls p q r full.makes (empties.own, empties.evicts) in
       let was_full = subst (λ l. Contains l (sets write.BucketFull)) (sym full.ends.0.1)
-          (Contains-append_left (sets write.BucketFull ∷ []) full.ends.0.0 (sets write.BucketFull)
-          (Contains-push [] (sets write.BucketFull))) in
+      (Contains-append_left (sets write.BucketFull ∷ []) full.ends.0.0 (sets write.BucketFull)
+      (Contains-push [] (sets write.BucketFull))) in
       let alone : IsEffort (evicts segment answer ∷ []) out =
-          effort_one (evicts segment answer) out (ap (λ (e : Effort). e.refilled) empties.comes)
-          (ap (λ (e : Effort). e.kept) empties.comes) (ap (λ (e : Effort). e.keys) empties.comes
-          ∙ evicted_came segment answer) in (
+      effort_one (evicts segment answer) out (ap (λ (e : Effort). e.refilled) empties.comes)
+      (ap (λ (e : Effort). e.kept) empties.comes) (ap (λ (e : Effort). e.keys) empties.comes
+      ∙ evicted_came segment answer) in (
         record {
           calls = then.calls ++ evicts segment answer ∷ full.calls;
           makes = makes_then b plan then.calls (evicts segment answer ∷ full.calls) p r t makes then.makes;

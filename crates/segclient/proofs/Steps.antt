@@ -89,15 +89,15 @@ module _ (b : Board) (cutoff : Option ℕ) (deadline : ℕ) where
       let two = sum_by-cons (came_to_step kept_items) step earlier in
       let three = sum_by-cons (came_to_step evicted_keys) step earlier in
       so_many b cutoff IsAny (sum_by (came_to_step refilled_segments) earlier + came_to_step refilled_segments step)
-          (sum_by (came_to_step kept_items) earlier + came_to_step kept_items step)
-          (sum_by (came_to_step evicted_keys) earlier + came_to_step evicted_keys step)
+      (sum_by (came_to_step kept_items) earlier + came_to_step kept_items step)
+      (sum_by (came_to_step evicted_keys) earlier + came_to_step evicted_keys step)
       (sum_by (came_to_step refilled_segments) (step ∷ earlier)) (sum_by (came_to_step kept_items) (step ∷ earlier))
-          (sum_by (came_to_step evicted_keys) (step ∷ earlier)) p q (omega (arith, one)) (omega (arith, two))
-          (omega (arith, three))
+      (sum_by (came_to_step evicted_keys) (step ∷ earlier)) p q (omega (arith, one)) (omega (arith, two))
+      (omega (arith, three))
       (comes_then b cutoff IsAny (sum_by (came_to_step refilled_segments) earlier)
-          (sum_by (came_to_step kept_items) earlier) (sum_by (came_to_step evicted_keys) earlier)
-          (came_to_step refilled_segments step) (came_to_step kept_items step) (came_to_step evicted_keys step) p
-          between q first then)
+      (sum_by (came_to_step kept_items) earlier) (sum_by (came_to_step evicted_keys) earlier)
+      (came_to_step refilled_segments step) (came_to_step kept_items step) (came_to_step evicted_keys step) p
+      between q first then)
 
 -- what they came to is counted
 pub steps_counted : (steps : List Step) (effort : Effort) (stats : Stats) → IsEffortOf steps effort → with_effort effort stats ≡ cleared_too steps stats

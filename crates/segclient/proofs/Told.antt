@@ -77,9 +77,13 @@ put_stands i time key value old new member puts = by on.steps
     on =
         let b = board_of i in
         let from = chosen_on b old.pass puts.chosen member.0 puts.chooses in
-        let made = makes_on b (record { request = Some (Set key value old.clock); cutoff = old.cutoff;
-            deadline = puts.until; span = puts.span }) puts.calls puts.chosen puts.between from.on.quiet puts.makes
-            in
+        let made = makes_on b (record {
+          request = Some (Set key value old.clock);
+          cutoff = old.cutoff;
+          deadline = puts.until;
+          span = puts.span;
+        }) puts.calls puts.chosen puts.between from.on.quiet puts.makes
+        in
         goes_then b old.pass puts.between new.pass (goes_then b old.pass puts.chosen puts.between from.on made)
         (clears_on b old.cutoff puts.until puts.steps puts.between new.pass made.quiet puts.clears)
 

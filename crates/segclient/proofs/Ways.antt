@@ -281,13 +281,13 @@ module _ (b : Board) (plan : Plan) where
       let two = sum_by-cons (came_to kept_items) call earlier in
       let three = sum_by-cons (came_to evicted_keys) call earlier in
       so_many b plan.cutoff (IsOnly plan.deadline)
-          (sum_by (came_to refilled_segments) earlier + came_to refilled_segments call)
-          (sum_by (came_to kept_items) earlier + came_to kept_items call)
-          (sum_by (came_to evicted_keys) earlier + came_to evicted_keys call)
+      (sum_by (came_to refilled_segments) earlier + came_to refilled_segments call)
+      (sum_by (came_to kept_items) earlier + came_to kept_items call)
+      (sum_by (came_to evicted_keys) earlier + came_to evicted_keys call)
       (sum_by (came_to refilled_segments) (call ∷ earlier)) (sum_by (came_to kept_items) (call ∷ earlier))
-          (sum_by (came_to evicted_keys) (call ∷ earlier)) p q (omega (arith, one)) (omega (arith, two))
-          (omega (arith, three))
+      (sum_by (came_to evicted_keys) (call ∷ earlier)) p q (omega (arith, one)) (omega (arith, two))
+      (omega (arith, three))
       (comes_then b plan.cutoff (IsOnly plan.deadline) (sum_by (came_to refilled_segments) earlier)
-          (sum_by (came_to kept_items) earlier) (sum_by (came_to evicted_keys) earlier)
-          (came_to refilled_segments call) (came_to kept_items call) (came_to evicted_keys call) p between q first
-          then)
+      (sum_by (came_to kept_items) earlier) (sum_by (came_to evicted_keys) earlier)
+      (came_to refilled_segments call) (came_to kept_items call) (came_to evicted_keys call) p between q first
+      then)

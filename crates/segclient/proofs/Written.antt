@@ -33,6 +33,11 @@ made_write b request told old q new writes ends = record {
   memo = (clears_come b old.cutoff (deadline_of old) ends.steps q new.pass writes.on.quiet ends.clears).memo ∙ answer_keeps b.shape (request old.clock) told old.pass q writes.answer;
   counts = ends.stats;
   draws = ends.draws;
-  settings = record { number = ends.settings.number ∙ writes.on.same; clock = ends.settings.clock;
-      time_to_live = ends.settings.time_to_live; cutoff = ends.settings.cutoff; queues = ends.settings.queues };
+  settings = record {
+    number = ends.settings.number ∙ writes.on.same;
+    clock = ends.settings.clock;
+    time_to_live = ends.settings.time_to_live;
+    cutoff = ends.settings.cutoff;
+    queues = ends.settings.queues;
+  };
 }

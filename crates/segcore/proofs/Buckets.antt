@@ -69,10 +69,13 @@ joined z h b d l lt =
     let u = bucket_after z h b in
     let j = joins z h b d l lt in
     let i : IsContent h b u (8 * d + 7) (next j.0) = subst (IsContent h b u (8 * d + 7)) j.1 ((chain_of z h l b).contents (8 * d + 7)) in
-    let p = i.2 in let same : i.0 ≡ d = omega arith in
-    (j.0, i.3 ∙ ap (λ n. Some (home b (n + 1))) same, λ c at. at_word z h b (8 * d + 7) c at
-        ∙ (word_content z h u (8 * d + 7) (omega arith) ∙ ap (content_word h) j.1),
-        home_in z h j.0 (home b (i.0 + 1)) l i.3)
+    let p = i.2 in let same : i.0 ≡ d = omega arith in (
+      j.0,
+      i.3 ∙ ap (λ n. Some (home b (n + 1))) same,
+      λ c at. at_word z h b (8 * d + 7) c at
+          ∙ (word_content z h u (8 * d + 7) (omega arith) ∙ ap (content_word h) j.1),
+      home_in z h j.0 (home b (i.0 + 1)) l i.3,
+    )
 
 says_of_chain : (z : Shape) (h : List Event) (b : ℕ) → IsLawful z h → ChainFacts z h b
 says_of_chain z h b l = let e = chained_marked z h b in let s = (chain_of z h l b).short in record {
@@ -125,8 +128,8 @@ pub unwritten_version : (z : Shape) (h : List Event) (b : ℕ) → z.first_versi
     → (bucket_after z h b).written ≡ false → word z h (OfBucket b 0) / 2 ^ 32 ≡ (after z (seen h)).version b
 unwritten_version z h b few l w = let u = bucket_after z h b in let lt = bit_small u.holder in let v = version_of z h b few l in let none : behind z h b ≡ 0 = ap (λ t. cond t 1 0) w in
     let x : word z h (OfBucket b 0) / 2 ^ 32 ≡ (z.first_version + u.version) % 2 ^ 32 = omega arith in x
-        ∙ (ap (λ n. (z.first_version + n) % 2 ^ 32) (let e : u.version ≡ u.version + behind z h b = omega arith in
-        e) ∙ sym v)
+    ∙ (ap (λ n. (z.first_version + n) % 2 ^ 32) (let e : u.version ≡ u.version + behind z h b = omega arith in
+    e) ∙ sym v)
 
 pub free_version : (z : Shape) (h : List Event) (b : ℕ) → z.first_version < 2 ^ 32 → IsLawful z h
     → word z h (OfBucket b 0) % 2 ^ 32 ≡ 0 → word z h (OfBucket b 0) / 2 ^ 32 ≡ (after z (seen h)).version b

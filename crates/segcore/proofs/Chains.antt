@@ -97,9 +97,11 @@ drew z h p b d m s l c = let u = bucket_after z h b in let v = acts (Drew p b d 
       inr (ap (λ (x : Home). x.depth) (sym (same_Some _ _ q)) ∙ ed, ap Some (eqb-true m k t)))
       (λ f. ⊎_elim (λ w. inl w) (λ w. absurd (none-some k (sym s.2 ∙ w.1))) (c.homes k e (sym (cond-false (eqb m k) (Some _) (home_of h k) f) ∙ is')))
       (cases_Bool (eqb m k));
-  spare = λ k is'. let q : m ≡ k = same_Some m k is' in
-      (omega arith, cond-true (eqb m k) (Some (record { bucket = b; depth = d })) (home_of h k) (eq-eqb m k q)
-      ∙ ap (λ x. Some (record { bucket = b; depth = x })) ed);
+  spare = λ k is'. let q : m ≡ k = same_Some m k is' in (
+    omega arith,
+    cond-true (eqb m k) (Some (record { bucket = b; depth = d })) (home_of h k) (eq-eqb m k q)
+        ∙ ap (λ x. Some (record { bucket = b; depth = x })) ed,
+  );
 }
   where
     spared : (n : ℕ) (x : Content) → IsContent h b (bucket_after z h b) n x → IsContent h b (acts (Drew p b d m) (bucket_after z h b)) n x

@@ -68,9 +68,12 @@ one_event z (Chained p b' m) h b n a l is' = let c = coherent z h l.0 in let u =
     (λ y. let eb = eqb-true b' b y in
     let old : u.items n ≡ item a = subst (λ t. (bucket_after z h t).items n ≡ item a) (sym eb) is' in
     ⊎_elim
-    (λ t. inr (inr (u.chained, sym (eqb-true (last u) n t),
-        subst (λ x. u.chained < (bucket_after z (Chained p b' m ∷ h) x).chained) eb (let g =
-        ap (λ v. v.chained) (grown z h p b' m l c) in omega arith))))
+    (λ t. inr (inr (
+      u.chained,
+      sym (eqb-true (last u) n t),
+      subst (λ x. u.chained < (bucket_after z (Chained p b' m ∷ h) x).chained) eb (let g =
+          ap (λ v. v.chained) (grown z h p b' m l c) in omega arith),
+    )))
     (λ f. inl (subst (λ t. (bucket_after z (Chained p b' m ∷ h) t).items n ≡ item a) eb (ap (λ v. v.items n) (grown z h p b' m l c)
     ∙ (elsewhere z h p b' m l c n (eqb-false (last u) n f) (λ q. copy_item l.1.suits.1.1 a (sym l.1.suits.1.3 ∙ (ap u.items q ∙ old))) ∙ old))))
     (cases_Bool (eqb (last u) n)))

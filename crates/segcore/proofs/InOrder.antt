@@ -64,8 +64,12 @@ looks_since : (z : Shape) (start : World) (ss : List (ℕ × Step)) (w : World) 
     → ReachesOn z start ss w → get_elem? start.views q ≡ some from → get_elem? w.views q ≡ some to
     → LooksSince start.trace from to
 looks_since z start [] w q from to r at on =
-    record { news = []; looks = ap (λ (v : View). v.looks)
-    (sym (some-injective from to (sym at ∙ (ap (λ (x : World). get_elem? x.views q) (sym r) ∙ on)))); all = tt }
+    record {
+      news = [];
+      looks = ap (λ (v : View). v.looks)
+          (sym (some-injective from to (sym at ∙ (ap (λ (x : World). get_elem? x.views q) (sym r) ∙ on))));
+      all = tt;
+    }
 looks_since z start (s ∷ ss) w q from to r at on = let b = r.0 in let v = view_after s.0 r.1 s.1 z b in ⊎_elim
     (λ t. let old = looks_since z start ss b q from r.1 r.2 at (subst (λ n. get_elem? b.views n ≡ some r.1) (sym t.0) r.3) in
     record { news = b.trace ∷ old.news; looks = ap (λ (x : View). x.looks) (sym t.1) ∙ ap (λ l. b.trace ∷ l) old.looks; all = (trace_on z start ss b r.2, old.all) })

@@ -29,9 +29,9 @@ each_word z ws F G d x here long each words c is = ⊎_elim
 
 pub steps : (z : Shape) (ws : List ℕ) (views : List View) (h : List Event) (p : ℕ) (v : View) (st : Step) → Lawful z ws views h → get_elem? views p ≡ some v → KeepsLaw z st p h
     → let found = get_or ws (address z (cell st)) 0 in
-        Lawful z (set ws (address z (cell st)) (becomes st found))
-        (set views p (record v { trace = adds st p found ++ h; looks = h ∷ v.looks; turn = suc (steps_of views) }))
-        (adds st p found ++ h)
+    Lawful z (set ws (address z (cell st)) (becomes st found))
+    (set views p (record v { trace = adds st p found ++ h; looks = h ∷ v.looks; turn = suc (steps_of views) }))
+    (adds st p found ++ h)
 steps z ws views h p v st l at k =
     let found = get_or ws (address z (cell st)) 0 in
     let f : word z h (cell st) ≡ found = sym (l.each (cell st) k.inside) in
@@ -44,10 +44,13 @@ steps z ws views h p v st l at k =
       each = each_word z ws (word z h) (word z (adds st p found ++ h)) (cell st) (becomes st found) k.inside l.long l.each (rw (← f) k.words);
       knows = λ q u is. ⊎_elim
           (λ t. subst (λ (x : View). Knows q x (adds st p found ++ h)) t.1 (record { number = (l.knows p v at).number ∙ sym t.0; more = []; rest = refl; others = tt }))
-          (λ t. let old = l.knows q u t.1 in record { number = old.number; more = adds st p found ++ old.more;
-              rest = ap (λ x. adds st p found ++ x) old.rest
-              ∙ sym (append_assoc (adds st p found) old.more u.trace);
-              others = none_after p q (adds st p found) old.more own t.0 old.others })
+          (λ t. let old = l.knows q u t.1 in record {
+            number = old.number;
+            more = adds st p found ++ old.more;
+            rest = ap (λ x. adds st p found ++ x) old.rest
+                ∙ sym (append_assoc (adds st p found) old.more u.trace);
+            others = none_after p q (adds st p found) old.more own t.0 old.others;
+          })
           (at_set views p q w u is);
       later = λ q past. let short : length views ≤ q = omega (arith, length-set views p w) in
           none_after p q (adds st p found) h own (λ e. let i = inside_list views p v at in omega arith) (l.later q short);

@@ -36,11 +36,11 @@ pub chained_marked : (z : Shape) (h : List Event) (b : ℕ) → chained_to (mark
 chained_marked z [] b = refl
 chained_marked z (Chained p a m ∷ h) b = let i = chained_marked z h b in ⊎_elim
     (λ t. cond-true (eqb a b) (chained_to (marked h) b + 1) (chained_to (marked h) b) t
-        ∙ (ap (λ n. n + 1) i ∙ sym (ap (λ u. u.chained)
-        (cond-true (eqb a b) (acts (Chained p a m) (bucket_after z h b)) (bucket_after z h b) t))))
+    ∙ (ap (λ n. n + 1) i ∙ sym (ap (λ u. u.chained)
+    (cond-true (eqb a b) (acts (Chained p a m) (bucket_after z h b)) (bucket_after z h b) t))))
     (λ f. cond-false (eqb a b) (chained_to (marked h) b + 1) (chained_to (marked h) b) f
-        ∙ (i ∙ sym (ap (λ u. u.chained) (cond-false (eqb a b) (acts (Chained p a m) (bucket_after z h b))
-        (bucket_after z h b) f))))
+    ∙ (i ∙ sym (ap (λ u. u.chained) (cond-false (eqb a b) (acts (Chained p a m) (bucket_after z h b))
+    (bucket_after z h b) f))))
     (cases_Bool (eqb a b))
 chained_marked z (e ∷ h) b = chained_marked z h b ∙ sym (chained_kept z e h b (λ u. refl))
 
@@ -61,8 +61,8 @@ drawn_marked z (Drew p a d m ∷ h) b l = let i = drawn_marked z h b l.0 in ⊎_
     cond-true (eqb a b) (drawn_for (marked h) b + 1) (drawn_for (marked h) b) t ∙ (ap (λ n. n + 1) (i ∙ ap (λ o. (bucket_after z h b).chained + one_if o) no_spare)
     ∙ (omega arith ∙ sym (ap drawn_of (cond-true (eqb a b) (acts (Drew p a d m) (bucket_after z h b)) (bucket_after z h b) t)))))
     (λ f. cond-false (eqb a b) (drawn_for (marked h) b + 1) (drawn_for (marked h) b) f
-        ∙ (i ∙ sym (ap drawn_of (cond-false (eqb a b) (acts (Drew p a d m) (bucket_after z h b))
-        (bucket_after z h b) f))))
+    ∙ (i ∙ sym (ap drawn_of (cond-false (eqb a b) (acts (Drew p a d m) (bucket_after z h b))
+    (bucket_after z h b) f))))
     (cases_Bool (eqb a b))
 drawn_marked z (Chained p a m ∷ h) b l = let i = drawn_marked z h b l.0 in ⊎_elim
     (λ t. let had : (bucket_after z h b).spare ≡ Some m = rw (← eqb-true a b t) l.1.suits.0 in

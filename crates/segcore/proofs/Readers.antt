@@ -107,14 +107,16 @@ in_moved (Some x) t v s e = ap (λ (y : Cached). y.segment) (same_Some (with_seg
 -- an event that links nothing into a segment, and moves nothing there, brings no key there
 pub still_empty : (z : Shape) (h : List Event) (e : Event) (s : ℕ) (k : List ℕ) → Fits z h e → ((p : ℕ) (q : Request) (row n : ℕ) → e ≢ Linked p q s row n)
     → ((p : ℕ) (k : List ℕ) (a i row n : ℕ) → e ≢ Relinked p k a i s row n) → HasValueIn z (seen (e ∷ h)) k s → HasValueIn z (seen h) k s
-still_empty z h (Replied q r y) s k f ne ne' is' =
-    (is'.0, sym (stands_wrote z q r y None (seen h) k
-    ∙ same_cond (same_key (key_of r) k) (put r y None (stands z (seen h) k)) (stands z (seen h) k)
-    (refused r y None (stands z (seen h) k) f.suits)) ∙ is'.1)
+still_empty z h (Replied q r y) s k f ne ne' is' = (
+  is'.0,
+  sym (stands_wrote z q r y None (seen h) k
+      ∙ same_cond (same_key (key_of r) k) (put r y None (stands z (seen h) k)) (stands z (seen h) k)
+      (refused r y None (stands z (seen h) k) f.suits)) ∙ is'.1,
+)
 still_empty z h (Linked q r t row n) s k f ne ne' is' = ⊎_elim
     (λ y. let e : Some (cached (value_of r) t) ≡ Some (cached is'.0 s) =
-        sym (stands_wrote z q r Stored (Some t) (seen h) k
-        ∙ cond-true (same_key (key_of r) k) (Some (cached (value_of r) t)) (stands z (seen h) k) y) ∙ is'.1 in
+    sym (stands_wrote z q r Stored (Some t) (seen h) k
+    ∙ cond-true (same_key (key_of r) k) (Some (cached (value_of r) t)) (stands z (seen h) k) y) ∙ is'.1 in
     let st : t ≡ s = ap (λ (x : Cached). x.segment) (same_Some (cached (value_of r) t) (cached is'.0 s) e) in absurd (ne q r row n (ap (λ x. Linked q r x row n) st)))
     (λ n'. (is'.0, sym (stands_wrote z q r Stored (Some t) (seen h) k ∙ cond-false (same_key (key_of r) k) (Some (cached (value_of r) t)) (stands z (seen h) k) n') ∙ is'.1))
     (cases_Bool (same_key (key_of r) k))

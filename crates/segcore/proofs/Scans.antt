@@ -47,23 +47,23 @@ one z k m h (at k' t r n f) p s = inr (⊎_elim
 one z k m h (chained b) p s = inr (⊎_elim
     (λ y. let c = chained_to h b in let eb = eqb-true b (bucket_of z k) y in
     let more : chained_to (chained b ∷ h) (bucket_of z k) ≡ c + 1 =
-        cond-true (eqb b (bucket_of z k)) (chained_to h (bucket_of z k) + 1) (chained_to h (bucket_of z k)) y
-        ∙ ap (λ x. chained_to h x + 1) (sym eb) in
+    cond-true (eqb b (bucket_of z k)) (chained_to h (bucket_of z k) + 1) (chained_to h (bucket_of z k)) y
+    ∙ ap (λ x. chained_to h x + 1) (sym eb) in
     let ec : chained_to h (bucket_of z k) ≡ c = ap (chained_to h) (sym eb) in
     let now : place z (chained b ∷ h) k ≡ Some (cond (eqb (8 * c + 7) s.at) (8 * c + 9) s.at) = cond-true (eqb b (bucket_of z k)) (onward c (place z h k)) (place z h k) y ∙ ap (onward c) s.place in
     let lt = s.within.0 in
     ⊎_elim
     (λ t. let e = eqb-true (8 * c + 7) s.at t in
-        still_in z k m h (chained b ∷ h) s s.item s.stands (8 * c + 9) (now
-        ∙ ap Some (cond-true (eqb (8 * c + 7) s.at) (8 * c + 9) s.at t)) (omega arith) (omega arith, omega arith))
+    still_in z k m h (chained b ∷ h) s s.item s.stands (8 * c + 9) (now
+    ∙ ap Some (cond-true (eqb (8 * c + 7) s.at) (8 * c + 9) s.at t)) (omega arith) (omega arith, omega arith))
     (λ f. still_in z k m h (chained b ∷ h) s s.item s.stands s.at (now ∙ ap Some (cond-false (eqb (8 * c + 7) s.at) (8 * c + 9) s.at f)) (omega arith) (omega arith, s.within.1))
     (cases_Bool (eqb (8 * c + 7) s.at)))
     (λ f. let same : chained_to (chained b ∷ h) (bucket_of z k) ≡ chained_to h (bucket_of z k) =
-        cond-false (eqb b (bucket_of z k)) (chained_to h (bucket_of z k) + 1) (chained_to h (bucket_of z k)) f in
+    cond-false (eqb b (bucket_of z k)) (chained_to h (bucket_of z k) + 1) (chained_to h (bucket_of z k)) f in
     let lt = s.within.0 in
     still_in z k m h (chained b ∷ h) s s.item s.stands s.at
-        (cond-false (eqb b (bucket_of z k)) (onward (chained_to h b) (place z h k)) (place z h k) f
-        ∙ s.place) (omega arith) (omega arith, s.within.1))
+    (cond-false (eqb b (bucket_of z k)) (onward (chained_to h b) (place z h k)) (place z h k) f
+    ∙ s.place) (omega arith) (omega arith, s.within.1))
     (cases_Bool (eqb b (bucket_of z k))))
 one z k m h (drawn b) p s = inr (still_in z k m h (drawn b ∷ h) s s.item s.stands s.at s.place (omega arith) s.within)
 one z k m h (bumped t r f) p s = inr (still_in z k m h (bumped t r f ∷ h) s s.item s.stands s.at s.place (omega arith) s.within)
@@ -120,24 +120,24 @@ pub has_place : (z : Shape) (k : List ℕ) (h : List Mark) (x : Cached) → IsWe
 has_place z k [] x p t = absurd (none-some x t)
 has_place z k (enters (entry.Wrote q w y s) ∷ h) x p t = ⊎_elim
     (λ e. let r = wrote z k w y s h x (key_true (key_of w) k e) p.0 p.1 (sym (stands_wrote z q w y s (entries h) k
-        ∙ cond-true (same_key (key_of w) k) (put w y s (stands z (entries h) k)) (stands z (entries h) k) e) ∙ t) in
+    ∙ cond-true (same_key (key_of w) k) (put w y s (stands z (entries h) k)) (stands z (entries h) k) e) ∙ t) in
     ⊎_elim (λ i. record { at = i.at; place = i.place; within = i.within }) (λ old. let i = has_place z k h x p.0 old in record { at = i.at; place = i.place; within = i.within }) r)
     (λ f. let i = has_place z k h x p.0 (sym (stands_wrote z q w y s (entries h) k
-        ∙ cond-false (same_key (key_of w) k) (put w y s (stands z (entries h) k)) (stands z (entries h) k) f)
-        ∙ t) in record { at = i.at; place = i.place; within = i.within })
+    ∙ cond-false (same_key (key_of w) k) (put w y s (stands z (entries h) k)) (stands z (entries h) k) f)
+    ∙ t) in record { at = i.at; place = i.place; within = i.within })
     (cases_Bool (same_key (key_of w) k))
 has_place z k (enters (entry.Evicted q k' s) ∷ h) x p t = ⊎_elim
     (λ e. absurd (none-some x (sym (stands_evicted z q k' s (entries h) k ∙ cond-true (same_key k' k) None (stands z (entries h) k) e) ∙ t)))
     (λ f. let i = has_place z k h x p.0 (sym (stands_evicted z q k' s (entries h) k
-        ∙ cond-false (same_key k' k) None (stands z (entries h) k) f) ∙ t) in
-        record { at = i.at; place = i.place; within = i.within })
+    ∙ cond-false (same_key k' k) None (stands z (entries h) k) f) ∙ t) in
+    record { at = i.at; place = i.place; within = i.within })
     (cases_Bool (same_key k' k))
 has_place z k (enters (entry.Moved q k' f s) ∷ h) x p t = let m = stands_moved z q k' f s (entries h) k in ⊎_elim
     (λ e. let y = was_moved (stands z (entries h) k) s x (sym (m ∙ cond-true (same_key k' k) (option_map (with_segment s) (stands z (entries h) k)) (stands z (entries h) k) e) ∙ t) in
     let i = has_place z k h y.0 p.0 y.1 in record { at = i.at; place = i.place; within = i.within })
     (λ g. let i = has_place z k h x p.0 (sym (m
-        ∙ cond-false (same_key k' k) (option_map (with_segment s) (stands z (entries h) k)) (stands z (entries h) k)
-        g) ∙ t) in record { at = i.at; place = i.place; within = i.within })
+    ∙ cond-false (same_key k' k) (option_map (with_segment s) (stands z (entries h) k)) (stands z (entries h) k)
+    g) ∙ t) in record { at = i.at; place = i.place; within = i.within })
     (cases_Bool (same_key k' k))
 has_place z k (enters (entry.Refilled q s d) ∷ h) x p t = let i = has_place z k h x p.0 t in record { at = i.at; place = i.place; within = i.within }
 has_place z k (at k' u r n f ∷ h) x p t = let i = has_place z k h x p.0 t in ⊎_elim

@@ -121,9 +121,13 @@ unlinked_fate z h p k n' why b n a l is' =
     (λ hit. let f = l.1.suits in
     let own : a.key ≡ k = sym (ap (λ t. t.key) (same_item f.0 a (sym f.1 ∙ (ap (bucket_after z h b0).items (eqb-true n' n hit) ∙ old)))) ∙ f.2 in
     inr (inr (record { absent = gone z p k why h a.key ∙ cond-true (same_key k a.key) None (stands z (seen h) a.key) (same_true k a.key (sym own)); rows = refl })))
-    (λ miss. inl (n, omega arith, subst (λ t. (bucket_after z (e ∷ h) t).items n ≡ item a) eb
-        (here z h e k n' nothing None w n ∙ (cond-false (eqb n' n) nothing ((bucket_after z h b0).items n) miss
-        ∙ old))))
+    (λ miss. inl (
+      n,
+      omega arith,
+      subst (λ t. (bucket_after z (e ∷ h) t).items n ≡ item a) eb
+          (here z h e k n' nothing None w n ∙ (cond-false (eqb n' n) nothing ((bucket_after z h b0).items n) miss
+          ∙ old)),
+    ))
     (cases_Bool (eqb n' n)))
     (λ no. inl (n, omega arith, there z h e k n' nothing None w b n no ∙ is'))
     (cases_Bool (eqb b0 b))
@@ -154,8 +158,8 @@ fate z e h b n a l is' = inl (n, omega arith, (is_calm z e h refl l (coherent z 
 -- after its item went, no word names a row
 row_gone : (z : Shape) (e : Event) (h : List Event) (b n : ℕ) (a : Slot) → IsLawful z (e ∷ h) → (bucket_after z h b).items n ≡ item a → row_after (e ∷ h) a.segment a.row ≡ row_after h a.segment a.row
     → ((c : Slot) → c.key ≡ a.key → c.segment ≡ a.segment → c.row ≡ a.row
-        → ((x : Cached) → stands z (seen (e ∷ h)) a.key ≡ Some x → ⊥)
-        ⊎ (last_at (marked (e ∷ h)) a.key ≢ Some (slot a.key a.segment a.row)))
+    → ((x : Cached) → stands z (seen (e ∷ h)) a.key ≡ Some x → ⊥)
+    ⊎ (last_at (marked (e ∷ h)) a.key ≢ Some (slot a.key a.segment a.row)))
     → RowGone z a.segment a.row (e ∷ h)
 row_gone z e h b n a l is' rows out b' n' c there' es er =
     let i = (coherent z (e ∷ h) l).items b' n' c there' in

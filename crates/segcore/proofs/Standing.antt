@@ -138,10 +138,13 @@ module _ (z : Shape) (h : List Event) (e : Event) (k0 : List ℕ) (n : ℕ) (o :
         (λ (w : Old b m a). p.places a.key (same_false k0 a.key (λ q. w.1 (sym q))) ∙ c.placed b m a w.0) (which c t b m a is');
     all = λ k y is'. ⊎_elim
         (λ yes. let ek = key_true k0 k yes in
-        let w = p.has y (sym (cond-true (same_key k0 k) x (stands z (seen h) k) yes) ∙ (sym (p.keys k) ∙ is')) in
-        (n, w.0, subst (λ (q : List ℕ). (bucket_after z (e ∷ h) (bucket_of z q)).items n ≡ item w.0) ek (here n
-            ∙ (cond-true (eqb n n) o ((bucket_after z h (bucket_of z k0)).items n) (eq-eqb n n refl) ∙ w.1)),
-            p.own w.0 w.1 ∙ ek))
+        let w = p.has y (sym (cond-true (same_key k0 k) x (stands z (seen h) k) yes) ∙ (sym (p.keys k) ∙ is')) in (
+          n,
+          w.0,
+          subst (λ (q : List ℕ). (bucket_after z (e ∷ h) (bucket_of z q)).items n ≡ item w.0) ek (here n
+              ∙ (cond-true (eqb n n) o ((bucket_after z h (bucket_of z k0)).items n) (eq-eqb n n refl) ∙ w.1)),
+          p.own w.0 w.1 ∙ ek,
+        ))
         (λ no. let w = c.all k y (sym (cond-false (same_key k0 k) x (stands z (seen h) k) no) ∙ (sym (p.keys k) ∙ is')) in
         let ne = key_false k0 k no in (
           w.0,
@@ -301,8 +304,8 @@ module _ (z : Shape) (h : List Event) (p b m : ℕ) (l : IsLawful z (Chained p b
     chains = chain_of z (e ∷ h) l;
     items = λ a n x is'. ⊎_elim
         (λ t. let eb = eqb-true b a t in subst (λ (y : ℕ). IsStanding z (e ∷ h) y n x) eb
-            (standing n x (ap (λ v. v.items n) (sym grown)
-            ∙ subst (λ (y : ℕ). (bucket_after z (e ∷ h) y).items n ≡ item x) (sym eb) is')))
+        (standing n x (ap (λ v. v.items n) (sym grown)
+        ∙ subst (λ (y : ℕ). (bucket_after z (e ∷ h) y).items n ≡ item x) (sym eb) is')))
         (λ f. let s = others_same a f in let o = c.items a n x (ap (λ v. v.items n) (sym s) ∙ is') in
         stood z h e a n n x o (subst (λ v. IsPosition v n) (sym s) o.position) refl refl refl)
         (cases_Bool (eqb b a));

@@ -52,8 +52,8 @@ keeps z (draw b d from) p more h v l n may = let same_b = quiet z more h p b l n
 keeps z (fill b m w) p more h v l n may = fill_at z p b m w (more ++ h) (later z more h (Put p b w) l n refl may.0) (ap (λ u. u.spare) (quiet z more h p b l n may.0.guarded.1) ∙ may.1) l
 keeps z (chain b c old m) p more h v l n may = let same_b = quiet z more h p b l n may.0.guarded.1 in
     chain_at z p b c old m (more ++ h) (later z more h (Chained p b m) l n refl may.0)
-        (at_stays z more h b _ c l (subst (λ u. IsAt h b (last u) c) (sym same_b) may.1))
-        (ap (λ u. u.items (fresh_position u)) same_b ∙ may.2) l
+    (at_stays z more h b _ c l (subst (λ u. IsAt h b (last u) c) (sym same_b) may.1))
+    (ap (λ u. u.items (fresh_position u)) same_b ∙ may.2) l
 keeps z (bump b m c t s r f g) p more h v l n may = bump_at z p b m c t s r f g (more ++ h) v may.0 (position_stays z more h b m may.1.0, at_stays z more h b m c l may.1.1) may.2 may.3 may.4 l
 keeps z (enter s) p more h v l n may = enter_at z p s (more ++ h) v (later z more h (Entered p s) l n refl may) l
 keeps z (leave s) p more h v l n may = leave_at z p s (more ++ h) v (later z more h (Left p s) l n refl may) l

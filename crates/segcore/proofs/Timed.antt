@@ -71,8 +71,14 @@ pub timed_same : (views : List View) (p : ℕ) (v w : View) → IsTimed views �
 timed_same views p v w t at trace looks turn =
     let same : steps_of (set views p w) ≡ steps_of views = same_steps views p v w at looks in
     let was : (q : ℕ) (u : View) → get_elem? (set views p w) q ≡ some u → (x : View) × (get_elem? views q ≡ some x) × (u.trace ≡ x.trace) × (u.looks ≡ x.looks) × (u.turn ≡ x.turn) = λ q u is. ⊎_elim
-    (λ e. (v, subst (λ n. get_elem? views n ≡ some v) (sym e.0) at, ap (λ (x : View). x.trace) (sym e.1)
-        ∙ trace, ap (λ (x : View). x.looks) (sym e.1) ∙ looks, ap (λ (x : View). x.turn) (sym e.1) ∙ turn))
+    (λ e. (
+      v,
+      subst (λ n. get_elem? views n ≡ some v) (sym e.0) at,
+      ap (λ (x : View). x.trace) (sym e.1)
+          ∙ trace,
+      ap (λ (x : View). x.looks) (sym e.1) ∙ looks,
+      ap (λ (x : View). x.turn) (sym e.1) ∙ turn,
+    ))
     (λ e. (u, e.1, refl, refl, refl))
     (at_set views p q w u is) in record {
       few = λ q u is. let x = was q u is in let few = t.few q x.0 x.1 in let now = x.4 in omega (arith, same, few, now);

@@ -47,8 +47,8 @@ at_event z (Replied p q y) h b t l i = writes_wrote z p q y None (seen h) b
     ∙ (same_more y (writes z (seen h) b) l.1.suits ∙ i)
 at_event z (Linked p q s r n) h b t l i = let w : (bucket_after z h b).written ≡ false = rw (← eqb-true (bucket_of z (key_of q)) b t) l.1.suits.2 in
     writes_wrote z p q Stored (Some s) (seen h) b
-        ∙ cond-true (eqb (bucket_of z (key_of q)) b) (writes z (seen h) b + 1) (writes z (seen h) b) t
-        ∙ (ap (λ n. n + 1) (i ∙ ap (λ c. (bucket_after z h b).version + one_if c) w) ∙ omega arith)
+    ∙ cond-true (eqb (bucket_of z (key_of q)) b) (writes z (seen h) b + 1) (writes z (seen h) b) t
+    ∙ (ap (λ n. n + 1) (i ∙ ap (λ c. (bucket_after z h b).version + one_if c) w) ∙ omega arith)
 at_event z (Relinked p k f r s i n) h b t l e = writes_moved z p k f s (seen h) b ∙ e
 at_event z (Unlinked p k n why) h b t l i = deleted z p k why h (bucket_after z h b) l.1.suits.0.segment b t (rw (← eqb-true (bucket_of z k) b t) l.1.suits.3) i
 at_event z e h b t l i = i

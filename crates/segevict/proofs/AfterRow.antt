@@ -89,8 +89,8 @@ module _ (b : Board) (segment row into cutoff : ℕ) (q r : Pass) (own : owner b
   under_gone : (f : Pass) (bucket times : ℕ) (did : List Event) → Idles b q f → AreCalmIn segment did → AddsEvents b (under_bit (number f) bucket times did) f r → KeepsGone b segment q r
   under_gone f bucket times did i calm m =
       keeps_gone_then b segment q f r (idle_gone f i)
-          (calm_keeps_gone b segment (under_bit (number f) bucket times did) f r m
-          (taking_calm segment (number f) bucket times did calm) (own ∙ sym i.moved.same))
+      (calm_keeps_gone b segment (under_bit (number f) bucket times did) f r m
+      (taking_calm segment (number f) bucket times did calm) (own ∙ sym i.moved.same))
 
   pub moved_gone : segment ≢ into → KeepsRow b segment row into cutoff kept.Moved q r → KeepsGone b segment q r
   moved_gone apart k = let a = k.answer in let f = a.0 in

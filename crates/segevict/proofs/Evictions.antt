@@ -63,8 +63,8 @@ module _ (b : Board) (p : Pass) (x : PlainPart) (quiet : IsQuiet b p) (same : ow
 pub bounced_grows : (p q : Pass) (k : ℕ) → number q ≡ number p → Begins (trace p) (trace q) → count (bounced k) p ≤ count (bounced k) q
 bounced_grows p q k same grew =
     subst (λ n. count (bounced k) p ≤ traces.count (bounced k) n (trace q)) (sym same)
-        (subst (λ h. count (bounced k) p ≤ traces.count (bounced k) (number p) h) (sym grew.1) (let both =
-        count_both (bounced k) (number p) grew.0 (trace p) in omega (arith, both)))
+    (subst (λ h. count (bounced k) p ≤ traces.count (bounced k) (number p) h) (sym grew.1) (let both =
+    count_both (bounced k) (number p) grew.0 (trace p) in omega (arith, both)))
 
 -- ---- row by row
 
@@ -336,8 +336,13 @@ module _ (b : Board) (segment : ℕ) (p : Pass) (quiet : IsQuiet b p) (in_use : 
   pub closes_on : GoesOn b p closed
   closes_on = let k = quiet.segments in
       plain_goes_on b p closed.plain quiet refl refl refl
-          (record { few = k.few; rows = k.rows; deadlines = k.deadlines;
-          in_use = λ t is. k.in_use t (in_one (current_of p) t is).0; unused = k.unused })
+      (record {
+        few = k.few;
+        rows = k.rows;
+        deadlines = k.deadlines;
+        in_use = λ t is. k.in_use t (in_one (current_of p) t is).0;
+        unused = k.unused;
+      })
 
   from_closed : (n : ℕ) (q : Pass) → TakesOut segment n closed q → TakesOut segment n p q
   from_closed n q t = record {

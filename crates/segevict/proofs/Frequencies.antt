@@ -20,16 +20,27 @@ use Rattle.segevict.specs.Moving.{SeesRow}
 module _ (shape : Shape) (segment row : ℕ) (IsSo : ℕ → Type 0) (key : List ℕ) (p q r : Pass) where
   pub had_before : number q ≡ number p → TakesSteps p q → HadThen shape segment row IsSo q r key → HadThen shape segment row IsSo p r key
   had_before same steps h = since_before p q r (λ start. HadFrequency shape segment row IsSo (mark.marked start) (marked r) key) same steps
-      (λ start later up x. record { moment = x.moment;
-          from = begins_on (mark.marked start) (mark.marked later) x.moment (marked_begins start later up) x.from;
-          to = x.to; stood = x.stood; last = x.last; is = x.is }) h
+      (λ start later up x. record {
+        moment = x.moment;
+        from = begins_on (mark.marked start) (mark.marked later) x.moment (marked_begins start later up) x.from;
+        to = x.to;
+        stood = x.stood;
+        last = x.last;
+        is = x.is;
+      }) h
 
   pub had_after : TakesSteps q r → HadThen shape segment row IsSo p q key → HadThen shape segment row IsSo p r key
   had_after steps h = since_then p q r (λ start. HadFrequency shape segment row IsSo (mark.marked start) (marked q)
       key) (λ start. HadFrequency shape segment row IsSo (mark.marked start) (marked r) key) steps
-      (λ start x. record { moment = x.moment; from = x.from;
-          to = begins_on x.moment (marked q) (marked r) x.to
-          (marked_begins (trace q) (trace r) (steps_grew q r steps)); stood = x.stood; last = x.last; is = x.is }) h
+      (λ start x. record {
+        moment = x.moment;
+        from = x.from;
+        to = begins_on x.moment (marked q) (marked r) x.to
+            (marked_begins (trace q) (trace r) (steps_grew q r steps));
+        stood = x.stood;
+        last = x.last;
+        is = x.is;
+      }) h
 
 -- the key of a row that was seen had this frequency then
 pub had_at : (b : Board) (segment row : ℕ) (IsSo : ℕ → Type 0) (p f : Pass) (s : SeesRow b segment row IsSo p f) (old new : List Mark) → Begins old (marked f) → Begins (marked f) new

@@ -135,9 +135,15 @@ module _ (b : Board) (segment into cutoff row count : ℕ) (p q r : Pass) (own :
   settled_left k = ⊎_elim
       (λ none. inl none.1)
       (λ some. ⊎_elim
-      (λ seldom. inr (seldom.key, seldom.linked,
-          (row, had_before b.shape segment row (λ n. n < cutoff) seldom.key p q r e.on.same e.on.steps
-          (had_seen b segment row (λ n. n < cutoff) q r r seldom (inr (refl, refl))))))
+      (λ seldom. inr (
+        seldom.key,
+        seldom.linked,
+        (
+          row,
+          had_before b.shape segment row (λ n. n < cutoff) seldom.key p q r e.on.same e.on.steps
+              (had_seen b segment row (λ n. n < cutoff) q r r seldom (inr (refl, refl))),
+        ),
+      ))
       (λ went. inl went.5)
       some)
       k.answer

@@ -219,8 +219,8 @@ module _ (b : Board) (bucket : ℕ) (sought : Item) (into cutoff : ℕ) (p f : P
           goes_s : GoesOn b f s
           goes_s = write_goes_on b bucket f q goes_f.quiet begins r s own added false m elsewhere still adds freed free (same' ∙ (same ∙ took.memo))
               (ap (λ (y : PlainPart). y.locked) plain' ∙ (locks ∙ ap (λ (y : PlainPart). y.locked) took.plain))
-                  (ap (λ (y : PlainPart). y.is_holding) plain'
-                  ∙ (holds ∙ ap (λ (y : PlainPart). y.is_holding) took.plain)) segments_s
+              (ap (λ (y : PlainPart). y.is_holding) plain'
+              ∙ (holds ∙ ap (λ (y : PlainPart). y.is_holding) took.plain)) segments_s
 
           events_f : AddsEvents b (under_bit (number f) bucket begins.tries own) f s
           events_f = moved_then b took_by (Freed (number f) bucket false ∷ own) f q s taking
@@ -250,8 +250,8 @@ module _ (b : Board) (bucket : ℕ) (sought : Item) (into cutoff : ℕ) (p f : P
             let gone = gone_over b (Freed (number r) bucket false ∷ []) r s sought.seg sought.row freed.moved (tt, tt) (stored_q.own ∙ sym m.same) t.gone in
             let room_p : has_room_in b.shape into p ≡ true = subst (λ (y : PlainPart). has_room_in b.shape into (record f { plain = y }) ≡ true) i.plain room in
             done r s [] [] m (λ other apart. tt) tt (λ h. refl) tt tt t.segments t.memo
-                (ap (λ (y : PlainPart). y.locked) plain) (ap (λ (y : PlainPart). y.is_holding) plain) freed free
-                plain' same' kept.Left
+            (ap (λ (y : PlainPart). y.locked) plain) (ap (λ (y : PlainPart). y.is_holding) plain) freed free
+            plain' same' kept.Left
             (λ bit. inr (bit, room_p, unnamed b.shape (trace s) sought.seg sought.row freed.moved.pass.lawful gone))
             (inr (inr (
               f,
@@ -259,8 +259,8 @@ module _ (b : Board) (bucket : ℕ) (sought : Item) (into cutoff : ℕ) (p f : P
               begins.tries,
               subst (λ k. AddsEvents b (under_bit (number f) k begins.tries []) f s) stored.home
                   (events_f r s [] [] m (λ other apart. tt) tt (λ h. refl) tt tt t.segments t.memo
-                      (ap (λ (y : PlainPart). y.locked) plain) (ap (λ (y : PlainPart). y.is_holding) plain) freed
-                      free plain' same'),
+                  (ap (λ (y : PlainPart). y.locked) plain) (ap (λ (y : PlainPart). y.is_holding) plain) freed
+                  free plain' same'),
               record {
                 entries = write_adds b bucket f q goes_f.quiet begins r s [] [] false m (λ other apart. tt) tt (λ h. refl) freed free ∙ (does_nothing b p f quiet i.moved i.plain i.memo).entries;
                 plain = plain' ∙ (plain ∙ (took.plain ∙ i.plain));

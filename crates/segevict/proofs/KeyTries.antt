@@ -40,8 +40,8 @@ one_try shape IsSo key p q stood took met others =
       taken = took;
       bounced = λ bucket. ⊎_elim
           (λ same. subst (λ k. count (bounced k) q ≤ count (bounced k) p + 64 * count_by
-              (λ key. bucket_of shape key == k) (key ∷ [])) (sym same) (let one =
-              counted_once (λ key. bucket_of shape key == home) key (eq-eqb home home refl) in omega arith))
+          (λ key. bucket_of shape key == k) (key ∷ [])) (sym same) (let one =
+          counted_once (λ key. bucket_of shape key == home) key (eq-eqb home home refl) in omega arith))
           (λ apart. let same = others bucket apart in omega arith)
           (cases_eq bucket home);
     }
@@ -87,13 +87,13 @@ stood_after shape segment key p q r steps s =
 
 pub rows_tried_then : (b : Board) (segment m n most : ℕ) (p q r : Pass) → GoesOn b p q → GoesOn b q r → m + n ≤ most
     → TriesFor b.shape (λ key. StoodIn b.shape segment key p q) m p q
-        → TriesFor b.shape (λ key. StoodIn b.shape segment key q r) n q r
-        → TriesFor b.shape (λ key. StoodIn b.shape segment key p r) most p r
+    → TriesFor b.shape (λ key. StoodIn b.shape segment key q r) n q r
+    → TriesFor b.shape (λ key. StoodIn b.shape segment key p r) most p r
 rows_tried_then b segment m n most p q r first second within i j =
     let stood : Pass → Pass → List ℕ → Type 0 = λ from to key. StoodIn b.shape segment key from to in
     tries_then b.shape (stood p q) (stood q r) (stood p r) m n most p q r
-        (λ key. stood_after b.shape segment key p q r second.steps)
-        (λ key. stood_before b.shape segment key p q r first.same first.steps) within i j
+    (λ key. stood_after b.shape segment key p q r second.steps)
+    (λ key. stood_before b.shape segment key p q r first.same first.steps) within i j
 
 -- the key of a row is one that stood in the segment
 pub of_row : (shape : Shape) (segment row most : ℕ) (p q : Pass) → TriesFor shape (StoodAtRow shape segment row p q) most p q → TriesFor shape (λ key. StoodIn shape segment key p q) most p q

@@ -99,151 +99,151 @@ module _ (b : Board) (bucket : ℕ) (sought : Item) (into to : ℕ) (p f : Pass)
     -- with c the pass after the copy
     module _ (c : Pass) (words places : List ℕ) (m : AddsEvents b (fills (number f) into to words places) f c) (own : IsOwnRow b.shape (trace c) (number c) into to)
         (holds : (key value : List ℕ) → Holds (row_after (trace f) sought.seg sought.row) key value
-            → Holds (row_after (trace c) into to) key value) (plain : c.plain ≡ f.plain) (same : memo c ≡ memo f)
-            where
-      abbrev written : List Event
-      written = fills (number f) into to words places
+        → Holds (row_after (trace c) into to) key value) (plain : c.plain ≡ f.plain) (same : memo c ≡ memo f)
+      where
+        abbrev written : List Event
+        written = fills (number f) into to words places
 
-      nowhere : NoneAt b.shape bucket written
-      nowhere = fills_nowhere b.shape bucket (number f) into to words places
+        nowhere : NoneAt b.shape bucket written
+        nowhere = fills_nowhere b.shape bucket (number f) into to words places
 
-      stored_c : IsStoredIn b bucket sought c
-      stored_c = stored_over b bucket sought written f c m (calm_in sought.seg written (fills_calm (number f) into to words places)) stored_f
+        stored_c : IsStoredIn b bucket sought c
+        stored_c = stored_over b bucket sought written f c m (calm_in sought.seg written (fills_calm (number f) into to words places)) stored_f
 
-      clean_c : HasCleanBit b c bucket
-      clean_c = clean_over b written f c bucket m nowhere clean_f
+        clean_c : HasCleanBit b c bucket
+        clean_c = clean_over b written f c bucket m nowhere clean_f
 
-      segments_c : KeepsSegments b c
-      segments_c = keeps_plain b written f c m (fills_calm (number f) into to words places) plain segments_f
+        segments_c : KeepsSegments b c
+        segments_c = keeps_plain b written f c m (fills_calm (number f) into to words places) plain segments_f
 
-      used_c : used_of c into ≡ Some to
-      used_c = same_used f c into plain ∙ used_f
+        used_c : used_of c into ≡ Some to
+        used_c = same_used f c into plain ∙ used_f
 
-      abbrev pub key : List ℕ
-      key = stored_f.key
+        abbrev pub key : List ℕ
+        key = stored_f.key
 
-      abbrev pub named : Slot
-      named = slot key sought.seg sought.row
+        abbrev pub named : Slot
+        named = slot key sought.seg sought.row
 
-      -- the copy leaves the key in its row
-      linked_c : (row_after (trace c) sought.seg sought.row).linked ≡ Some key
-      linked_c = ap (λ h. (row_after h sought.seg sought.row).linked) m.goes_on ∙ (stays ∙ stored_f.linked)
-        where
-          stays : (row_after (m.more ++ trace f) sought.seg sought.row).linked ≡ (row_after (trace f) sought.seg sought.row).linked
-          stays = own_linked b.shape m.more (trace f) (number f) sought.seg sought.row (subst (IsLawful b.shape) m.goes_on m.pass.lawful)
-              (subst (AreCalmIn sought.seg) (sym m.adds) (calm_in sought.seg written (fills_calm (number f) into to words places))) stored_f.own
+        -- the copy leaves the key in its row
+        linked_c : (row_after (trace c) sought.seg sought.row).linked ≡ Some key
+        linked_c = ap (λ h. (row_after h sought.seg sought.row).linked) m.goes_on ∙ (stays ∙ stored_f.linked)
+          where
+            stays : (row_after (m.more ++ trace f) sought.seg sought.row).linked ≡ (row_after (trace f) sought.seg sought.row).linked
+            stays = own_linked b.shape m.more (trace f) (number f) sought.seg sought.row (subst (IsLawful b.shape) m.goes_on m.pass.lawful)
+                (subst (AreCalmIn sought.seg) (sym m.adds) (calm_in sought.seg written (fills_calm (number f) into to words places))) stored_f.own
 
-      abbrev at_c : ℕ
-      at_c = position b.shape (trace c) t.place
+        abbrev at_c : ℕ
+        at_c = position b.shape (trace c) t.place
 
-      of_key : a.key ≡ key
-      of_key = named_key b bucket sought f i.moved.pass stored_f t n
+        of_key : a.key ≡ key
+        of_key = named_key b bucket sought f i.moved.pass stored_f t n
 
-      is_named : a ≡ named
-      is_named = λ u. slot (of_key u) (n.named.2.0 u) (n.named.2.1 u)
+        is_named : a ≡ named
+        is_named = λ u. slot (of_key u) (n.named.2.0 u) (n.named.2.1 u)
 
-      here : (bucket_after b.shape (trace c) bucket).items at_c ≡ item named
-      here = (λ u. (moved_bucket b written f c bucket m clean_f.bit nowhere u).items (same_position b written f c bucket t.place m n.chain u)) ∙ (n.named.1 ∙ ap item is_named)
+        here : (bucket_after b.shape (trace c) bucket).items at_c ≡ item named
+        here = (λ u. (moved_bucket b written f c bucket m clean_f.bit nowhere u).items (same_position b written f c bucket t.place m n.chain u)) ∙ (n.named.1 ∙ ap item is_named)
 
-      chain_c : IsInChain b bucket t.place c
-      chain_c = chain_later b written f c bucket t.place m n.chain
+        chain_c : IsInChain b bucket t.place c
+        chain_c = chain_later b written f c bucket t.place m n.chain
 
-      pub slot_is : slot_at b t.place c ≡ named
-      slot_is = ap (λ k. slot_of ((bucket_after b.shape (trace c) k).items at_c)) (at_place b.shape (trace c) bucket at_c t.place chain_c.at.1).0 ∙ ap slot_of here
+        pub slot_is : slot_at b t.place c ≡ named
+        slot_is = ap (λ k. slot_of ((bucket_after b.shape (trace c) k).items at_c)) (at_place b.shape (trace c) bucket at_c t.place chain_c.at.1).0 ∙ ap slot_of here
 
-      earlier_f : IsEarlier b t.place t.word f
-      earlier_f = subst (λ w. IsSameItem t.word w × (t.word ≤ w)) n.reads ((n.same.0, refl, refl), omega arith)
+        earlier_f : IsEarlier b t.place t.word f
+        earlier_f = subst (λ w. IsSameItem t.word w × (t.word ≤ w)) n.reads ((n.same.0, refl, refl), omega arith)
 
-      earlier_c : IsEarlier b t.place t.word c
-      earlier_c = earlier_later b written f c bucket t.place m clean_f.bit nowhere n.chain t.word a i.moved.pass.valid i.moved.pass.lawful n.named.1 earlier_f
+        earlier_c : IsEarlier b t.place t.word c
+        earlier_c = earlier_later b written f c bucket t.place m clean_f.bit nowhere n.chain t.word a i.moved.pass.valid i.moved.pass.lawful n.named.1 earlier_f
 
-      -- what stands under the key
-      standing_f : stands b.shape (event.seen (trace f)) key ≡ Some (cached st.value sought.seg)
-      standing_f = (λ u. stands b.shape (event.seen (trace f)) (sym of_key u)) ∙ (st.stands ∙ ap (λ s. Some (cached st.value s)) n.named.2.0)
+        -- what stands under the key
+        standing_f : stands b.shape (event.seen (trace f)) key ≡ Some (cached st.value sought.seg)
+        standing_f = (λ u. stands b.shape (event.seen (trace f)) (sym of_key u)) ∙ (st.stands ∙ ap (λ s. Some (cached st.value s)) n.named.2.0)
 
-      still : IsSameAt b.shape (after b.shape (event.seen (trace f))) (after b.shape (event.seen (trace c))) key
-      still = moved_at b written f c key m (subst (λ k. HasBit b.shape (trace f) (number f) k) stored_f.home clean_f.bit) (subst (λ k. NoneAt b.shape k written) stored_f.home nowhere)
+        still : IsSameAt b.shape (after b.shape (event.seen (trace f))) (after b.shape (event.seen (trace c))) key
+        still = moved_at b written f c key m (subst (λ k. HasBit b.shape (trace f) (number f) k) stored_f.home clean_f.bit) (subst (λ k. NoneAt b.shape k written) stored_f.home nowhere)
 
-      standing_c : stands b.shape (event.seen (trace c)) key ≡ Some (cached st.value sought.seg)
-      standing_c = still.stands ∙ standing_f
+        standing_c : stands b.shape (event.seen (trace c)) key ≡ Some (cached st.value sought.seg)
+        standing_c = still.stands ∙ standing_f
 
-      copied : Holds (row_after (trace c) into to) key st.value
-      copied = holds key st.value (subst (λ s. Holds (row_after (trace f) s sought.row) key st.value) n.named.2.0
-          (subst (λ r. Holds (row_after (trace f) a.segment r) key st.value) n.named.2.1 (subst (λ k. Holds (row_after (trace f) a.segment a.row) k st.value) of_key st.holds)))
+        copied : Holds (row_after (trace c) into to) key st.value
+        copied = holds key st.value (subst (λ s. Holds (row_after (trace f) s sought.row) key st.value) n.named.2.0
+            (subst (λ r. Holds (row_after (trace f) a.segment r) key st.value) n.named.2.1 (subst (λ k. Holds (row_after (trace f) a.segment a.row) k st.value) of_key st.holds)))
 
-      fits : Fits b.shape (trace c) (relinked named into to at_c (number c))
-      fits = record {
-        guarded = subst (HasBit b.shape (trace c) (number c)) stored_f.home clean_c.bit;
-        follows = (
-          stands_in b.shape (event.seen (trace c)) key sought.seg (st.value, standing_c),
-          stored_c.own,
-          own.2,
-          target.other,
-          same_deadlines b c sought.seg into to segments_c used_c
-              (ap (λ (x : PlainPart). deadline_in (own_segment x sought.seg)) (plain ∙ i.plain)
-                  ∙ (target.deadlines ∙ sym (ap (λ (x : PlainPart). deadline_in (own_segment x into)) (plain
-                  ∙ i.plain)))),
-        );
-        suits = (own, (st.value, standing_c, copied), subst (λ k. (bucket_after b.shape (trace c) k).items at_c ≡ item named) stored_f.home here);
-      }
-
-      pub may_move : Relinks b named into to t.place t.word c
-      may_move = record {
-        bit = subst (HasBit b.shape (trace c) (number c)) stored_f.home clean_c.bit;
-        fits = fits;
-        chain = subst (λ k. IsInChain b k t.place c) stored_f.home chain_c;
-        earlier = earlier_c;
-      }
-
-      -- with r the pass after the exchange, and its new row counted as used
-      module _ (r : Pass) (done : HasRelinked b named into to t.place c r) where
-        abbrev e : Event
-        e = relinked named into to at_c (number c)
-
-        abbrev final : Pass
-        final = record r { plain = with_used into (to + 1) r.plain }
-
-        abbrev old : List Event
-        old = done.did.others ++ trace c
-
-        lawful : IsLawful b.shape (e ∷ old)
-        lawful = subst (IsLawful b.shape) done.did.now done.did.moved.pass.lawful
-
-        linked_old : (row_after old sought.seg sought.row).linked ≡ Some key
-        linked_old = ap (λ u. u.linked) (quiet_row b.shape done.did.others (trace c) sought.seg sought.row
-            done.did.before (subst (λ k. NoneBy k done.did.others) (sym stored_c.own) done.did.none)) ∙ linked_c
-
-        gone_now : RowGone b.shape sought.seg sought.row (trace r)
-        gone_now = subst (RowGone b.shape sought.seg sought.row) (sym done.did.now) (relinked_gone b.shape old (number c) named into to at_c lawful linked_old)
-
-        bucket_now : bucket_after b.shape (trace r) bucket ≡ acts e (bucket_after b.shape (trace c) bucket)
-        bucket_now = did_acts b e c r bucket done.did (eq-eqb (bucket_of b.shape key) bucket (sym stored_f.home)) clean_c.bit
-
-        events : AddsEvents b (moves (number p) key sought.seg sought.row into to at_c (words, places)) p r
-        events = subst (λ k. AddsEvents b (moves k key sought.seg sought.row into to at_c (words, places)) p r) i.moved.same
-            (subst (λ k. AddsEvents b (Relinked k key sought.seg sought.row into to at_c ∷ written) p r) m.same
-            (subst (λ es. AddsEvents b es p r) (append-nil (e ∷ written)) (moved_then b [] (e ∷ written) p f r i.moved (moved_then b written (e ∷ []) f c r m done.did.moved))))
-
-        pub moves_one : MovesRow b bucket sought into to true p final
-        moves_one = record {
-          moves = (
-            key,
-            at_c,
-            (words, places),
-            stored_f.home,
-            sym (ap (λ h. (row_after h sought.seg sought.row).linked) i.moved.goes_on ∙ own_linked b.shape i.moved.more (trace p) (number p) sought.seg sought.row
-                (subst (IsLawful b.shape) i.moved.goes_on i.moved.pass.lawful) (subst (AreCalmIn sought.seg) (sym i.moved.adds) tt) stored.own) ∙ stored_f.linked,
-            moved_still b (moves (number p) key sought.seg sought.row into to at_c (words, places)) p r final.plain events (owner_counted r.plain into (to + 1)),
-            one_used into to r.plain (same_used c r into done.plain ∙ used_c) ∙ ap (with_own into one_more) (done.plain ∙ (plain ∙ i.plain)),
+        fits : Fits b.shape (trace c) (relinked named into to at_c (number c))
+        fits = record {
+          guarded = subst (HasBit b.shape (trace c) (number c)) stored_f.home clean_c.bit;
+          follows = (
+            stands_in b.shape (event.seen (trace c)) key sought.seg (st.value, standing_c),
+            stored_c.own,
+            own.2,
+            target.other,
+            same_deadlines b c sought.seg into to segments_c used_c
+                (ap (λ (x : PlainPart). deadline_in (own_segment x sought.seg)) (plain ∙ i.plain)
+                ∙ (target.deadlines ∙ sym (ap (λ (x : PlainPart). deadline_in (own_segment x into)) (plain
+                ∙ i.plain)))),
           );
-          gone = gone_now;
-          bit = record {
-            bit = (clean_c.bit.0, ap (λ u. u.holder) bucket_now ∙ (clean_c.bit.1 ∙ ap Some (sym done.did.moved.same)));
-            unwritten = ap (λ u. u.written) bucket_now ∙ clean_c.unwritten;
-            undrawn = ap (λ u. u.spare) bucket_now ∙ clean_c.undrawn;
-          };
-          segments = keeps_named_in b e c r into to (refl, refl) done.did done.plain
-              (ap (λ (x : PlainPart). state_in (own_segment x into)) (plain ∙ i.plain)
-              ∙ target.in_use) used_c next.fits m.pass segments_c;
-          memo = done.memo ∙ (same ∙ i.memo);
+          suits = (own, (st.value, standing_c, copied), subst (λ k. (bucket_after b.shape (trace c) k).items at_c ≡ item named) stored_f.home here);
         }
+
+        pub may_move : Relinks b named into to t.place t.word c
+        may_move = record {
+          bit = subst (HasBit b.shape (trace c) (number c)) stored_f.home clean_c.bit;
+          fits = fits;
+          chain = subst (λ k. IsInChain b k t.place c) stored_f.home chain_c;
+          earlier = earlier_c;
+        }
+
+        -- with r the pass after the exchange, and its new row counted as used
+        module _ (r : Pass) (done : HasRelinked b named into to t.place c r) where
+          abbrev e : Event
+          e = relinked named into to at_c (number c)
+
+          abbrev final : Pass
+          final = record r { plain = with_used into (to + 1) r.plain }
+
+          abbrev old : List Event
+          old = done.did.others ++ trace c
+
+          lawful : IsLawful b.shape (e ∷ old)
+          lawful = subst (IsLawful b.shape) done.did.now done.did.moved.pass.lawful
+
+          linked_old : (row_after old sought.seg sought.row).linked ≡ Some key
+          linked_old = ap (λ u. u.linked) (quiet_row b.shape done.did.others (trace c) sought.seg sought.row
+              done.did.before (subst (λ k. NoneBy k done.did.others) (sym stored_c.own) done.did.none)) ∙ linked_c
+
+          gone_now : RowGone b.shape sought.seg sought.row (trace r)
+          gone_now = subst (RowGone b.shape sought.seg sought.row) (sym done.did.now) (relinked_gone b.shape old (number c) named into to at_c lawful linked_old)
+
+          bucket_now : bucket_after b.shape (trace r) bucket ≡ acts e (bucket_after b.shape (trace c) bucket)
+          bucket_now = did_acts b e c r bucket done.did (eq-eqb (bucket_of b.shape key) bucket (sym stored_f.home)) clean_c.bit
+
+          events : AddsEvents b (moves (number p) key sought.seg sought.row into to at_c (words, places)) p r
+          events = subst (λ k. AddsEvents b (moves k key sought.seg sought.row into to at_c (words, places)) p r) i.moved.same
+              (subst (λ k. AddsEvents b (Relinked k key sought.seg sought.row into to at_c ∷ written) p r) m.same
+              (subst (λ es. AddsEvents b es p r) (append-nil (e ∷ written)) (moved_then b [] (e ∷ written) p f r i.moved (moved_then b written (e ∷ []) f c r m done.did.moved))))
+
+          pub moves_one : MovesRow b bucket sought into to true p final
+          moves_one = record {
+            moves = (
+              key,
+              at_c,
+              (words, places),
+              stored_f.home,
+              sym (ap (λ h. (row_after h sought.seg sought.row).linked) i.moved.goes_on ∙ own_linked b.shape i.moved.more (trace p) (number p) sought.seg sought.row
+                  (subst (IsLawful b.shape) i.moved.goes_on i.moved.pass.lawful) (subst (AreCalmIn sought.seg) (sym i.moved.adds) tt) stored.own) ∙ stored_f.linked,
+              moved_still b (moves (number p) key sought.seg sought.row into to at_c (words, places)) p r final.plain events (owner_counted r.plain into (to + 1)),
+              one_used into to r.plain (same_used c r into done.plain ∙ used_c) ∙ ap (with_own into one_more) (done.plain ∙ (plain ∙ i.plain)),
+            );
+            gone = gone_now;
+            bit = record {
+              bit = (clean_c.bit.0, ap (λ u. u.holder) bucket_now ∙ (clean_c.bit.1 ∙ ap Some (sym done.did.moved.same)));
+              unwritten = ap (λ u. u.written) bucket_now ∙ clean_c.unwritten;
+              undrawn = ap (λ u. u.spare) bucket_now ∙ clean_c.undrawn;
+            };
+            segments = keeps_named_in b e c r into to (refl, refl) done.did done.plain
+                (ap (λ (x : PlainPart). state_in (own_segment x into)) (plain ∙ i.plain)
+                ∙ target.in_use) used_c next.fits m.pass segments_c;
+            memo = done.memo ∙ (same ∙ i.memo);
+          }

@@ -67,8 +67,8 @@ pub tells_at : (b : Board) (bucket : ℕ) (sought : Item) (segment row : ℕ) (o
     → FindsRow b bucket sought o f → ReturnsNamed b.shape segment row told f
 tells_at b bucket sought segment row o told f at same is finds =
     subst (λ t. ReturnsNamed b.shape segment row t f) (sym same)
-        (subst (λ s. ReturnsNamed b.shape s row (is_some o) f) at.0
-        (subst (λ r. ReturnsNamed b.shape sought.seg r (is_some o) f) at.1 (tells b bucket sought o f is finds)))
+    (subst (λ s. ReturnsNamed b.shape s row (is_some o) f) at.0
+    (subst (λ r. ReturnsNamed b.shape sought.seg r (is_some o) f) at.1 (tells b bucket sought o f is finds)))
 
 was_before : (z : Shape) (s r : ℕ) (p f q : Pass) → number f ≡ number p → TakesSteps p f → WasNamedIn z s r f q → WasNamedIn z s r p q
 was_before z s r p f q same steps was = since_before p f q (λ start. WasNamed z s r (mark.marked start) (marked q)) same steps

@@ -65,8 +65,8 @@ module _ (b : Board) (named : Slot) (into to : ℕ) (place : Place) (w : ℕ) (p
 
 pub tried : (b : Board) (named : Slot) (into to : ℕ) (place : Place) (w : ℕ) (p q : Pass) (told : Result (Unit {0}) ℕ) → IsEarlier b place w p
     → OnOk told (AddsAtOnce b (relinked named into to (position_at b place p) (number p) ∷ []) p q)
-        → IfErr told (λ found. Missed b place w found p q) → q.plain ≡ p.plain → memo q ≡ memo p
-        → TriesToRelink b named into to place w told p q
+    → IfErr told (λ found. Missed b place w found p q) → q.plain ≡ p.plain → memo q ≡ memo p
+    → TriesToRelink b named into to place w told p q
 tried b named into to place w p q (Ok done) earlier did missed plain same = record { did = did; plain = plain; memo = same }
 tried b named into to place w p q (Err found) earlier did missed plain same = (missed, (missed.higher earlier.0 earlier.1).1, plain, same)
 

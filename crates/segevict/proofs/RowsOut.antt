@@ -173,8 +173,8 @@ module _ (b : Board) (bucket : ℕ) (sought : Item) (p f : Pass) (quiet : IsQuie
     module _ (r s : Pass) (own : List Event) (added : List Entry) (m : AddsEvents b own q r) (calm : AreCalm own)
         (elsewhere : (other : ℕ) → bucket ≢ other → NoneAt b.shape other own) (still : AreStill own)
         (adds : (h : List Event) → event.seen (own ++ h) ≡ added ++ event.seen h)
-            (freed : AddsAtOnce b (Freed (number r) bucket false ∷ []) r s)
-            (free : (bucket_after b.shape (trace s) bucket).holder ≡ None)
+        (freed : AddsAtOnce b (Freed (number r) bucket false ∷ []) r s)
+        (free : (bucket_after b.shape (trace s) bucket).holder ≡ None)
         (plain : r.plain ≡ q.plain) (same : memo r ≡ memo q) (plain' : s.plain ≡ r.plain) (same' : memo s ≡ memo r) where
       plain_all : s.plain ≡ p.plain
       plain_all = plain' ∙ (plain ∙ (took.plain ∙ i.plain))

@@ -37,8 +37,8 @@ names_row z h b n word sought v l reads same =
     let ls = low_segment z a.segment v stands.within.0 in let lr = low_row z a.row v stands.within.1 in
     let place : a.segment * 2 ^ 20 + a.row ≡ sought.seg * 2 ^ 20 + sought.row =
     sym (place_of_word (tag_of a.key) found.2.0 a.segment a.row ls lr)
-        ∙ (ap (λ w. w % 2 ^ 44) (sym found.2.2) ∙ (same.2
-        ∙ place_of_word sought.tag sought.freq sought.seg sought.row sought.seg_in_range sought.row_in_range)) in
+    ∙ (ap (λ w. w % 2 ^ 44) (sym found.2.2) ∙ (same.2
+    ∙ place_of_word sought.tag sought.freq sought.seg sought.row sought.seg_in_range sought.row_in_range)) in
     let low = sought.row_in_range in
     (a, found.1, (omega (arith, place, lr, low), omega (arith, place, lr, low)))
 
@@ -169,8 +169,10 @@ module _ (b : Board) (bucket : ℕ) (sought : Item) (first p q : Pass) (place : 
 
     inner : place.word < 7 → IsOn (next_word place)
     inner lt = let d = depth in let t = chain_looked.in_table in let here = chain_looked.at.0 in
-        on_to (next_word place) (n + 1) (t.0, omega arith, omega (arith, lt)) (omega (arith, here.0, d.1, lt),
-            (let e : n + 1 ≡ 8 * d.0 + (place.word + 1) = omega (arith, d.1) in omega (arith, e, lt)))
+        on_to (next_word place) (n + 1) (t.0, omega arith, omega (arith, lt)) (
+          omega (arith, here.0, d.1, lt),
+          (let e : n + 1 ≡ 8 * d.0 + (place.word + 1) = omega (arith, d.1) in omega (arith, e, lt)),
+        )
         (next_at z h bucket n place (ltb place.bucket z.buckets) lt chain_looked.at.1) (omega arith) (omega (arith, d.1, lt, t.1)) passed
 
     leads : (after : Place) → LeadsTo z word after → IsOn after
@@ -178,9 +180,12 @@ module _ (b : Board) (bucket : ℕ) (sought : Item) (first p q : Pass) (place : 
         let on = leads_to z h bucket n word to.0 ((bucket_after z h bucket).items n) is.lawful ((chain_of z h is.lawful bucket).contents n) reads to.1 to.2 in
         let in_table = home_in z h to.0 (home bucket (on.0 + 1)) is.lawful on.3 in
         let skipped : IsAhead z bucket sought.seg sought.row (n + 1 + 1) h = ahead_skipped z bucket sought.seg sought.row (n + 1) h is.lawful (omega (arith, on.2)) passed in
-        subst IsOn (sym to.3) (on_to (first_word z to.0) (8 * on.0 + 9) (omega (arith, in_table), omega arith,
-            omega arith) (omega (arith, on.1), omega arith) (first_at z h bucket on.0 to.0 on.3)
-            (omega (arith, on.2)) (omega (arith, on.2))
+        subst IsOn (sym to.3) (on_to (first_word z to.0) (8 * on.0 + 9) (
+          omega (arith, in_table),
+          omega arith,
+          omega arith,
+        ) (omega (arith, on.1), omega arith) (first_at z h bucket on.0 to.0 on.3)
+        (omega (arith, on.2)) (omega (arith, on.2))
         (subst (λ m. IsAhead z bucket sought.seg sought.row m h) (let e : n + 1 + 1 ≡ 8 * on.0 + 9 = omega (arith, on.2) in e) skipped))
 
     onward : (after : Place) → following ≡ Some after → IsOn after
@@ -208,6 +213,6 @@ module _ (b : Board) (bucket : ℕ) (sought : Item) (first p q : Pass) (place : 
         let w = chain_looked.in_table in let d = depth in
         let e : n ≡ 8 * d.0 + 7 = omega (arith, d.1, le, w.2) in
         ahead_ended z bucket sought.seg sought.row d.0 h is.lawful
-            (chain_ends z h bucket n d.0 word is.valid is.lawful e reads nowhere)
-            (subst (λ m. IsAhead z bucket sought.seg sought.row m h) (let f : n + 1 ≡ 8 * d.0 + 8 =
-            omega (arith, e) in f) passed)
+        (chain_ends z h bucket n d.0 word is.valid is.lawful e reads nowhere)
+        (subst (λ m. IsAhead z bucket sought.seg sought.row m h) (let f : n + 1 ≡ 8 * d.0 + 8 =
+        omega (arith, e) in f) passed)

@@ -69,8 +69,8 @@ module _ (b : Board) (bucket : ℕ) (sought : Item) (f : Pass) (is : IsPassOf b 
   pub named_stands : StandsIn (after b.shape (event.seen (trace f))) stored.key sought.seg
   named_stands =
       let stood : stands b.shape (event.seen (trace f)) stored.key ≡ Some (cached st.value sought.seg) =
-          (λ t. stands b.shape (event.seen (trace f)) (sym named_key t))
-          ∙ (st.stands ∙ ap (λ s. Some (cached st.value s)) n.named.2.0) in
+      (λ t. stands b.shape (event.seen (trace f)) (sym named_key t))
+      ∙ (st.stands ∙ ap (λ s. Some (cached st.value s)) n.named.2.0) in
       stands_in b.shape (event.seen (trace f)) stored.key sought.seg (st.value, stood)
 
   -- under the bit it may leave its word
@@ -135,10 +135,15 @@ module _ (b : Board) (bucket : ℕ) (sought : Item) (p f : Pass) (stored : IsSto
 
       pub takes_one : TakesRow b bucket sought true p q
       takes_one = record {
-        takes = (k, there, stored_now.home, subst
-            (λ m. AddsEvents b (Unlinked m k there (Evicts sought.seg) ∷ []) p q) i.moved.same
-            (moved_then b [] (e ∷ []) p f q i.moved d.moved),
-            ap (λ h. (row_after h sought.seg sought.row).linked) d.now ∙ linked_before);
+        takes = (
+          k,
+          there,
+          stored_now.home,
+          subst
+              (λ m. AddsEvents b (Unlinked m k there (Evicts sought.seg) ∷ []) p q) i.moved.same
+              (moved_then b [] (e ∷ []) p f q i.moved d.moved),
+          ap (λ h. (row_after h sought.seg sought.row).linked) d.now ∙ linked_before,
+        );
         gone = subst (RowGone b.shape sought.seg sought.row) (sym d.now)
             (evicted_gone b.shape (d.others ++ trace f) (number f) there sought.seg sought.row k (Evicts sought.seg)
             (subst (IsLawful b.shape) d.now d.moved.pass.lawful) linked_before);

@@ -41,8 +41,8 @@ pub gone_over : (b : Board) (own : List Event) (p q : Pass) (s r : ℕ) → Adds
     → owner b.shape s ≡ number p → RowGone b.shape s r (trace p) → RowGone b.shape s r (trace q)
 gone_over b own p q s r m calm mine gone =
     subst (RowGone b.shape s r) (sym m.goes_on)
-        (gone_lasts b.shape m.more (trace p) (number p) s r (subst (IsLawful b.shape) m.goes_on m.pass.lawful)
-        (subst (AreCalmIn s) (sym m.adds) calm) mine gone)
+    (gone_lasts b.shape m.more (trace p) (number p) s r (subst (IsLawful b.shape) m.goes_on m.pass.lawful)
+    (subst (AreCalmIn s) (sym m.adds) calm) mine gone)
 
 -- a linked row that none names is named by none before a refilling
 pub gone_since : (z : Shape) (more h : List Event) (s r : ℕ) (k : List ℕ) → IsLawful z (more ++ h)
@@ -86,8 +86,8 @@ pub ahead_over : (b : Board) (own : List Event) (p q : Pass) (k s r n : ℕ) →
     → owner b.shape s ≡ number p → IsAhead b.shape k s r n (trace p) → IsAhead b.shape k s r n (trace q)
 ahead_over b own p q k s r n m calm mine a =
     subst (IsAhead b.shape k s r n) (sym m.goes_on)
-        (ahead_on b.shape m.more (trace p) (number p) k s r n (subst (IsLawful b.shape) m.goes_on m.pass.lawful)
-        (subst (AreCalmIn s) (sym m.adds) calm) mine a)
+    (ahead_on b.shape m.more (trace p) (number p) k s r n (subst (IsLawful b.shape) m.goes_on m.pass.lawful)
+    (subst (AreCalmIn s) (sym m.adds) calm) mine a)
 
 pub ahead_passed : (z : Shape) (b s r n : ℕ) (h : List Event) → ¬ (RowAt z b s r h n) → IsAhead z b s r n h → IsAhead z b s r (n + 1) h
 ahead_passed z b s r n h none a = ⊎_elim

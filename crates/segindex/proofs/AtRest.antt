@@ -118,8 +118,13 @@ module _ (words : Words) (trace : List Event) (home depth bucket : ℕ) (rest : 
       let t : ltb (shape.buckets + number) shape.buckets ≡ false = le-ltb (shape.buckets + number) shape.buckets (omega arith) in
       let e : shape.buckets + number - shape.buckets ≡ number = omega arith in (
         ((let a : shape.buckets + number < shape.buckets + shape.overflow = omega arith in a), low, high),
-        (((let a : 8 * (depth + 1) + w < 8 * (bucket_after shape trace home).chained + 8 = omega arith in a),
-            (let a : 0 < (8 * (depth + 1) + w) % 8 = omega arith in a)), rw (t, e) (depth + 1, of, refl, high)),
+        (
+          (
+            (let a : 8 * (depth + 1) + w < 8 * (bucket_after shape trace home).chained + 8 = omega arith in a),
+            (let a : 0 < (8 * (depth + 1) + w) % 8 = omega arith in a),
+          ),
+          rw (t, e) (depth + 1, of, refl, high),
+        ),
       )
 
   -- or ends the chain

@@ -55,9 +55,9 @@ module _ (z : Shape) (world : ℕ → World) (n : ℕ) (run : IsRun z world n) w
       let steps = takes z world n run call.pass call.began call.returned (view is.before) (view is.after) starts.later start is.in_time.0 is.in_time.1 is.began is.returned starts.looked in
       let since = steps.since in let onward = steps.onward in let until = steps.until in let in_run = is.in_time.1 in
       let at = pointed call.pass steps.first (suc steps.last) call.effect (event.seen start) (seen is.after)
-          (omega (arith, onward)) (omega (arith, until, in_run)) (ap event.seen (sym steps.began))
-          (ap event.seen (sym steps.ended)) (subst (λ m. HasEffect z m call.effect (event.seen start)
-          (seen is.after)) is.number is.had.2) in
+      (omega (arith, onward)) (omega (arith, until, in_run)) (ap event.seen (sym steps.began))
+      (ap event.seen (sym steps.ended)) (subst (λ m. HasEffect z m call.effect (event.seen start)
+      (seen is.after)) is.number is.had.2) in
       let low = at.since in let high = at.until in
       (record { call = call; point = at.point }, refl, (record { since = omega (arith, low, since); until = omega (arith, high, until); right = at.right }, omega (arith, since, onward, until)))
 

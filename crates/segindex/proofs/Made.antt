@@ -29,8 +29,8 @@ module _ (told : Option OwnSegment → Option ℕ) (tells : ReturnsZero told) wh
       let first = p.plain.first in
       let got = slice_get p.plain.segments.items (segment - first) in ⊎_elim
       (λ t. unused b.shape.segments_each (segment - first) count
-          (ap (λ l. told (slice_get l (segment - first))) (sym new.segments)
-          ∙ (sym (ap told (cond-true (nat_le first segment) got None t)) ∙ is)))
+      (ap (λ l. told (slice_get l (segment - first))) (sym new.segments)
+      ∙ (sym (ap told (cond-true (nat_le first segment) got None t)) ∙ is)))
       (λ f. absurd (none-some count (sym tells.none ∙ (sym (ap told (cond-false (nat_le first segment) got None f)) ∙ is))))
       (cases_Bool (nat_le first segment))
 

@@ -176,8 +176,15 @@ module _ (z : Shape) (world : ℕ → World) (n : ℕ) (run : IsRun z world n) w
       by_looks : (later : List (List Event)) (old : View) → from ≤ t → Again p from t v start
           → get_elem? (world t).views p ≡ some old → later ++ (start ∷ v.looks) ≡ (world t).trace ∷ old.looks
           → w.trace ≡ (world (suc t)).trace → Takes from (suc t) w start
-      by_looks [] old low again there is now = record { first = t; last = t; since = low; onward = omega arith;
-          until = omega arith; began = same_head start (world t).trace v.looks old.looks is; ended = now }
+      by_looks [] old low again there is now = record {
+        first = t;
+        last = t;
+        since = low;
+        onward = omega arith;
+        until = omega arith;
+        began = same_head start (world t).trace v.looks old.looks is;
+        ended = now;
+      }
       by_looks (l ∷ later) old low again there is now =
           let early = again old later there (sym (same_tail l (world t).trace (later ++ (start ∷ v.looks)) old.looks is)) in
           let until = early.until in let onward = early.onward in
@@ -188,8 +195,8 @@ module _ (z : Shape) (world : ℕ → World) (n : ℕ) (run : IsRun z world n) w
           let old : View = s.1.old in let new : View = s.1.new in
           let there : get_elem? (world t).views p ≡ some old = subst (λ m. get_elem? (world t).views m ≡ some old) (sym e) s.1.there in
           let here : get_elem? (world (suc t)).views p ≡ some new = ap (λ l. get_elem? l p) s.1.apart
-              ∙ subst (λ m. get_elem? (set (world t).views s.0 new) m ≡ some new) (sym e)
-              (set_here (world t).views s.0 new (inside_list (world t).views s.0 old s.1.there)) in
+          ∙ subst (λ m. get_elem? (set (world t).views s.0 new) m ≡ some new) (sym e)
+          (set_here (world t).views s.0 new (inside_list (world t).views s.0 old s.1.there)) in
           let same : w ≡ new = some-injective w new (sym at' ∙ here) in let saw = sees t lt in
           by_looks later old low again there (sym looked ∙ (ap (λ (x : View). x.looks) same ∙ saw.0)) (ap (λ (x : View). x.trace) same ∙ saw.1)
       by_step low again (inr ne) =

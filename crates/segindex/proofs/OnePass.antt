@@ -70,8 +70,8 @@ none_waits b p bucket (Some m) quiet one waits =
 pub all_joined : (b : Board) (p : Pass) (bucket : ℕ) → IsQuiet b p → b.shape.passes ≡ 1 → width (passes.marked p) bucket ≡ chained_to (passes.marked p) bucket + 1
 all_joined b p bucket quiet one =
     wide b.shape (trace p) bucket quiet.pass.lawful
-        (none_waits b p bucket (bucket_after b.shape (trace p) bucket).spare quiet one refl)
-        ∙ ap (λ n. n + 1) (sym (chained_marked b.shape (trace p) bucket))
+    (none_waits b p bucket (bucket_after b.shape (trace p) bucket).spare quiet one refl)
+    ∙ ap (λ n. n + 1) (sym (chained_marked b.shape (trace p) bucket))
 
 -- only its own lock refuses it
 pub busy_by_lock : (b : Board) (p q : Pass) (bucket : ℕ) → IsQuiet b p → IsQuiet b q → b.shape.passes ≡ 1 → IsBusy bucket p q → locked_of p ≡ Some bucket
@@ -85,4 +85,4 @@ pub none_stirred : (b : Board) (p q : Pass) (key : List ℕ) → IsQuiet b p →
 none_stirred b p q key before after one same =
     let now : passes.seen q ≡ passes.seen p = sym (all_mine (number q) (trace q) (after.pass.alone one)) ∙ (same ∙ all_mine (number p) (trace p) (before.pass.alone one)) in
     let count : entries_of b.shape (bucket_of b.shape key) (passes.seen q) ≡ entries_of b.shape
-        (bucket_of b.shape key) (passes.seen p) = ap (entries_of b.shape (bucket_of b.shape key)) now in omega arith
+    (bucket_of b.shape key) (passes.seen p) = ap (entries_of b.shape (bucket_of b.shape key)) now in omega arith

@@ -39,8 +39,8 @@ listed_before [] k v key value e = absurd (none-some value e)
 listed_before (p ∷ pairs) k v key value e = ⊎_elim
     (λ t. cond-true (is_at (key_cmp key) p.0) (Some p.1) (listed (pairs ++ (k, v) ∷ []) key) t ∙ (sym (cond-true (is_at (key_cmp key) p.0) (Some p.1) (listed pairs key) t) ∙ e))
     (λ f. cond-false (is_at (key_cmp key) p.0) (Some p.1) (listed (pairs ++ (k, v) ∷ []) key) f
-        ∙ listed_before pairs k v key value (sym (cond-false (is_at (key_cmp key) p.0) (Some p.1) (listed pairs key)
-        f) ∙ e))
+    ∙ listed_before pairs k v key value (sym (cond-false (is_at (key_cmp key) p.0) (Some p.1) (listed pairs key)
+    f) ∙ e))
     (cases_Bool (is_at (key_cmp key) p.0))
 
 pub listed_last : (pairs : Pairs) (k v : List ℕ) → listed pairs k ≡ None → listed (pairs ++ (k, v) ∷ []) k ≡ Some v
@@ -80,8 +80,8 @@ pub ordered : (pairs sorted : Pairs) → AreDistinct pairs → IsPermutation pai
 ordered pairs sorted distinct moves up =
     let first : List ℕ × List ℕ → List ℕ = λ p. p.0 in
     let apart : AreDistinct sorted = IsDistinct-IsPermutation (eq_by_cmp key_cmp)
-        (eq_by_cmp_equiv nat_list_cmp_total).symm (keys_of pairs) (keys_of sorted)
-        (IsPermutation-map first pairs sorted moves) distinct in
+    (eq_by_cmp_equiv nat_list_cmp_total).symm (keys_of pairs) (keys_of sorted)
+    (IsPermutation-map first pairs sorted moves) distinct in
     let nil : List ℕ = [] in let none : List ℕ × List ℕ = (nil, nil) in
     let long = length-map sorted first in
     let at : (n : ℕ) → n < length sorted → get_or (keys_of sorted) n nil ≡ (get_or sorted n none).0 = λ n lt. get_or-map first sorted n none nil lt in (
@@ -89,8 +89,8 @@ ordered pairs sorted distinct moves up =
       sorted_from_all_adjacent nat_list_cmp_total (keys_of sorted) nil (λ n lt.
           let a = get_or (keys_of sorted) n nil in let b = get_or (keys_of sorted) (n + 1) nil in
           let low : is_lt (key_cmp b a) ≡ false = (λ i. is_lt
-              (key_cmp (at (n + 1) (omega (arith, lt, long)) i) (at n (omega (arith, lt, long)) i)))
-              ∙ up n none (omega arith) (omega (arith, lt, long)) in
+          (key_cmp (at (n + 1) (omega (arith, lt, long)) i) (at n (omega (arith, lt, long)) i)))
+          ∙ up n none (omega arith) (omega (arith, lt, long)) in
           not_above a b (key_cmp a b) refl low (apart_from_distinct (eq_by_cmp key_cmp) (keys_of sorted) n (n + 1) nil apart (omega arith) lt)),
     )
 

@@ -55,9 +55,9 @@ held_there false lt = absurd (omega arith)
 is_read : (b : Board) (s other : ℕ) (p q : Pass) → IsQuiet b p → Idles b p q → 0 < inside (trace q) other s → IsBeingRead s q
 is_read b s other p q quiet i there = ⊎_elim
     (λ own. inr (held_there (is_held_in (holding q) s)
-        (subst (λ n. 0 < n) (ap (λ n. inside (trace q) n s) (own ∙ i.moved.same)
-        ∙ (moved_inside b [] p q s i.moved ∙ (quiet.inside s
-        ∙ ap (λ m. cond (is_held_in m.holding s) 1 0) (sym i.memo)))) there)))
+    (subst (λ n. 0 < n) (ap (λ n. inside (trace q) n s) (own ∙ i.moved.same)
+    ∙ (moved_inside b [] p q s i.moved ∙ (quiet.inside s
+    ∙ ap (λ m. cond (is_held_in m.holding s) 1 0) (sym i.memo)))) there)))
     (λ ne. inl (other, ne, there))
     (cases_eq other (number q))
 

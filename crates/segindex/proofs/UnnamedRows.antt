@@ -53,8 +53,8 @@ none_refilled z pass s (e ∷ more) h l own none = (other, none_refilled z pass 
         let lawful : IsLawful z (Refilled p s d ∷ (more ++ h)) = subst (λ x. IsLawful z (x ∷ (more ++ h))) is l in
         let same : p ≡ pass = sym lawful.1.follows.1 ∙ own in
         let here : NoneFills s (history.mine pass (entry.Refilled p s d ∷ event.seen more)) =
-            subst (λ x. NoneFills s (history.mine pass (event.with_entry (event.entry_of x) (event.seen more)))) is
-            none in
+        subst (λ x. NoneFills s (history.mine pass (event.with_entry (event.entry_of x) (event.seen more)))) is
+        none in
         let first : NoneFills s (entry.Refilled p s d ∷ history.mine pass (event.seen more)) =
         subst (NoneFills s) (cond-true (eqb p pass) (entry.Refilled p s d ∷ history.mine pass (event.seen more)) (history.mine pass (event.seen more)) (eq-eqb p pass same)) here in
         first.0 p d refl
@@ -66,8 +66,8 @@ own_events : (b : Board) (p q : Pass) (segment : ℕ) (added : List Entry) (on :
 own_events b p q segment added on entries none own =
     let grew = steps_grew p q on.steps in let more : List Event = grew.0 in let n = number p in
     let now : history.mine n (event.seen (more ++ trace p)) ≡ added ++ mine p =
-        ap (λ h. history.mine n (event.seen h)) (sym grew.1)
-        ∙ (ap (λ m. history.mine m (event.seen (trace q))) (sym on.same) ∙ entries) in
+    ap (λ h. history.mine n (event.seen h)) (sym grew.1)
+    ∙ (ap (λ m. history.mine m (event.seen (trace q))) (sym on.same) ∙ entries) in
     let parts : history.mine n (event.seen (more ++ trace p)) ≡ history.mine n (event.seen more) ++ mine p =
     ap (history.mine n) (seen_append more (trace p)) ∙ filter-append (λ e. eqb (pass_of e) n) (event.seen more) (event.seen (trace p)) in
     let same : added ≡ history.mine n (event.seen more) = append_cancel_right added (history.mine n (event.seen more)) (mine p) (sym now ∙ parts) in

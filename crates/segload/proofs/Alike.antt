@@ -97,9 +97,14 @@ module _ (shape : Shape) (f : ℕ → List ℕ) (s : State) where
       (with_filling segment segment_is.Evicted (old.filling segment).keys (old.filling segment).frequencies (taken_out segment (is_in segment) old))
   evicted_as segment = (
     new_at segment (f segment),
-    λ i. record (taken_out segment (is_in segment) s) { filling =
-        λ n. at_place segment (record { state = segment_is.Evicted; keys = (s.filling segment).keys;
-        frequencies = (s.filling segment).frequencies }) (f segment) n i },
+    λ i. record (taken_out segment (is_in segment) s) {
+      filling =
+          λ n. at_place segment (record {
+            state = segment_is.Evicted;
+            keys = (s.filling segment).keys;
+            frequencies = (s.filling segment).frequencies;
+          }) (f segment) n i;
+    },
   )
 
   -- ---- what is served

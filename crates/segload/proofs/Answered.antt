@@ -186,10 +186,12 @@ written b asked write.NotStored p q room quiet free writes = writes.answer.0
 written b asked write.Exists p q room quiet free writes = writes.answer.0
 written b asked write.NotFound p q room quiet free writes = writes.answer.0
 written b asked write.NoRoom p q room quiet free writes = absurd (room refl)
-written b asked write.BucketFull p q room quiet free writes =
-    (writes.answer.0.entries, writes.answer.1,
-    full_then b (key_of asked) p q writes.on writes.answer.0.entries
-    (full_since b.shape (key_of asked) p q writes.answer.2))
+written b asked write.BucketFull p q room quiet free writes = (
+  writes.answer.0.entries,
+  writes.answer.1,
+  full_then b (key_of asked) p q writes.on writes.answer.0.entries
+      (full_since b.shape (key_of asked) p q writes.answer.2),
+)
 written b asked write.Busy p q room quiet free writes = (writes.answer.0.entries, never_busy b p q (bucket_of b.shape (key_of asked)) quiet writes.on free.0 writes.answer.1)
 
 deleted : (b : Board) (key : List ℕ) (told : DeleteAnswer) (p q : Pass) → IsQuiet b p → HoldsNothing p
@@ -206,24 +208,40 @@ pub came : (b : Board) (of : Kind) (load : Load) (draw : ℕ) (told : Answer) (f
     → told ≢ answer.Write write.NoRoom → IsQuiet b p → HoldsNothing p → GoesOn b p q
     → AnswersCommand b (asked_by of from.version load) draw told p q
     → CameTo b.shape (seen q) (number p) of load (tally_of told) from (course_after told from) (mine p) (mine q)
-came b kind.Get load draw (answer.Get told) from p q other quiet free on is =
-    (read b load.key told p q quiet on is.keeps.entries (get_since b.shape load.key load_moment told p q is.answer),
-    is.keeps.entries, refl)
-came b kind.Gets load draw (answer.Gets told) from p q other quiet free on is =
-    (version_read b load.key told from p q quiet free on is.keeps.entries
-    (gets_since b.shape load.key load_moment told p q is.answer), is.keeps.entries)
+came b kind.Get load draw (answer.Get told) from p q other quiet free on is = (
+  read b load.key told p q quiet on is.keeps.entries (get_since b.shape load.key load_moment told p q is.answer),
+  is.keeps.entries,
+  refl,
+)
+came b kind.Gets load draw (answer.Gets told) from p q other quiet free on is = (
+  version_read b load.key told from p q quiet free on is.keeps.entries
+      (gets_since b.shape load.key load_moment told p q is.answer),
+  is.keeps.entries,
+)
 came b kind.Set load draw (answer.Write told) from p q other quiet free on is =
-    inl (written b (request.Set load.key load.value load_moment) told p q (λ e. other (ap answer.Write e)) quiet
-    free is, refl)
+    inl (
+      written b (request.Set load.key load.value load_moment) told p q (λ e. other (ap answer.Write e)) quiet
+          free is,
+      refl,
+    )
 came b kind.Add load draw (answer.Write told) from p q other quiet free on is =
-    inl (written b (request.Add load.key load.value load_moment) told p q (λ e. other (ap answer.Write e)) quiet
-    free is, refl)
+    inl (
+      written b (request.Add load.key load.value load_moment) told p q (λ e. other (ap answer.Write e)) quiet
+          free is,
+      refl,
+    )
 came b kind.Replace load draw (answer.Write told) from p q other quiet free on is =
-    inl (written b (request.Replace load.key load.value load_moment) told p q (λ e. other (ap answer.Write e)) quiet
-    free is, refl)
+    inl (
+      written b (request.Replace load.key load.value load_moment) told p q (λ e. other (ap answer.Write e)) quiet
+          free is,
+      refl,
+    )
 came b kind.Cas load draw (answer.Write told) from p q other quiet free on is =
-    inl (written b (request.Cas load.key load.value from.version load_moment) told p q
-    (λ e. other (ap answer.Write e)) quiet free is, refl)
+    inl (
+      written b (request.Cas load.key load.value from.version load_moment) told p q
+          (λ e. other (ap answer.Write e)) quiet free is,
+      refl,
+    )
 came b kind.Delete load draw (answer.Delete told) from p q other quiet free on is = (deleted b load.key told p q quiet free is, refl)
 came b of load draw told from p q other quiet free on is = absurd is
 
@@ -272,8 +290,8 @@ evicted_state b segment count p q (inr none) in_use = none.0 (ap (λ x. state_of
 room_then : (b : Board) (segment deadline : ℕ) (p q : Pass) → 1 ≤ b.shape.rows → Refills segment deadline p q → has_room b.shape q ≡ true
 room_then b segment deadline p q rows refills =
     ap (λ now. is_below b.shape.rows (option_and_then (used_of q) now))
-        (ap (λ (x : PlainPart). x.current) refills.plain)
-        ∙ (ap (is_below b.shape.rows) (refills_used segment deadline p q refills) ∙ lt-ltb 0 b.shape.rows rows)
+    (ap (λ (x : PlainPart). x.current) refills.plain)
+    ∙ (ap (is_below b.shape.rows) (refills_used segment deadline p q refills) ∙ lt-ltb 0 b.shape.rows rows)
 
 abbrev pub is_refilled : RefillAnswer → Bool
 is_refilled refill.Refilled = true
@@ -284,9 +302,9 @@ pub room_made : (b : Board) (ring : Cycle) (segment count : ℕ) (told : RefillA
     → HoldsNothing q → IsOwnRing b.shape (number p) ring → segment < ring.first + ring.count → GoesOn b p q
     → GoesOn b q r
     → IsEvictAnswer b.shape segment (evict.Evicted count) p q
-        → ((told ≡ refill.NotYours) ↔ (state_of q segment ≡ None))
-        → ((told ≡ refill.NotEvicted) ↔ (state_of q segment ≡ Some InUse))
-        → IsRefillAnswer segment load_deadline told q r
+    → ((told ≡ refill.NotYours) ↔ (state_of q segment ≡ None))
+    → ((told ≡ refill.NotEvicted) ↔ (state_of q segment ≡ Some InUse))
+    → IsRefillAnswer segment load_deadline told q r
     → GivesUpSegment b.shape segment (is_refilled told) p r
 room_made b ring segment count told p q r quiet free own below on then evicts not_yours in_use refills = by told refl refills
   where

@@ -66,33 +66,53 @@ unreplied counted_as = (told : Reply) (t : Tallies) → count_of_reply told (wit
 
 hit : unreplied tally.Hit
 unfolding unreplied
-hit told t = elim told as (λ r. count_of_reply r (with_one_more tally.Hit t) ≡ count_of_reply r t)
-    [ reply.Stored ↦ refl | reply.NotStored ↦ refl | reply.Exists ↦ refl | reply.NotFound ↦ refl
-    | reply.Deleted ↦ refl ]
+hit told t = elim told as (λ r. count_of_reply r (with_one_more tally.Hit t) ≡ count_of_reply r t) [
+  | reply.Stored ↦ refl
+  | reply.NotStored ↦ refl
+  | reply.Exists ↦ refl
+  | reply.NotFound ↦ refl
+  | reply.Deleted ↦ refl
+]
 
 miss : unreplied tally.Miss
 unfolding unreplied
-miss told t = elim told as (λ r. count_of_reply r (with_one_more tally.Miss t) ≡ count_of_reply r t)
-    [ reply.Stored ↦ refl | reply.NotStored ↦ refl | reply.Exists ↦ refl | reply.NotFound ↦ refl
-    | reply.Deleted ↦ refl ]
+miss told t = elim told as (λ r. count_of_reply r (with_one_more tally.Miss t) ≡ count_of_reply r t) [
+  | reply.Stored ↦ refl
+  | reply.NotStored ↦ refl
+  | reply.Exists ↦ refl
+  | reply.NotFound ↦ refl
+  | reply.Deleted ↦ refl
+]
 
 no_room : unreplied tally.NoRoom
 unfolding unreplied
-no_room told t = elim told as (λ r. count_of_reply r (with_one_more tally.NoRoom t) ≡ count_of_reply r t)
-    [ reply.Stored ↦ refl | reply.NotStored ↦ refl | reply.Exists ↦ refl | reply.NotFound ↦ refl
-    | reply.Deleted ↦ refl ]
+no_room told t = elim told as (λ r. count_of_reply r (with_one_more tally.NoRoom t) ≡ count_of_reply r t) [
+  | reply.Stored ↦ refl
+  | reply.NotStored ↦ refl
+  | reply.Exists ↦ refl
+  | reply.NotFound ↦ refl
+  | reply.Deleted ↦ refl
+]
 
 bucket_full : unreplied tally.BucketFull
 unfolding unreplied
-bucket_full told t = elim told as (λ r. count_of_reply r (with_one_more tally.BucketFull t) ≡ count_of_reply r t)
-    [ reply.Stored ↦ refl | reply.NotStored ↦ refl | reply.Exists ↦ refl | reply.NotFound ↦ refl
-    | reply.Deleted ↦ refl ]
+bucket_full told t = elim told as (λ r. count_of_reply r (with_one_more tally.BucketFull t) ≡ count_of_reply r t) [
+  | reply.Stored ↦ refl
+  | reply.NotStored ↦ refl
+  | reply.Exists ↦ refl
+  | reply.NotFound ↦ refl
+  | reply.Deleted ↦ refl
+]
 
 busy : unreplied tally.Busy
 unfolding unreplied
-busy told t = elim told as (λ r. count_of_reply r (with_one_more tally.Busy t) ≡ count_of_reply r t)
-    [ reply.Stored ↦ refl | reply.NotStored ↦ refl | reply.Exists ↦ refl | reply.NotFound ↦ refl
-    | reply.Deleted ↦ refl ]
+busy told t = elim told as (λ r. count_of_reply r (with_one_more tally.Busy t) ≡ count_of_reply r t) [
+  | reply.Stored ↦ refl
+  | reply.NotStored ↦ refl
+  | reply.Exists ↦ refl
+  | reply.NotFound ↦ refl
+  | reply.Deleted ↦ refl
+]
 
 untold : (counted_as : Tally) (before now : List Entry) → unreplied counted_as → now ≡ before → Counts counted_as before now
 unfolding unreplied

@@ -20,8 +20,8 @@ pub one_more_ended : (b : Board) (commands : ℕ) (workers : List Worker) (total
 one_more_ended b commands workers totals passes worker of pass long here ends so_far n w t p at_w at_t at_p =
     ⊎_elim
     (λ front. let below = slice_get_within totals n t front in
-        ⊎_elim (λ also. so_far n w t p at_w front also) (λ last. absurd (omega (arith, below, last.0, long)))
-        (front_or_last passes pass p n at_p))
+    ⊎_elim (λ also. so_far n w t p at_w front also) (λ last. absurd (omega (arith, below, last.0, long)))
+    (front_or_last passes pass p n at_p))
     (λ last. ⊎_elim (λ front. let below = slice_get_within passes n p front in absurd (omega (arith, below, last.0, long))) (λ also. both last also) (front_or_last passes pass p n at_p))
     (front_or_last totals of t n at_t)
   where

@@ -111,8 +111,8 @@ module _ (b : Board) (may_answer : ℕ → ℕ → Bool → Type 0) (told : ℕ 
         let quiet = new_quiet b n did.first did.new in
         let made = subst (Makes b.shape history n draws plan.commands of.tallies course) own
         (makes_later b.shape (seen q) history n draws plan.commands of.tallies course (mine q)
-            (begins_on (seen q) (seen last) history look.on.seen its_end.goes_on)
-            (calls_make b n draws did.first did.new quiet plan.commands of.tallies course q counted_calls)) in
+        (begins_on (seen q) (seen last) history look.on.seen its_end.goes_on)
+        (calls_make b n draws did.first did.new quiet plan.commands of.tallies course q counted_calls)) in
         record {
           commands = came.commands;
           all = ap all_of came.tallies ∙ done.all;

@@ -41,9 +41,12 @@ version_later : (shape : Shape) (history later : List Entry) (pass : ℕ) (own :
     (told : Tally) (from to : ClientState) → Begins history later
     → IsVersionReadAs shape history pass own key told from to
     → IsVersionReadAs shape later pass own key told from to
-version_later shape history later pass own key tally.Hit from to more read =
-    (read.0, moment_later shape history later pass own
-    (λ cache. reads_version shape cache load_moment key ≡ Some (read.0, to.version)) more read.1, read.2)
+version_later shape history later pass own key tally.Hit from to more read = (
+  read.0,
+  moment_later shape history later pass own
+      (λ cache. reads_version shape cache load_moment key ≡ Some (read.0, to.version)) more read.1,
+  read.2,
+)
 version_later shape history later pass own key tally.Miss from to more read = (read_later shape history later pass own key tally.Miss more read.0, read.1)
 version_later shape history later pass own key tally.Busy from to more read = read
 version_later shape history later pass own key _ from to more read = absurd read.0
@@ -51,9 +54,12 @@ version_later shape history later pass own key _ from to more read = absurd read
 written_later : (shape : Shape) (history later : List Entry) (pass : ℕ) (asked : Request) (told : Tally)
     (before now : List Entry) → Begins history later → IsWrittenAs shape history pass asked told before now
     → IsWrittenAs shape later pass asked told before now
-written_later shape history later pass asked tally.BucketFull before now more written =
-    (written.0, written.1, moment_later shape history later pass before (IsFullFor shape (key_of asked)) more
-    written.2)
+written_later shape history later pass asked tally.BucketFull before now more written = (
+  written.0,
+  written.1,
+  moment_later shape history later pass before (IsFullFor shape (key_of asked)) more
+      written.2,
+)
 written_later shape history later pass asked tally.Stored before now more written = written
 written_later shape history later pass asked tally.NotStored before now more written = written
 written_later shape history later pass asked tally.Exists before now more written = written
@@ -89,18 +95,26 @@ came_later shape history later pass kind.Replace load told from to before now mo
 came_later shape history later pass kind.Cas load told from to before now more came =
     stored_later shape history later pass (request.Cas load.key load.value from.version load_moment) told from to
     before now more came
-came_later shape history later pass kind.Delete load told from to before now more came =
-    (written_later shape history later pass (request.Delete load.key load_moment) told before now more came.0,
-    came.1)
+came_later shape history later pass kind.Delete load told from to before now more came = (
+  written_later shape history later pass (request.Delete load.key load_moment) told before now more came.0,
+  came.1,
+)
 
 pub makes_later : (shape : Shape) (history later : List Entry) (pass : ℕ) (draws : Draws) (made : ℕ) (t : Tallies)
     (course : ClientState) (own : List Entry) → Begins history later
     → Makes shape history pass draws made t course own → Makes shape later pass draws made t course own
 makes_later shape history later pass draws zero t course own more makes = makes
 makes_later shape history later pass draws (suc made) t course own more (told, before, from, own_before, makes, came, counts) =
-    let load = next_load (draws_after draws made) in
-    (told, before, from, own_before, makes_later shape history later pass draws made before from own_before more
-        makes, came_later shape history later pass load.kind load told from course own_before own more came, counts)
+    let load = next_load (draws_after draws made) in (
+      told,
+      before,
+      from,
+      own_before,
+      makes_later shape history later pass draws made before from own_before more
+          makes,
+      came_later shape history later pass load.kind load told from course own_before own more came,
+      counts,
+    )
 
 all_counted : (told : Tally) (t : Tallies) → all_of (with_one_more told t) ≡ all_of t + 1
 all_counted tally.Hit t = omega arith
@@ -164,8 +178,8 @@ module _ (b : Board) (n : ℕ) (draws : Draws) (first : Pass) (new : IsNewPass b
 pub works_on : (b : Board) (draws : Draws) (first : Pass) (made : ℕ) (told : Tally) (worker later : Worker) → IsAtWork b draws first made worker → GoesOn b worker.client.pass later.client.pass
     → ServesLoad (AnswersCommand b) (next_load worker.workload) told (course_of worker.client) (course_of later.client) worker.client.pass later.client.pass
     → later.workload ≡ after_load worker.workload → later.tallies ≡ with_one_more told worker.tallies
-        → HasCounted later.client → RecyclesFew worker.client.recycled later.client.recycled
-        → IsAtWork b draws first (made + 1) later
+    → HasCounted later.client → RecyclesFew worker.client.recycled later.client.recycled
+    → IsAtWork b draws first (made + 1) later
 works_on b draws first made told worker later was on serves after counts recycled few = record {
   quiet = on.quiet;
   workload = subst (λ n. later.workload ≡ draws_after draws n) one (after ∙ ap after_load was.workload);

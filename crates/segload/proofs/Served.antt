@@ -95,8 +95,8 @@ module _ (b : Board) (ring : Cycle) (p q : Pass) (quiet : IsQuiet b p) (free : H
         },
         subst (λ made. GivesUpSegment b.shape (next_of ring) made p q) (is_not not.told not.refused)
             (room_made b ring (next_of ring) not.count not.told p not.emptied q quiet emptied_free own within
-                not.evicts.on not.refills.on not.evicts.answer not.refills.not_yours not.refills.in_use
-                not.refills.answer),
+            not.evicts.on not.refills.on not.evicts.answer not.refills.not_yours not.refills.in_use
+            not.refills.answer),
       )
 
   not_made : TriesForRoom (AnswersCommand b) (next_of ring) false p q → Tried b ring p q × GivesUpSegment b.shape (next_of ring) false p q

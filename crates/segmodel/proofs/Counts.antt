@@ -49,8 +49,8 @@ count-split p (x ∷ xs) =
     let rest = count-split p xs in
     let head = count_by-cons p x xs in
     elim (p x) as (λ b. count_by p (x ∷ xs) ≡ cond b 1 0 + count_by p xs
-        → count_by p (x ∷ xs) + length (cond (not b) (x ∷ filter (λ y. not (p y)) xs) (filter (λ y. not (p y)) xs))
-        ≡ length (x ∷ xs)) [
+    → count_by p (x ∷ xs) + length (cond (not b) (x ∷ filter (λ y. not (p y)) xs) (filter (λ y. not (p y)) xs))
+    ≡ length (x ∷ xs)) [
       | true ↦ λ h. let sum : count_by p (x ∷ xs) + length (filter (λ y. not (p y)) xs) ≡ suc (length xs) = omega arith in sum
       | false ↦ λ h. let sum : count_by p (x ∷ xs) + suc (length (filter (λ y. not (p y)) xs)) ≡ suc (length xs) = omega arith in sum
     ] head

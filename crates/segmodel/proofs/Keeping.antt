@@ -348,8 +348,8 @@ pub row_stands : (now : Plain) (segment row : ℕ) (last : Bool) → last ≡ is
     → (key : List ℕ) → key ≡ get_or (filling_in now segment).keys row [] → IsSome (standing (state_of now).cache key)
 row_stands now segment row last is_last is key found =
     let stands : (stands_in segment (standing (state_of now).cache (get_or (filling_in now segment).keys row [])) &&
-        not (is_among (drop (row + 1) (filling_in now segment).keys) (get_or (filling_in now segment).keys row [])))
-        ≡ true =
+    not (is_among (drop (row + 1) (filling_in now segment).keys) (get_or (filling_in now segment).keys row [])))
+    ≡ true =
     sym is_last ∙ is in
     some (standing (state_of now).cache key) (ap (λ k. stands_in segment (standing (state_of now).cache k)) found ∙ first _ _ stands)
   where

@@ -199,8 +199,8 @@ pub unstirred : UnstirredReadsTheSame
 unstirred shape old new now key legal begins still =
     let counts : entries_of shape (bucket_of shape key) begins.0 ≡ 0 = sym (stirred_counts shape old begins.0 key) ∙ ap (stirred shape key old) (sym begins.1) ∙ still in
     let same : IsSameAt shape (after shape old) (after shape (begins.0 ++ old)) key =
-        after_others shape begins.0 old key (subst (IsLegal shape) begins.1 legal)
-        (none_counted shape _ begins.0 counts) in
+    after_others shape begins.0 old key (subst (IsLegal shape) begins.1 legal)
+    (none_counted shape _ begins.0 counts) in
     let here : IsSameAt shape (after shape old) (after shape new) key = subst (λ h. IsSameAt shape (after shape old) (after shape h) key) (sym begins.1) same in (
       ap (λ o. option_map (λ (item : Cached). item.value) o) (here.finds now),
       (λ i. option_map {U = List ℕ × ℕ} (λ item. (item.value, here.version i)) (here.finds now i)),

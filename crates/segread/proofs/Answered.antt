@@ -31,9 +31,12 @@ use Rattle.segread.proofs.Reading.{read_on}
 -- ---- the answer
 
 pub gone_reads : (z : Shape) (key : List ℕ) (now : ℕ) (h g : List Event) → WasGone (KeyGone z key) h g → ReadsBetween z key now (event.seen h) (event.seen g) None
-gone_reads z key now h g gone = (event.seen gone.0, (seen_begins h gone.0 gone.1, seen_begins gone.0 g gone.2),
-    ap (λ o. option_map (λ (item : Cached). item.value)
-    (unless_expired (after z (event.seen gone.0)).deadline now o)) gone.3)
+gone_reads z key now h g gone = (
+  event.seen gone.0,
+  (seen_begins h gone.0 gone.1, seen_begins gone.0 g gone.2),
+  ap (λ o. option_map (λ (item : Cached). item.value)
+      (unless_expired (after z (event.seen gone.0)).deadline now o)) gone.3,
+)
 
 -- ---- hits
 

@@ -20,8 +20,11 @@ use Rattle.segread.proofs.Raising.{raises_after}
 -- with p before the scan, m right after its first look, and q after it
 module _ (b : Board) (key : List ℕ) (now draw : ℕ) (p m q : Pass) (l : LooksFirst b p m) where
   attempts_from : (from to some more : ℕ) → Attempts from to some more m q → Attempts from to some more p q
-  attempts_from from to some more i = record { comes_in = comes_from b key p m l from to some more q i.comes_in;
-      onward = i.onward; raises_nothing = i.raises_nothing ∙ raises_none p m (out b key p m l).1 }
+  attempts_from from to some more i = record {
+    comes_in = comes_from b key p m l from to some more q i.comes_in;
+    onward = i.onward;
+    raises_nothing = i.raises_nothing ∙ raises_none p m (out b key p m l).1;
+  }
 
   once_from : GlancesOnce m q → GlancesOnce p q
   once_from once bucket = let one = once bucket in let same = glances_none p m (out b key p m l).1 bucket in omega arith

@@ -68,9 +68,13 @@ glance_once b bucket info p q g = by_bit b bucket info p q info.held refl g
 
 -- it keeps in mind what it holds
 pub same_view : (p q : Pass) → view q ≡ view p → StaysOut p q
-same_view p q same = (ap (λ (v : View). traces.count entered v.number v.trace) same,
-    λ i. (traces.count raised (same i).number (same i).trace,
-    λ bucket. traces.count (glanced bucket) (same i).number (same i).trace))
+same_view p q same = (
+  ap (λ (v : View). traces.count entered v.number v.trace) same,
+  λ i. (
+    traces.count raised (same i).number (same i).trace,
+    λ bucket. traces.count (glanced bucket) (same i).number (same i).trace,
+  ),
+)
 
 pub came_in : (b : Board) (segment : ℕ) (p q : Pass) → AddsEvents b (Entered (number p) segment ∷ []) p q → IsTry p q
 came_in b segment p q m = (moved_count b _ p q entered m ∙ rw (eq-eqb (number p) (number p) refl) refl, only_scans b (Entered (number p) segment ∷ []) p q m refl (λ bucket. refl))
@@ -98,8 +102,11 @@ tries_once from to some count p q r i j = record { comes_in = (let a = i.comes_i
 
 pub tries_then : (from mid to some more most : ℕ) (p q r : Pass) → Tries from mid some more p q → Tries mid to more most q r → Tries from to some most p r
 tries_then from mid to some more most p q r i j =
-    record { comes_in = (let a = i.comes_in in let c = j.comes_in in omega arith);
-    onward = (let a = i.onward in let c = j.onward in omega arith); only_scans = j.only_scans ∙ i.only_scans }
+    record {
+      comes_in = (let a = i.comes_in in let c = j.comes_in in omega arith);
+      onward = (let a = i.onward in let c = j.onward in omega arith);
+      only_scans = j.only_scans ∙ i.only_scans;
+    }
 
 -- more words, or more tries that may be counted
 pub at_most : (from to end some more most : ℕ) (p q : Pass) → words_below to + more ≤ words_below end + most → Tries from to some more p q → Tries from end some most p q

@@ -66,5 +66,5 @@ pub expired_reads : (b : Board) (key : List ℕ) (hit : Hit) (p q r : Pass) (now
     → ReadsBetween b.shape key now (seen p) (seen r) None
 expired_reads b key hit p q r now found gone past =
     found_expired b.shape hit.place (item_word hit.item) key found.0.value (trace p) (trace q) found.0.found
-        hit.deadline (by_word b.shape hit.item hit.deadline (trace q) found.1) (trace r)
-        (moved_on b _ q r gone.moved) now past
+    hit.deadline (by_word b.shape hit.item hit.deadline (trace q) found.1) (trace r)
+    (moved_on b _ q r gone.moved) now past

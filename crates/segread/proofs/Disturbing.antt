@@ -54,7 +54,7 @@ glance_reads b p q c m plain memo = record {
 glance_counts : (b : Board) (p q : Pass) (c : ℕ) → AddsEvents b (Glanced (number p) c ∷ []) p q → count (glanced c) q ≡ count (glanced c) p + 1
 glance_counts b p q c m = moved_count b (Glanced (number p) c ∷ []) p q (glanced c) m
     ∙ cond-true (eqb (number p) (number p) && eqb c c) (count (glanced c) p + 1) (count (glanced c) p)
-        (and_from (eqb (number p) (number p)) (eqb c c) (eq-eqb (number p) (number p) refl) (eq-eqb c c refl))
+    (and_from (eqb (number p) (number p)) (eqb c c) (eq-eqb (number p) (number p) refl) (eq-eqb c c refl))
 
 pub set_reads : (b : Board) (key : List ℕ) (p q : Pass) (info : Info) → IsValid b.shape → HasNoBit b.shape key p
     → Glances b (bucket_of b.shape key) info p q → info.held ≡ true → q.plain ≡ p.plain
@@ -94,9 +94,11 @@ by_both z key now some more most p q r up on (inl a) (inr s) = inr (stood_from z
 by_both z key now some more most p q r up on (inr s) b = inr (stood_to z key now p q r on s)
 
 pub disturbs_then : (z : Shape) (key : List ℕ) (now : ℕ) (some more most : ℕ) (p q r : Pass) → Disturbs z key now some more p q → Disturbs z key now more most q r → Disturbs z key now some most p r
-disturbs_then z key now some more most p q r c d =
-    (begins_on (seen p) (seen q) (seen r) c.0 d.0, (let x = c.1 in let y = d.1 in omega (arith, x, y)),
-    by_both z key now some more most p q r c.0 d.0 c.2 d.2)
+disturbs_then z key now some more most p q r c d = (
+  begins_on (seen p) (seen q) (seen r) c.0 d.0,
+  (let x = c.1 in let y = d.1 in omega (arith, x, y)),
+  by_both z key now some more most p q r c.0 d.0 c.2 d.2,
+)
 
 -- tries that are counted by entries alone
 pub by_entries : (b : Board) (key : List ℕ) (now : ℕ) (some more : ℕ) (p q : Pass) → IsReader b p q → CountsTries b.shape key some more (trace p) (trace q) → Disturbs b.shape key now some more p q
@@ -119,6 +121,6 @@ is_disturbed_by z key now p q all (inr s) = inr (all, s)
 pub is_disturbed : (b : Board) (key : List ℕ) (now : ℕ) (p q : Pass) → IsReader b p q → Disturbs b.shape key now 0 64 p q → IsDisturbed b.shape key now (seen p) p q
 is_disturbed b key now p q i x =
     let e = entries_begin b.shape (bucket_of b.shape key) (trace p) (trace q)
-        (moved_on b i.reads.own p q i.reads.moved) in
-        let g = glances_grow b i.reads.own p q (bucket_of b.shape key) i.reads.moved in let c = x.1 in
+    (moved_on b i.reads.own p q i.reads.moved) in
+    let g = glances_grow b i.reads.own p q (bucket_of b.shape key) i.reads.moved in let c = x.1 in
     is_disturbed_by b.shape key now p q (omega (arith, e, g, c)) x.2

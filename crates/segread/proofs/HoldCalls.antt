@@ -78,7 +78,7 @@ pub row_now : (b : Board) (p : Pass) (hold : HeldRow) → IsQuiet b p → (is : 
 row_now b p hold quiet is =
     subst (λ s. row_after (trace p) s hold.row ≡ row_after is.held.trace s hold.row) (sym is.segment)
     (row_of_hold b.shape (trace p) is.held hold.row quiet.pass.lawful (hold_of b p hold quiet is)
-        (subst (λ s. (row_after is.held.trace s hold.row).linked ≡ Some is.held.key) is.segment is.stands.linked))
+    (subst (λ s. (row_after is.held.trace s hold.row).linked ≡ Some is.held.key) is.segment is.stands.linked))
 
 pub has_row : (b : Board) (p : Pass) (hold : HeldRow) → IsQuiet b p → (is : IsHeldRow b.shape hold p) → IsRowOf (trace p) hold is.held
 has_row b p hold quiet is = let same = row_now b p hold quiet is in record {
@@ -232,13 +232,16 @@ pub holds_none : (b : Board) (key : List ℕ) (now : ℕ) (told : HoldAnswer) (p
 holds_none b key now told p m q quiet l i steps few only then already = let on =
     read_on b p q quiet (reads_from b key p m l q i).reads (reads_from b key p m l q i).plain
     (reads_from b key p m l q i).memo in record {
-  on = on.0;
-  answer = then on.1;
-  already = already;
-  costs = record { looks = costs_from b key p m q l i few; steps = steps;
-      glances_nothing = unset_from b key p m q l i (glances_none m q only);
-      raises_nothing = raises_none p q (only ∙ (out b key p m l).1) };
-}
+      on = on.0;
+      answer = then on.1;
+      already = already;
+      costs = record {
+        looks = costs_from b key p m q l i few;
+        steps = steps;
+        glances_nothing = unset_from b key p m q l i (glances_none m q only);
+        raises_nothing = raises_none p q (only ∙ (out b key p m l).1);
+      };
+    }
 
 -- what the pass may keep in mind of what it found
 pub has_found : (b : Board) (p r : Pass) (place : Place) (item : Item) (key value : List ℕ)
@@ -294,9 +297,9 @@ module _ (b : Board) (p r q : Pass) (hold : HeldRow) (quiet : IsQuiet b p) (of :
       let old = quiet.hold held here in
       let segment : hold.segment ≡ held.segment = of.segment ∙ ap (λ (x : Held). x.segment) (same_Some of.held held (sym of.holds ∙ here)) in
       let none : NoneRefills held.segment did.others =
-          subst (λ s. NoneRefills s did.others) segment
-          (no_refill b.shape did.others (trace p) (number p) hold.segment quiet.pass.one_of did.before did.none
-          (is_inside b p hold quiet of)) in
+      subst (λ s. NoneRefills s did.others) segment
+      (no_refill b.shape did.others (trace p) (number p) hold.segment quiet.pass.one_of did.before did.none
+      (is_inside b p hold quiet of)) in
       let x = unfilled held.segment (did.others ++ old.more) held.trace (none_both held.segment did.others old.more none old.kept) in
       let now : trace q ≡ Left (number p) hold.segment ∷ ((did.others ++ old.more) ++ held.trace) =
       ap (λ (v : View). v.trace) view_is ∙ (did.now ∙ ap (λ h. Left (number p) hold.segment ∷ h) (ap (λ h. did.others ++ h) old.since ∙ sym (append_assoc did.others old.more held.trace))) in

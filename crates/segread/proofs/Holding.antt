@@ -63,8 +63,8 @@ is_last z [] at key value segment none t =
 is_last z (e ∷ more) at key value segment none t =
     let h = e ∷ (more ++ at) in let x = is_last z more at key value segment none.1 t in ⊎_elim
     (λ here. subst (IsLast z key value segment at h)
-        (sym (cond-true (stood z h key value segment) h (last_stood z (more ++ at) key value segment) here))
-        (record { first = e ∷ more; then = []; on = refl; now = refl; kept = (none, tt); stands = here }))
+    (sym (cond-true (stood z h key value segment) h (last_stood z (more ++ at) key value segment) here))
+    (record { first = e ∷ more; then = []; on = refl; now = refl; kept = (none, tt); stands = here }))
     (λ not. subst (IsLast z key value segment at h) (sym (cond-false (stood z h key value segment) h (last_stood z (more ++ at) key value segment) not))
     (record { first = x.first; then = e ∷ x.then; on = x.on; now = ap (λ g. e ∷ g) x.now; kept = (x.kept.0, (none.0, x.kept.1)); stands = x.stands }))
     (cases_Bool (stood z h key value segment))

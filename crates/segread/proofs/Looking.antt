@@ -102,8 +102,8 @@ module _ (b : Board) (key : List ℕ) (p m : Pass) (l : LooksFirst b p m) where
     scan_later b w p m q (readers.looks b p m l.look) x.0,
     subst (λ n. IsWay b.shape key n (position b.shape (trace p) last + 1) last tries w p q) (same_at from at)
         (subst (λ n. IsWay b.shape key (position b.shape (trace m) from) (n + 1) last tries w p q)
-            (same_at last end) (way_from (position b.shape (trace m) from) (position b.shape (trace m) last + 1)
-            last tries w q x.1)),
+        (same_at last end) (way_from (position b.shape (trace m) from) (position b.shape (trace m) last + 1)
+        last tries w q x.1)),
   )
 
 -- ---- loops of looks

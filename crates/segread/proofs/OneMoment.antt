@@ -87,8 +87,8 @@ module _ (z : Shape) (place : Place) (w w' : ℕ) (key value : List ℕ) (h g : 
       let cache = after z (event.seen r) in
       let e : version ≡ cache.version b = is ∙ clear_version z r b few lr none in
       ap (option_map (λ (item : Cached). (item.value, cache.version b)))
-          (stands_present cache key value s deadline now stands_then
-          (deadline_since z early g s deadline none_early had) before) ∙ ap (λ (m : ℕ). Some (value, m)) (sym e)
+      (stands_present cache key value s deadline now stands_then
+      (deadline_since z early g s deadline none_early had) before) ∙ ap (λ (m : ℕ). Some (value, m)) (sym e)
 
 -- of passes: p before the try, q in the segment, r after the look at the information, and t after the third look
 pub one_moment : (b : Board) (p q r t : Pass) (place : Place) (w w' : ℕ) (key value : List ℕ) (now version deadline : ℕ) → HasDeadline b.shape (segment_part w) deadline (trace q) → now < deadline

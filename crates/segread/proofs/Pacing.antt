@@ -83,8 +83,8 @@ pub next_paced : (b : Board) (key : List ℕ) (from bucket word : ℕ) (p q r : 
     → Paces from (position b.shape (trace q) (place_of bucket word)) 0 p q → IsReader b q r
     → IsPlaceOf b.shape (trace q) key (place_of bucket word)
     → Paces (position b.shape (trace q) (place_of bucket word))
-        (position b.shape (trace q) (place_of bucket word) + 1) 0 q r
-        → Paces from (position b.shape (trace r) (place_of bucket (word + 1))) 0 p r
+    (position b.shape (trace q) (place_of bucket word) + 1) 0 q r
+    → Paces from (position b.shape (trace r) (place_of bucket (word + 1))) 0 p r
 next_paced b key from bucket word p q r before i of step =
     let z = b.shape in let here = position z (trace q) (place_of bucket word) in let next = position z (trace r) (place_of bucket (word + 1)) in
     let same = later_at b key (place_of bucket word) q r i of in let was = at_depth z (trace r) (place_of bucket word) in let is = at_depth z (trace r) (place_of bucket (word + 1)) in

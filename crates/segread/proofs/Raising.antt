@@ -39,8 +39,8 @@ has_frequency z h place item key value v was =
     let here = ap (λ m. (bucket_after z h m).items n) (sym was.here.0) ∙ was.here.1.1 in
     let stands = (coherent z h was.lawful).items b n slot here in
     let reads : item_word item ≡ packed (tag_of slot.key) (frequency_of h slot.segment slot.row) slot.segment
-        slot.row = sym was.stood ∙ (content_at z h b n (cell_at z place) was.chained.at
-        ∙ ap (content_word h) here) in
+    slot.row = sym was.stood ∙ (content_at z h b n (cell_at z place) was.chained.at
+    ∙ ap (content_word h) here) in
     let low = low_frequency z h slot.segment slot.row was.lawful in
     let low_s = low_segment z slot.segment v stands.within.0 in let low_r = low_row z slot.row v stands.within.1 in
     let f = item.freq_in_range in let s = item.seg_in_range in let r = item.row_in_range in
@@ -57,8 +57,8 @@ has_frequency z h place item key value v was =
 found_linked : (z : Shape) (place : Place) (item : Item) (key value : List ℕ) (h g : List Event) → FoundItem z place (item_word item) key value h g → (row_after g item.seg item.row).linked ≡ Some key
 found_linked z place item key value h g f =
     ap (λ n. (row_after g n item.row).linked) (segment_of_item item)
-        ∙ (ap (λ n. (row_after g (segment_part (item_word item)) n).linked) (row_of_item item)
-        ∙ (ap (λ (r : Row). r.linked) f.still ∙ f.saw.was.linked))
+    ∙ (ap (λ n. (row_after g (segment_part (item_word item)) n).linked) (row_of_item item)
+    ∙ (ap (λ (r : Row). r.linked) f.still ∙ f.saw.was.linked))
 
 -- a frequency that the draw makes higher is one more
 one_higher : (f draw : ℕ) (t : Bool) → f < cond t (f + 1) f → (t ≡ true) × (cond t (f + 1) f ≡ f + 1)
@@ -168,8 +168,8 @@ module _ (b : Board) (p q : Pass) (place : Place) (item : Item) (higher draw fou
         let frequency : frequency_of at item.seg item.row ≡ item.freq = sym (frequency_marked at item.seg item.row) ∙ had.had in
         let reads : word z at (cell_at z place) ≡ packed (tag_of key) (frequency_of at item.seg item.row) item.seg item.row =
         content_at z at (home_bucket z at place) (position z at place) (cell_at z place)
-            (chained_later z saw.saw.at at place lawful up was.chained).at
-            ∙ ap (content_word at) (here ∙ ap buckets.item named) in
+        (chained_later z saw.saw.at at place lawful up was.chained).at
+        ∙ ap (content_word at) (here ∙ ap buckets.item named) in
         false≢true (sym other ∙ eq-eqb found (item_word item) (step.told.found_is ∙ (reads ∙ (λ i. packed (tag i) (frequency i) item.seg item.row))))
 
     pub overtaken : IsOvertaken b.shape key value h (trace q)
@@ -193,17 +193,23 @@ pub raised_by : (b : Board) (p q : Pass) (place : Place) (item : Item) (higher d
     → 0 < inside (trace p) (number p) item.seg
     → FoundItem b.shape place (item_word item) key value h (trace p)
     → Stepped b (bump (home_bucket b.shape (trace p) place) (position b.shape (trace p) place)
-        (cell_at b.shape place) item.tag item.seg item.row item.freq higher) found p q
-        → result ≡ eqb found (item_word item)
+    (cell_at b.shape place) item.tag item.seg item.row item.freq higher) found p q
+    → result ≡ eqb found (item_word item)
     → AddsAtOnce b (cond result (Bumped (number p) item.seg item.row higher ∷ []) []) p q
-        → count raised q ≡ cond result 1 0 + count raised p → higher ≡ frequency_after_hit item.freq draw
-        → item.freq < higher → RaisesFrom b.shape key value draw h p q
+    → count raised q ≡ cond result 1 0 + count raised p → higher ≡ frequency_after_hit item.freq draw
+    → item.freq < higher → RaisesFrom b.shape key value draw h p q
 raised_by b p q place item higher draw found key value h true is chained there saw step same did more by up =
     inl (omega (arith, more), counts_hit b p q place item higher draw found key value h is chained there saw step by up (eqb-true found (item_word item) (sym same)))
 raised_by b p q place item higher draw found key value h false is chained there saw step same did more by up =
-    inr (omega (arith, more), inr (several b p q place item higher draw found key value h is chained there saw step
-        by up (sym same) did.moved, overtaken b p q place item higher draw found key value h is chained there saw
-        step by up (sym same)))
+    inr (
+      omega (arith, more),
+      inr (
+        several b p q place item higher draw found key value h is chained there saw step
+            by up (sym same) did.moved,
+        overtaken b p q place item higher draw found key value h is chained there saw
+            step by up (sym same),
+      ),
+    )
 
 -- a frequency that the draw leaves
 one_lower : (f draw : ℕ) (t : Bool) → cond t (f + 1) f ≤ f → t ≡ false
@@ -292,8 +298,11 @@ pub raises_after : (z : Shape) (key value : List ℕ) (draw : ℕ) (h g : List E
     → number q ≡ number p → Begins h g → RaisesNothing p q → RaisesFrom z key value draw g q r
     → RaisesFrom z key value draw h p r
 raises_after z key value draw h g p q r same up none (inl i) =
-    inl (i.0 ∙ ap (λ n. n + 1) none, subst (λ n. CountsHit z key value draw n h (trace r)) same
-    (counts_wider z key value draw (number q) h g (trace r) (trace r) up ([], refl) i.1))
+    inl (
+      i.0 ∙ ap (λ n. n + 1) none,
+      subst (λ n. CountsHit z key value draw n h (trace r)) same
+          (counts_wider z key value draw (number q) h g (trace r) (trace r) up ([], refl) i.1),
+    )
 raises_after z key value draw h g p q r same up none (inr i) = inr (i.0 ∙ none, none_wider z key value draw h g (trace r) (trace r) up ([], refl) i.1)
 
 pub raises_later : (z : Shape) (key value : List ℕ) (draw : ℕ) (p q r : Pass) → number q ≡ number p

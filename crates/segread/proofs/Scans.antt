@@ -66,8 +66,11 @@ chained_place : (z : Shape) (key : List ℕ) (depth number : ℕ) (h : List Even
 chained_place z key depth number h few in' of =
     let t : ltb (z.buckets + number) z.buckets ≡ false = le-ltb (z.buckets + number) z.buckets (omega arith) in
     let e : z.buckets + number - z.buckets ≡ number = omega arith in
-    place_at z key (place_of (z.buckets + number) 1) (8 * (depth + 1) + 1) h ((omega arith), (omega arith),
-        (omega arith)) (((omega arith), (omega arith)), rw (t, e) (depth + 1, of, refl, (omega arith)))
+    place_at z key (place_of (z.buckets + number) 1) (8 * (depth + 1) + 1) h (
+      (omega arith),
+      (omega arith),
+      (omega arith),
+    ) (((omega arith), (omega arith)), rw (t, e) (depth + 1, of, refl, (omega arith)))
 
 other_cases : (z : Shape) (h : List Event) (b n bucket w other : ℕ) (t : Bool) → IsAt h b n (cond t (OfBucket bucket w) (OfOverflow (bucket - z.buckets) w)) → other < 8
     → IsAt h b (8 * (let d : ℕ = cond t 0 (depth_of (home_of h (bucket - z.buckets))) in d) + other) (cond t (OfBucket bucket other) (OfOverflow (bucket - z.buckets) other))
@@ -135,8 +138,8 @@ word_given_up at some count p q in' few i = at_most at at 32 some count 63 p q (
 pub hit_here : (b : Board) (key : List ℕ) (place : Place) (seen item : Item) (header deadline tries count : ℕ)
     (p q r : Pass) → IsPlaceOf b.shape (trace p) key place → IsReader b p q → IsReaderIn b p r item.seg → count < 64
     → Tries (position b.shape (trace p) place) (position b.shape (trace p) place) tries count p q
-        → Trying b.shape key place tries seen count (trace p) (trace q) → IsTry q r
-        → FoundKey b.shape place item header key (trace q) (trace r)
+    → Trying b.shape key place tries seen count (trace p) (trace q) → IsTry q r
+    → FoundKey b.shape place item header key (trace q) (trace r)
     → HasDeadline b.shape item.seg deadline (trace r)
     → IsHit b.shape key (position b.shape (trace p) place) tries (record { place = place; item = item; header = header; deadline = deadline; tries = count }) p r
 hit_here b key place seen item header deadline tries count p q r of i j few tried y once found told =
@@ -364,12 +367,17 @@ pub whole_scan : (b : Board) (key : List ℕ) (from : ℕ) (w : Scan) (p q : Pas
     → IsScanner b w p q → IsScanFrom b.shape key from 0 w p q → IsScanAnswer b.shape key w (trace p) (trace q)
     × TriesFew p q × OnlyScans p q
 whole_scan b key from (Found hit) p q first is i x =
-    let l = i.reads.moved.pass.lawful in let in' = (in_chain b.shape (trace q) hit.place l (hit_place b.shape key from 0 hit p q l x).0).1 in
-    ((x.found, x.deadline), few_times from (position b.shape (trace q) hit.place) (hit.tries + 1) p q first
-        (let few = x.few in let most = words_few (position b.shape (trace q) hit.place) in' in
-        omega (arith, few, most)) x.tried, x.tried.only_scans)
-whole_scan b key from (Passed word counted) p q first is i x =
-    (x.gone (trace p) ([], refl) (subst (λ n. KeyAhead b.shape key n (trace p) (trace p)) (sym first)
-        (key_first b.shape key (trace p) is.lawful)), few_times from 32 63 p q first (omega arith) x.tried,
-        x.tried.only_scans)
+    let l = i.reads.moved.pass.lawful in let in' = (in_chain b.shape (trace q) hit.place l (hit_place b.shape key from 0 hit p q l x).0).1 in (
+      (x.found, x.deadline),
+      few_times from (position b.shape (trace q) hit.place) (hit.tries + 1) p q first
+          (let few = x.few in let most = words_few (position b.shape (trace q) hit.place) in' in
+          omega (arith, few, most)) x.tried,
+      x.tried.only_scans,
+    )
+whole_scan b key from (Passed word counted) p q first is i x = (
+  x.gone (trace p) ([], refl) (subst (λ n. KeyAhead b.shape key n (trace p) (trace p)) (sym first)
+      (key_first b.shape key (trace p) is.lawful)),
+  few_times from 32 63 p q first (omega arith) x.tried,
+  x.tried.only_scans,
+)
 whole_scan b key from Busy p q first is i x = (x.counts, few_times from 32 63 p q first (omega arith) x.tried, x.tried.only_scans)

@@ -33,9 +33,17 @@ abbrev pub saw_wider : (z : Shape) (place : Place) (w : ℕ) (k v : List ℕ) (h
 saw_wider z place w k v h g h' g' a c s = record { at = s.at; between = (begins_on h' h s.at a s.between.0, begins_on s.at g g' s.between.1 c); was = s.was }
 
 abbrev pub found_from : (z : Shape) (place : Place) (w : ℕ) (k v : List ℕ) (h g h' : List Event) → Begins h' h → FoundItem z place w k v h g → FoundItem z place w k v h' g
-found_from z place w k v h g h' a f = record { saw =
-    record { at = f.saw.at; between = (begins_on h' h f.saw.at a f.saw.between.0, f.saw.between.1);
-    was = f.saw.was }; kept = f.kept; still = f.still; alone = f.alone }
+found_from z place w k v h g h' a f = record {
+  saw =
+      record {
+        at = f.saw.at;
+        between = (begins_on h' h f.saw.at a f.saw.between.0, f.saw.between.1);
+        was = f.saw.was;
+      };
+  kept = f.kept;
+  still = f.still;
+  alone = f.alone;
+}
 
 abbrev pub hit_from : (z : Shape) (place : Place) (item : Item) (header : ℕ) (k : List ℕ) (h g h' : List Event) → Begins h' h → FoundKey z place item header k h g → FoundKey z place item header k h' g
 hit_from z place item header k h g h' a f = record { value = f.value; found = found_from z place (item_word item) k f.value h g h' a f.found; begins = f.begins }
@@ -105,8 +113,8 @@ not_tagged z key place w tag h g v of s is ne =
     let c = chained_later z h s.at place s.lawful s.between.0 of.0 in
     subst (λ n. ¬ (KeyAt z key s.at n)) e.1
     (other_tag z key s.at (position z s.at place) (cell_at z place) v s.lawful
-        (subst (λ b. IsAt s.at b (position z s.at place) (cell_at z place)) (e.0 ∙ of.1) c.at.1)
-        (λ same. ne (ap (λ n. n / 2 ^ 52) (sym s.stood) ∙ (same ∙ sym is))))
+    (subst (λ b. IsAt s.at b (position z s.at place) (cell_at z place)) (e.0 ∙ of.1) c.at.1)
+    (λ same. ne (ap (λ n. n / 2 ^ 52) (sym s.stood) ∙ (same ∙ sym is))))
 
 pub of_other : (z : Shape) (key other value : List ℕ) (place : Place) (w : ℕ) (h g : List Event)
     → IsPlaceOf z h key place → other ≢ key → (s : SawItem z place w other value h g)
@@ -116,8 +124,8 @@ of_other z key other value place w h g of ne s i =
     let b : bucket_of z other ≡ bucket_of z key = s.was.here.0 ∙ (e.0 ∙ of.1) in
     let o = s.was.here.1 in
     let there : (bucket_after z s.at (bucket_of z key)).items (position z h place) ≡ buckets.item o.0 =
-        subst (λ n. (bucket_after z s.at (bucket_of z key)).items n ≡ buckets.item o.0) e.1
-        (subst (λ m. (bucket_after z s.at m).items (position z s.at place) ≡ buckets.item o.0) b o.1) in
+    subst (λ n. (bucket_after z s.at (bucket_of z key)).items n ≡ buckets.item o.0) e.1
+    (subst (λ m. (bucket_after z s.at m).items (position z s.at place) ≡ buckets.item o.0) b o.1) in
     ne (sym o.2 ∙ (ap (λ a. a.key) (same_item o.0 i.0 (sym there ∙ i.1)) ∙ i.2))
 
 abbrev pub item_word_seen : (z : Shape) (place : Place) (w : ℕ) (k v : List ℕ) (h g : List Event) → SawItem z place w k v h g → SawWord z place w h g
@@ -218,9 +226,9 @@ may_enter b p q place item h is outside reads c s =
     let w = stood_item z s.at place (item_word item) is.valid s.lawful (chained_later z h s.at place s.lawful s.between.0 c) s.stood (has_tag item) in
     let seg = segment_of_item item in
     let used : was_used (trace q) (segment_part (item_word item)) ≡ true =
-        subst (λ g. was_used g (segment_part (item_word item)) ≡ true) (sym s.between.1.1)
-        (used_stays s.between.1.0 s.at (segment_part (item_word item)) (linked_used s.at _ _ w.0 w.2.linked)) in
+    subst (λ g. was_used g (segment_part (item_word item)) ≡ true) (sym s.between.1.1)
+    (used_stays s.between.1.0 s.at (segment_part (item_word item)) (linked_used s.at _ _ w.0 w.2.linked)) in
     let few : inside (trace q) (number q) item.seg < 2 =
-        subst (λ n. inside (trace q) n item.seg < 2) (sym reads.reads.moved.same)
-        (subst (λ n. n < 2) (sym (reads.reads.inside item.seg)) (outside item.seg)) in
+    subst (λ n. inside (trace q) n item.seg < 2) (sym reads.reads.moved.same)
+    (subst (λ n. n < 2) (sym (reads.reads.inside item.seg)) (outside item.seg)) in
     record { guarded = tt; follows = tt; suits = (is.one_of, rw seg w.2.in_segment.0, few, rw seg used) }

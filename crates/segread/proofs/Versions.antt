@@ -36,8 +36,8 @@ module _ (b : Board) (key : List ℕ) (now from tries : ℕ) (hit : Hit) (value 
     (is_value : (k w : List ℕ) → IsKey k → IsValue w → Holds (row_after (trace v) hit.item.seg hit.item.row) k w → value ≡ w)
     (glance : Glances b (bucket_of b.shape key) info v g) (plain : g.plain ≡ v.plain) (memo : (sight g).memo ≡ (sight v).memo)
     (version : info.version ≡ (b.shape.first_version +
-        (bucket_after b.shape (trace g) (bucket_of b.shape key)).version) % 2 ^ 32) (look : OnlyLooks b g l)
-        (stands : third ≡ word_of_place b.shape (trace l) hit.place) (before : now < hit.deadline) where
+    (bucket_after b.shape (trace g) (bucket_of b.shape key)).version) % 2 ^ 32) (look : OnlyLooks b g l)
+    (stands : third ≡ word_of_place b.shape (trace l) hit.place) (before : now < hit.deadline) where
   abbrev z : Shape
   z = b.shape
 
@@ -102,8 +102,8 @@ module _ (b : Board) (key : List ℕ) (now from tries : ℕ) (hit : Hit) (value 
   one_more ne tag =
       let saw = x.found.found.saw in
       let more = one_entry z hit.place (item_word hit.item) third saw.at (trace l) valid saw.was.lawful lawful
-          (begins_on saw.at (trace q) (trace l) saw.between.1 on) saw.was.chained saw.was.stood (sym stands)
-          (has_tag hit.item) tag ne in
+      (begins_on saw.at (trace q) (trace l) saw.between.1 on) saw.was.chained saw.was.stood (sym stands)
+      (has_tag hit.item) tag ne in
       let more' : entries_of z c (event.seen saw.at) + 1 ≤ entries_of z c (seen l) = subst (λ n. entries_of z n (event.seen saw.at) + 1 ≤ entries_of z n (seen l)) (sym saw.was.here.0) more in
       let counted = x.counted in omega (arith, more', counted)
 
@@ -114,13 +114,15 @@ module _ (b : Board) (key : List ℕ) (now from tries : ℕ) (hit : Hit) (value 
   one_version : info.held ≡ false → IsSameItem (item_word hit.item) third → ReadsVersionBetween z key now (seen p) (seen l) (Some (value, info.version))
   one_version clear same = let i = clear_reads b c v g info glance clear plain memo in (
     seen g,
-    (seen_begins (trace p) (trace g) (begins_on (trace p) (trace v) (trace g)
-        (moved_on b in_v.reads.own p v in_v.reads.moved) (moved_on b at_g.reads.own v g at_g.reads.moved)),
-        seen_begins (trace g) (trace l) (moved_on b at_l.reads.own g l at_l.reads.moved)),
+    (
+      seen_begins (trace p) (trace g) (begins_on (trace p) (trace v) (trace g)
+          (moved_on b in_v.reads.own p v in_v.reads.moved) (moved_on b at_g.reads.own v g at_g.reads.moved)),
+      seen_begins (trace g) (trace l) (moved_on b at_l.reads.own g l at_l.reads.moved),
+    ),
     one_moment b p v g l hit.place (item_word hit.item) third key value now info.version hit.deadline deadline_v before few valid found_v
         (subst (λ s. 0 < inside (trace v) (number v) s) (segment_of_item hit.item)
-            (is_inside b p v hit.item.seg in_v.reads)) at_g at_l
-            (chained_later z (trace q) (trace l) hit.place lawful on at_q.0) (sym stands) same i.1 version,
+        (is_inside b p v hit.item.seg in_v.reads)) at_g at_l
+        (chained_later z (trace q) (trace l) hit.place lawful on at_q.0) (sym stands) same i.1 version,
   )
 
   pub is_seen : IsSeen b key now from tries hit value info third p l
@@ -138,8 +140,11 @@ module _ (b : Board) (key : List ℕ) (now from tries : ℕ) (hit : Hit) (value 
         (λ start here ahead. key_later z key (position z (trace q) hit.place) start (trace q) (trace l) lawful
         (begins_on start (trace p) (trace q) here up) on (x.brings start here ahead));
     counted = counts_later z key tries hit.tries (trace p) x.found.found.saw.at (trace l) (begins_on x.found.found.saw.at (trace q) (trace l) x.found.found.saw.between.1 on) x.counted;
-    stood = (value, found_reads z hit.place (item_word hit.item) key value (trace p) (trace v) found_v hit.deadline
-        deadline_v (trace l) (moved_on b from_v.reads.own v l from_v.reads.moved) now before);
+    stood = (
+      value,
+      found_reads z hit.place (item_word hit.item) key value (trace p) (trace v) found_v hit.deadline
+          deadline_v (trace l) (moved_on b from_v.reads.own v l from_v.reads.moved) now before,
+    );
     stands = stands;
     glanced = λ held. let one = (set_reads b key v g info valid still_free glance held plain memo).1 in
         let before = glances_grow b in_v.reads.own p v c in_v.reads.moved in
@@ -152,9 +157,12 @@ module _ (b : Board) (key : List ℕ) (now from tries : ℕ) (hit : Hit) (value 
 
 -- the chain ended
 pub ends_missed : (b : Board) (key : List ℕ) (now from tries : ℕ) (p q : Pass) → IsEnded b.shape key from tries p q → IsMissed b.shape key now from tries p q
-ends_missed b key now from tries p q x = record { missed =
-    λ start here ahead. gone_reads b.shape key now start (trace q) (x.gone start here ahead);
-    tried = attempts from 32 tries 63 p q x.tried; glances = scans_once p q x.tried.only_scans }
+ends_missed b key now from tries p q x = record {
+  missed =
+      λ start here ahead. gone_reads b.shape key now start (trace q) (x.gone start here ahead);
+  tried = attempts from 32 tries 63 p q x.tried;
+  glances = scans_once p q x.tried.only_scans;
+}
 
 -- the deadline of what was found had come, and the pass left the segment
 pub expires_missed : (b : Board) (key : List ℕ) (now from tries : ℕ) (hit : Hit) (p q r : Pass)
@@ -166,8 +174,8 @@ expires_missed b key now from tries hit p q r i x gone past =
     let at = position z (trace q) hit.place in
     let chained = (in_chain z (trace q) hit.place i.reads.moved.pass.lawful (hit_place z key from tries hit p q i.reads.moved.pass.lawful x).0).1 in
     let read = found_expired z hit.place (item_word hit.item) key x.found.value (trace p) (trace q) x.found.found
-        hit.deadline (by_word z hit.item hit.deadline (trace q) x.deadline) (trace r) (moved_on b _ q r gone.moved)
-        now past in (
+    hit.deadline (by_word z hit.item hit.deadline (trace q) x.deadline) (trace r) (moved_on b _ q r gone.moved)
+    now past in (
       leave_then b p q r hit.item.seg i gone,
       record {
         missed = λ start here ahead. (read.0, (begins_on (event.seen start) (seen p) read.0 (seen_begins start (trace p) here) read.1.0, read.1.1), read.2);
@@ -229,8 +237,12 @@ module _ (b : Board) (key : List ℕ) (now from tries : ℕ) (hit : Hit) (value 
 
     passed : HasPassed b.shape key at (at + 1) hit.place third (trace l) (trace r)
     passed = passed_word b.shape key hit.place third tag (trace l) (trace l) (trace r) valid s.place ([], refl)
-        (record { at = trace l; between = (([], refl), to_r); lawful = s.reads.reads.moved.pass.lawful;
-        stood = sym s.stands }) is other
+        (record {
+          at = trace l;
+          between = (([], refl), to_r);
+          lawful = s.reads.reads.moved.pass.lawful;
+          stood = sym s.stands;
+        }) is other
 
     in' : (0 < at % 8) × (at < 32)
     in' = in_chain b.shape (trace l) hit.place s.reads.reads.moved.pass.lawful s.place.0
@@ -270,7 +282,7 @@ module _ (b : Board) (key : List ℕ) (now from tries draw : ℕ) (hit : Hit) (v
     (p l t r : Pass) (s : IsSeen b key now from tries hit value info third p l) (clear : info.held ≡ false)
     (same : IsSameItem (item_word hit.item) third)
     (counted : IsReader b l t) (out : count entered t ≡ count entered l) (unset : GlancesNothing l t)
-        (raises : RaisesFrom b.shape key value draw (trace p) l t) (gone : LeavesSegment b t r hit.item.seg) where
+    (raises : RaisesFrom b.shape key value draw (trace p) l t) (gone : LeavesSegment b t r hit.item.seg) where
   in_t : IsReaderIn b p t hit.item.seg
   in_t = then_reader b p l t hit.item.seg s.reads counted
 

@@ -27,10 +27,13 @@ state_more : (form last : Form) (lines : List (List ℕ)) (line : List ℕ) (rs 
     → State form (lines ++ line ∷ []) (rs ++ requests_in said) (form_after last said)
 state_more form last [] line rs said was one =
     (said, [], subst (λ f. stated f line ≡ Ok said) was.1 one, (refl, ap (λ f. form_after f said) was.1), ap (λ l. l ++ requests_in said) was.0 ∙ sym (append-nil (requests_in said)))
-state_more form last (l ∷ lines) line rs said was one =
-    (was.0, was.1 ++ requests_in said, was.2,
-        state_more (form_after form was.0) last lines line was.1 said was.3 one,
-        ap (λ l. l ++ requests_in said) was.4 ∙ append_assoc (requests_in was.0) was.1 (requests_in said))
+state_more form last (l ∷ lines) line rs said was one = (
+  was.0,
+  was.1 ++ requests_in said,
+  was.2,
+  state_more (form_after form was.0) last lines line was.1 said was.3 one,
+  ap (λ l. l ++ requests_in said) was.4 ∙ append_assoc (requests_in was.0) was.1 (requests_in said),
+)
 
 turns_more : (rules : Rules) (number : ℕ) (rs more : List Request) → turns_from rules number (rs ++ more) ≡ turns_from rules number rs ++ turns_from rules (number_after number rs) more
 turns_more rules number [] more = refl

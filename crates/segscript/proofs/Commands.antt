@@ -116,10 +116,13 @@ turn_says passes (Serve (Write (Add k v m))) fits = triple_fits passes k v m fit
 turn_says passes (Serve (Write (Replace k v m))) fits = triple_fits passes k v m fits
 turn_says passes (Serve (Write (Cas k v n m))) fits =
     both passes part.Key (part.Value ∷ part.Version ∷ part.Moment ∷ []) (k)
-        (value_word v ∷ decimal n ∷ moment_word m ∷ []) fits.0
-        (both passes part.Value (part.Version ∷ part.Moment ∷ []) (value_word v) (decimal n ∷ moment_word m ∷ [])
-        (v, fits.1, refl) (both passes part.Version (part.Moment ∷ []) (decimal n) (moment_word m ∷ []) (n, fits.2,
-        refl) (both passes part.Moment [] (moment_word m) [] (m, fits.3, refl) (no_more passes))))
+    (value_word v ∷ decimal n ∷ moment_word m ∷ []) fits.0
+    (both passes part.Value (part.Version ∷ part.Moment ∷ []) (value_word v) (decimal n ∷ moment_word m ∷ [])
+    (v, fits.1, refl) (both passes part.Version (part.Moment ∷ []) (decimal n) (moment_word m ∷ []) (
+      n,
+      fits.2,
+      refl,
+    ) (both passes part.Moment [] (moment_word m) [] (m, fits.3, refl) (no_more passes))))
 turn_says passes (Serve (Write (Delete k m))) fits = pair_fits passes k m fits
 turn_says passes (Serve (Get k m)) fits = pair_fits passes k m fits
 turn_says passes (Serve (Gets k m)) fits = pair_fits passes k m fits

@@ -154,7 +154,7 @@ module _ (old new : Server) (Read : List ℕ → Type 0) (Ends : Type 0) (Wrote 
     pub same_index : is_make_fault result ≡ false → new.index.now ≡ old.index.now
     same_index =
         ends_keep (shape_of old.index.now).passes TurnsOne (λ (s : Server). s.index.now ≡ old.index.now)
-            (λ (a b : Server) t r same one. one.index ∙ same) old new refl Read Ends Wrote before flushes result out
+        (λ (a b : Server) t r same one. one.index ∙ same) old new refl Read Ends Wrote before flushes result out
 
 -- ---- of an index that was just made, whose shape is known under another name
 

@@ -136,15 +136,23 @@ module _ (passes : ℕ) {S : Type 0} (step : S → PassTurn → Outcome → S �
   fault_later old mid new seen told bytes b rest all state state' line line' number number' (fault.Line n) fed same out = (
     fed.text ++ out.0,
     more old mid new fed.text out.0 fed.took out.1,
-    rw (same, ← append_assoc told fed.text out.0, ← append_assoc seen (bytes ++ b ∷ []) rest,
-        ← append_assoc seen bytes (b ∷ [])) (seen_bad_more passes step start state' ((seen ++ bytes) ++ b ∷ []) rest
+    rw (
+      same,
+      ← append_assoc told fed.text out.0,
+      ← append_assoc seen (bytes ++ b ∷ []) rest,
+      ← append_assoc seen bytes (b ∷ []),
+    ) (seen_bad_more passes step start state' ((seen ++ bytes) ++ b ∷ []) rest
         _ n out.2),
   )
   fault_later old mid new seen told bytes b rest all state state' line line' number number' fault.Write fed same out = (
     fed.text ++ out.0,
     more old mid new fed.text out.0 fed.took out.1,
-    rw (same, ← append_assoc told fed.text out.0, ← append_assoc seen (bytes ++ b ∷ []) rest,
-        ← append_assoc seen bytes (b ∷ [])) (stops_more passes step start state' ((seen ++ bytes) ++ b ∷ []) rest _
+    rw (
+      same,
+      ← append_assoc told fed.text out.0,
+      ← append_assoc seen (bytes ++ b ∷ []) rest,
+      ← append_assoc seen bytes (b ∷ []),
+    ) (stops_more passes step start state' ((seen ++ bytes) ++ b ∷ []) rest _
         out.2),
   )
 

@@ -230,8 +230,8 @@ module _ (passes : ℕ) {S : Type 0} (step : S → PassTurn → Outcome → S �
   -- a fault at the end of a line
   pub feed-fault : (start old new : S) (Wrote : List ℕ → Type 0) (seen told line after : List ℕ) (number count b : ℕ) (f : RunFault) → b ≡ 10
       → HasServed passes step start old seen told line number
-          → LineOutcome passes step old new Wrote line number (Err f)
-          → FeedOutcome passes step start new Wrote (seen ++ b ∷ []) told after count (Err f)
+      → LineOutcome passes step old new Wrote line number (Err f)
+      → FeedOutcome passes step start new Wrote (seen ++ b ∷ []) told after count (Err f)
   feed-fault start old new Wrote seen told line after number count b fault.Read ten here h = absurd h
   feed-fault start old new Wrote seen told line after number count b fault.TooLong ten here h = absurd h
   feed-fault start old new Wrote seen told line after number count b (fault.Make m) ten here h = absurd h

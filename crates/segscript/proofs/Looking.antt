@@ -205,8 +205,8 @@ byte_looks passes line number bad passes' line' number' bad' b other none is sam
 pub end_looks : (passes : ℕ) (line : List ℕ) (number : ℕ) (bad : Option BadLine) (line' : List ℕ) (number' : ℕ)
     (own : Option BadLine) (b : ℕ) → b ≡ 10 → bad ≡ None → line' ≡ [] → number' ≡ (number + 1) % 2 ^ 64
     → MatchOption own (line_fault passes line ≡ None) (λ (bad : BadLine). (line_fault passes line ≡ Some bad.fault)
-        × (bad.number ≡ number)) → LooksAt (look_at passes line number bad) (b ∷ [])
-        (look_at passes line' number' own)
+    × (bad.number ≡ number)) → LooksAt (look_at passes line number bad) (b ∷ [])
+    (look_at passes line' number' own)
 end_looks passes line number bad line' number' own b ten none cleared after is =
     subst (λ x. LooksAt (look_at passes line number bad) (x ∷ []) (look_at passes line' number' own)) (sym ten)
     (subst (λ l. LooksAt (look_at passes line number bad) (10 ∷ []) (look_at passes l number' own)) (sym cleared)

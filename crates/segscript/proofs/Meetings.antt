@@ -79,9 +79,13 @@ module _ (b : Board) (first second : ℕ) (old new : List Pass) (met : HaveMet b
   met_learn quiet n p at = ⊎_elim
       (λ here. (met.one', ap (slice_get new) here ∙ met.is_first, subst (λ x. OnlyLearns b x met.one') (same_Some met.one p (sym met.was_first ∙ ap (slice_get old) (sym here) ∙ at)) met.meets.first))
       (λ apart. ⊎_elim
-      (λ here. (met.other', ap (slice_get new) here
-          ∙ met.is_second, subst (λ x. OnlyLearns b x met.other') (same_Some met.other p (sym met.was_second
-          ∙ ap (slice_get old) (sym here) ∙ at)) met.meets.second))
+      (λ here. (
+        met.other',
+        ap (slice_get new) here
+            ∙ met.is_second,
+        subst (λ x. OnlyLearns b x met.other') (same_Some met.other p (sym met.was_second
+            ∙ ap (slice_get old) (sym here) ∙ at)) met.meets.second,
+      ))
       (λ other. (p, met.others n apart other ∙ at, learns_nothing b p (quiet n p at)))
       (same_or_apart n second))
       (same_or_apart n first)

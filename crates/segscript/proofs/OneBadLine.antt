@@ -116,7 +116,7 @@ module _ (shape : Shape) where
       let other = closed second in
       first.number
       ∙ ap (λ k. k + 1) (one_number shape.passes first.lines second.lines first.bad one.0 second.bad other.0
-          first.served.turns second.served.turns first.each first.served.says first.unbroken first.is_bad
+      first.served.turns second.served.turns first.each first.served.says first.unbroken first.is_bad
       second.each second.served.says second.unbroken second.is_bad (sym one.1 ∙ other.1))
       ∙ sym second.number
 

@@ -106,8 +106,10 @@ spaces-join w (v ∷ ws) first more =
 
 pub moment_plain : (m : ℕ) → m < 2 ^ 32 → IsSpaceless (moment_word m)
 moment_plain m small k d within = elim k as (λ k. k < length (moment_word m)
-    → eqb (get_or (moment_word m) k d) 32 ≡ false) [ zero ↦ λ w. refl
-    | suc j ↦ λ w. decimal_word m small j d (omega arith) ] within
+    → eqb (get_or (moment_word m) k d) 32 ≡ false) [
+      | zero ↦ λ w. refl
+      | suc j ↦ λ w. decimal_word m small j d (omega arith)
+    ] within
 
 pub pass_plain : (p : ℕ) → p < 2 ^ 32 → IsSpaceless (pass_word p)
 pass_plain p small k d within = elim k as (λ k. k < length (pass_word p) → eqb (get_or (pass_word p) k d) 32 ≡ false) [ zero ↦ λ w. refl | suc j ↦ λ w. decimal_word p small j d (omega arith) ] within

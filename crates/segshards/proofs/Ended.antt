@@ -114,8 +114,8 @@ pub one_came : {W A : Type 0} (f : W → A) (whole now : List W) (n : W) (x : A)
     → now ≡ whole ++ n ∷ [] → f n ≡ x → left ≡ x ∷ rest → map f whole ++ left ≡ all → map f now ++ rest ≡ all
 one_came f whole now n x left rest all pushed is steps was =
     ap (λ l. map f l ++ rest) pushed ∙ (ap (λ l. l ++ rest) (map-append f whole (n ∷ []))
-        ∙ (append_assoc (map f whole) (f n ∷ []) rest
-        ∙ (ap (λ y. map f whole ++ y ∷ rest) is ∙ (ap (λ l. map f whole ++ l) (sym steps) ∙ was))))
+    ∙ (append_assoc (map f whole) (f n ∷ []) rest
+    ∙ (ap (λ y. map f whole ++ y ∷ rest) is ∙ (ap (λ l. map f whole ++ l) (sym steps) ∙ was))))
 
 -- nothing is left
 pub all_came : {W A : Type 0} (f : W → A) (whole : List W) (left all : List A) → left ≡ [] → map f whole ++ left ≡ all → map f whole ≡ all

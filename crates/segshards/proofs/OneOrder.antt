@@ -33,9 +33,11 @@ Pointed z world call = (point : ℕ) × IsPlaced z world (record { call = call; 
 all_pointed : (z : Shape) (world : ℕ → World) (order : List Placed) → All (IsPlaced z world) order → All (Pointed z world) (map (λ placed. placed.call) order)
 all_pointed z world [] all = All-nil (Pointed z world)
 all_pointed z world (placed ∷ order) all =
-    All-cons (Pointed z world) placed.call (map (λ placed. placed.call) order) (placed.point,
-        All-head (IsPlaced z world) placed order all)
-        (all_pointed z world order (All-tail (IsPlaced z world) placed order all))
+    All-cons (Pointed z world) placed.call (map (λ placed. placed.call) order) (
+      placed.point,
+      All-head (IsPlaced z world) placed order all,
+    )
+    (all_pointed z world order (All-tail (IsPlaced z world) placed order all))
 
 -- ---- a call takes a step
 
@@ -84,12 +86,12 @@ module _ (z : Shape) (count : ℕ) (world : ℕ → ℕ → World) (steps : ℕ)
   own_point it is =
       let n = it.shard in
       let all = linearizable z (worlds_of n) (steps_of n steps) (own_call it ∷ [])
-          (own_run z count world steps run n is.0) (All-cons (IsCallOf z (worlds_of n) (steps_of n steps))
-          (own_call it) [] (is_own it is) (All-nil (IsCallOf z (worlds_of n) (steps_of n steps)))) in
+      (own_run z count world steps run n is.0) (All-cons (IsCallOf z (worlds_of n) (steps_of n steps))
+      (own_call it) [] (is_own it is) (All-nil (IsCallOf z (worlds_of n) (steps_of n steps)))) in
       All-head (Pointed z (worlds_of n)) (own_call it) []
       (All-permutation (Pointed z (worlds_of n)) (map (λ (p : Placed). p.call) all.order) (own_call it ∷ [])
-          (IsPermutation-sym (own_call it ∷ []) (map (λ (p : Placed). p.call) all.order) all.all)
-          (all_pointed z (worlds_of n) all.order all.each))
+      (IsPermutation-sym (own_call it ∷ []) (map (λ (p : Placed). p.call) all.order) all.all)
+      (all_pointed z (worlds_of n) all.order all.each))
 
   -- ---- its point in the run of all
 
@@ -138,8 +140,8 @@ module _ (z : Shape) (count : ℕ) (world : ℕ → ℕ → World) (steps : ℕ)
       let onward = since run.taken n to k t from is le (omega (arith, low)) in
       let own = latest run.taken n steps (suc k) (let up = grows run.taken n to steps in_run in omega (arith, few, up)) in
       let next : worlds_of n (suc k) ≡ world n (suc t) =
-          same_world z count world steps run n (when run.taken n steps (suc k)) (suc t) own.until
-          (omega (arith, early, in_run)) (own.is ∙ sym (is.next early)) in record {
+      same_world z count world steps run n (when run.taken n steps (suc k)) (suc t) own.until
+      (omega (arith, early, in_run)) (own.is ∙ sym (is.next early)) in record {
         point = t;
         since = omega (arith, onward);
         until = omega (arith, early);
@@ -159,10 +161,15 @@ module _ (z : Shape) (count : ℕ) (world : ℕ → ℕ → World) (steps : ℕ)
   placed : (call : ShardCall) → IsShardCallOf z count world steps call → (it : ShardPlaced) × (call_of it ≡ call) × IsSound it
   placed it is =
       let own = own_point it is in
-      let at = all_point it.shard it.call.pass it.call.began it.call.returned it.call.effect own.0 is.1.in_time.0 is.1.in_time.1 own.1.since own.1.until own.1.right in
-      (record { shard = it.shard; placed = record { call = it.call; point = at.point } }, refl,
-          (record { since = at.since; until = at.until; right = at.right },
-          takes_step z (world it.shard) steps it.call is.1, is.1.in_time.1))
+      let at = all_point it.shard it.call.pass it.call.began it.call.returned it.call.effect own.0 is.1.in_time.0 is.1.in_time.1 own.1.since own.1.until own.1.right in (
+        record { shard = it.shard; placed = record { call = it.call; point = at.point } },
+        refl,
+        (
+          record { since = at.since; until = at.until; right = at.right },
+          takes_step z (world it.shard) steps it.call is.1,
+          is.1.in_time.1,
+        ),
+      )
 
   record ArePlaced (calls : List ShardCall) : Type 0 where
     pub placed : List ShardPlaced

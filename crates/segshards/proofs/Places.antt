@@ -79,8 +79,11 @@ all_at P xs n x all at = subst P (get_or_from_slice_get xs n x x at) (all n x (s
 
 -- a list that was gone through up to here
 pub gone_through : {A : Type 0} (xs ys zs : List A) (y : A) → xs ≡ ys ++ y ∷ zs → (length ys < length xs) × (slice_get xs (length ys) ≡ Some y)
-gone_through xs ys zs y is = (let long = ap length is in let parts = length-append ys (y ∷ zs) in
-    omega (arith, long, parts), subst (λ l. slice_get l (length ys) ≡ Some y) (sym is) (there_behind ys zs y))
+gone_through xs ys zs y is = (
+  let long = ap length is in let parts = length-append ys (y ∷ zs) in
+      omega (arith, long, parts),
+  subst (λ l. slice_get l (length ys) ≡ Some y) (sym is) (there_behind ys zs y),
+)
   where
     there_behind : {A : Type 0} (ys zs : List A) (y : A) → slice_get (ys ++ y ∷ zs) (length ys) ≡ Some y
     there_behind [] zs y = refl

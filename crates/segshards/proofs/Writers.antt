@@ -114,8 +114,8 @@ module _ (keys threads writers least count each : ℕ) (are : AreWriters threads
           let room : 2 * wide ≤ threads * rows.segments_each * rows.rows = rw are_rows.1 at are_rows.2.rows in
           let times : (2 * wide) * writers ≤ (threads * rows.segments_each * rows.rows) * writers = mul-le-mul_right writers room in
           let less : 2 * each < writers * (rows.segments_each * rows.rows) + 1 =
-              less_each (2 * each) (writers * (rows.segments_each * rows.rows) + 1) threads
-              (omega (arith, times, wide_times.0, are.0.0)) in
+          less_each (2 * each) (writers * (rows.segments_each * rows.rows) + 1) threads
+          (omega (arith, times, wide_times.0, are.0.0)) in
           omega (arith, less)
 
       pub room : HasRoomForWriters each writers made

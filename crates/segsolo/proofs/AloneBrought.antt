@@ -78,19 +78,19 @@ module _ (b : Board) (p q : Pass) (key : List ℕ) (frequency segment : ℕ) (wa
             (λ i. of_rows (frequency_in (marked q) segment) 0 (length (stored_here i)))
             ∙ (pushed (frequency_in (marked q) segment) (frequency_in (marked p) segment) frequency (keys_stored_in (seen p) segment) key
             (λ row low. frequency_then segment row ∙ ap
-                (λ t. cond t frequency (frequency_in (marked p) segment row))
-                (ap (λ t. eqb segment segment && t) (ne_eqb next row (λ e. omega (arith, low)))
-                ∙ and_right (eqb segment segment) false refl))
+            (λ t. cond t frequency (frequency_in (marked p) segment row))
+            (ap (λ t. eqb segment segment && t) (ne_eqb next row (λ e. omega (arith, low)))
+            ∙ and_right (eqb segment segment) false refl))
             (frequency_then segment next ∙ ap (λ t. cond t frequency (frequency_in (marked p) segment next))
-                (and_from (eqb segment segment) (eqb next next) (eq-eqb segment segment refl)
-                (eq-eqb next next refl)))
+            (and_from (eqb segment segment) (eqb next next) (eq-eqb segment segment refl)
+            (eq-eqb next next refl)))
             ∙ sym (ap (λ (f : Filling). f.frequencies) (with_at-same old segment segment longer refl)))
 
         elsewhere : (other : ℕ) → segment ≢ other → frequencies_in q other ≡ (filling other).frequencies
         elsewhere other apart =
             (λ i. of_rows (λ row. (frequency_then other row
-                ∙ ap (λ t. cond (t && eqb next row) frequency (frequency_in (marked p) other row))
-                (ne_eqb segment other apart)) i) 0 (length (stored_elsewhere other apart i)))
+            ∙ ap (λ t. cond (t && eqb next row) frequency (frequency_in (marked p) other row))
+            (ne_eqb segment other apart)) i) 0 (length (stored_elsewhere other apart i)))
             ∙ sym (ap (λ (f : Filling). f.frequencies) (with_at-other old segment other longer apart))
 
     -- what stands under other keys stood there before

@@ -21,8 +21,8 @@ use Rattle.segsolo.proofs.AloneWidths.{same_widths}
 module _ (b : Board) (p q : Pass) (key : List ℕ) (now : ℕ) (was : IsAlone b p) (told : DeleteAnswer) (is : Deletes b key now told p q) where
   serves_so : (locked : Bool) → is_locked b.shape (state_at b.shape p) key ≡ locked
       → MatchBool locked (IsGiven delete.Busy (state_at b.shape p) told (state_at b.shape q))
-          (model.IsReplied b.shape (state_at b.shape p) (Delete key now) (reply_of_delete told)
-          (state_at b.shape q))
+      (model.IsReplied b.shape (state_at b.shape p) (Delete key now) (reply_of_delete told)
+      (state_at b.shape q))
       → ServesDelete b.shape (state_at b.shape p) key now told (state_at b.shape q)
   serves_so locked is served = subst (λ (t : Bool). MatchBool t
       (IsGiven delete.Busy (state_at b.shape p) told (state_at b.shape q))

@@ -52,8 +52,10 @@ hit_with frequencies key (Some item) state = λ i. record state { filling = λ s
 
     by : (segment : ℕ) (here : Bool) → (here ≡ true → item.segment ≡ segment)
         → ◌≡◌ {A = Filling} (record (cond here (raised_in key (state.filling item.segment)) (state.filling segment))
-            { frequencies = frequencies segment }) (record (state.filling segment) { frequencies =
-            frequencies segment })
+        { frequencies = frequencies segment }) (record (state.filling segment) {
+          frequencies =
+              frequencies segment;
+        })
     by segment true is = ap {B = Filling} (λ s. record (state.filling s) { frequencies = frequencies segment }) (is refl)
     by segment false is = refl
 
@@ -72,7 +74,7 @@ module _ (b : Board) (p q : Pass) (was : IsAlone b p) (on : GoesOn b p q) (undra
   at_frequencies : state_at b.shape q ≡ with_frequencies (frequencies_in q) (state_at b.shape p)
   at_frequencies = let widths = same_widths b p q was on undrawn in
       at_state b.shape q (with_frequencies (frequencies_in q) (state_at b.shape p)) (ap (after b.shape) same)
-          (λ segment. ap (λ (x : PlainPart). or_empty (state_in (own_segment x segment))) nothing.plain)
+      (λ segment. ap (λ (x : PlainPart). or_empty (state_in (own_segment x segment))) nothing.plain)
       (λ segment. ap (λ h. keys_stored_in h segment) same) (λ segment. refl) (ap (λ (x : PlainPart). x.current) nothing.plain) widths.wide widths.drawn
       (ap (λ (m : Memo). option_map item_of m.holding) nothing.memo) (ap (λ (x : PlainPart). x.locked) nothing.plain)
 

@@ -34,7 +34,7 @@ filter_twice {X = X} p r (x ∷ xs) = by (p x) (r x) refl (filter_twice p r xs)
   where
     by : (s t : Bool) → p x ≡ s → filter (λ y. not (p y)) (filter (λ y. not (r y)) xs) ≡ filter (λ y. not (p y || r y)) xs
         → filter (λ y. not (p y)) (cond (not t) (x ∷ filter (λ y. not (r y)) xs) (filter (λ y. not (r y)) xs)) ≡
-            cond (not (s || t)) (x ∷ filter (λ y. not (p y || r y)) xs) (filter (λ y. not (p y || r y)) xs)
+        cond (not (s || t)) (x ∷ filter (λ y. not (p y || r y)) xs) (filter (λ y. not (p y || r y)) xs)
     by true true is rest = rest
     by false true is rest = rest
     by true false is rest = ap (λ v. cond (not v) (x ∷ filter (λ y. not (p y)) (filter (λ y. not (r y)) xs)) (filter (λ y. not (p y)) (filter (λ y. not (r y)) xs))) is ∙ rest
@@ -104,16 +104,16 @@ module _ (shape : Shape) (pass segment : ℕ) (history : List Entry) where
       (ap (λ items. record (after shape history) { items = items }) (sym (filter_all (after shape history).items)))
       (λ key more all rest. ap (without key) rest
       ∙ ap (λ items. record (after shape history) { items = items })
-          (filter_twice (λ (e : List ℕ × Cached). is_at (key_cmp key) e.0)
-          (λ (e : List ℕ × Cached). is_evicted more e.0) (after shape history).items))
+      (filter_twice (λ (e : List ℕ × Cached). is_at (key_cmp key) e.0)
+      (λ (e : List ℕ × Cached). is_evicted more e.0) (after shape history).items))
 
   standing_left : (key : List ℕ) (evictions : List Entry) → AreEvictions pass segment evictions
       → standing (after shape (evictions ++ history)) key ≡ cond (is_evicted evictions key) None (standing (after shape history) key)
   standing_left key = by_eviction (λ evictions. standing (after shape (evictions ++ history)) key ≡ cond (is_evicted evictions key) None (standing (after shape history) key)) pass segment
       refl
       (λ other more all rest. standing-without other (after shape (more ++ history)) key
-          ∙ (ap (λ o. cond (not (is_at (key_cmp other) key)) o None) rest
-          ∙ by (is_at (key_cmp other) key) (is_evicted more key)))
+      ∙ (ap (λ o. cond (not (is_at (key_cmp other) key)) o None) rest
+      ∙ by (is_at (key_cmp other) key) (is_evicted more key)))
     where
       by : (here gone : Bool) → cond (not here) (cond gone None (standing (after shape history) key)) None ≡ cond (here || gone) None (standing (after shape history) key)
       by true gone = refl
@@ -156,7 +156,7 @@ module _ (shape : Shape) (pass segment : ℕ) (history : List Entry) where
       let before = rest legal.0 in
       let one = count_without (λ k. true) key (after shape (more ++ history)).items (sorted-after shape (more ++ history)) in
       let there : if_there (is_some (lookup (is_at (key_cmp key)) (after shape (more ++ history)).items)) 1 ≡ 1 =
-          ap (λ b. if_there b 1) (is_there (standing (after shape (more ++ history)) key) legal.1.0) in
+      ap (λ b. if_there b 1) (is_there (standing (after shape (more ++ history)) key) legal.1.0) in
       let now = count_keys (without key (after shape (more ++ history))).items in
       let then = count_keys (after shape (more ++ history)).items in
       omega arith)

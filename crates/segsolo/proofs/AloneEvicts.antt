@@ -73,9 +73,9 @@ module _ (b : Board) (p q : Pass) (segment count : ℕ) (was : IsAlone b p) (on 
       by None free here = false≢true (sym (ap (λ o. is_named o (bucket_of b.shape key)) (was.quiet.locks ∙ ap (option_map (λ (l : Locked). l.bucket)) free)) ∙ here)
       by (Some lock) held here =
           let same : lock.bucket ≡ bucket_of b.shape key =
-              eqb-true lock.bucket (bucket_of b.shape key)
-              (sym (ap (λ o. is_named o (bucket_of b.shape key)) (was.quiet.locks
-              ∙ ap (option_map (λ (l : Locked). l.bucket)) held)) ∙ here) in
+          eqb-true lock.bucket (bucket_of b.shape key)
+          (sym (ap (λ o. is_named o (bucket_of b.shape key)) (was.quiet.locks
+          ∙ ap (option_map (λ (l : Locked). l.bucket)) held)) ∙ here) in
           let before = (none_since b p lock was.quiet held).1 in
           let now = (none_since b q lock on.quiet (ap (λ (m : Memo). m.locked) takes.memo ∙ held)).1 in
           let all : entries_of b.shape lock.bucket (seen q) ≡ entries_of b.shape lock.bucket takes.evictions + entries_of b.shape lock.bucket (seen p) =
@@ -124,9 +124,9 @@ module _ (b : Board) (p q : Pass) (segment count : ℕ) (was : IsAlone b p) (on 
       let widths = same_widths b p q was on undrawn in
       at_state b.shape q (record (taken_out segment goes (state_at b.shape p)) { filling = filling })
       (cache_left goes same) states (λ s. keys_then s
-          ∙ keys s) (λ s. frequencies_as p q s (frequencies_kept b p q was on takes.evictions takes.entries
-          (bring_nothing takes.evictions (evictions_unstored (number p) segment takes.evictions takes.all))
-          unraised) (keys_then s) ∙ frequencies s)
+      ∙ keys s) (λ s. frequencies_as p q s (frequencies_kept b p q was on takes.evictions takes.entries
+      (bring_nothing takes.evictions (evictions_unstored (number p) segment takes.evictions takes.all))
+      unraised) (keys_then s) ∙ frequencies s)
       (ap (λ r. r.1) rest) widths.wide widths.drawn (ap (λ (m : Memo). option_map item_of m.holding) takes.memo) (ap (λ r. r.2) rest)
 
   -- ---- Evicted
@@ -150,9 +150,9 @@ module _ (b : Board) (p q : Pass) (segment count : ℕ) (was : IsAlone b p) (on 
     state_then = by_segment (λ s. or_empty (state_of q s) ≡ (with_at (state_at b.shape p).filling segment emptied s).state) segment
         (ap or_empty (emptied_state segment p q before now) ∙ sym (ap (λ (f : Filling). f.state) (with_at-same (state_at b.shape p).filling segment segment emptied refl)))
         (λ s ne. ap (λ (x : PlainPart). or_empty (state_in (own_segment x s))) now
-            ∙ (ap or_empty (state_apart (ended segment p.plain) segment Evicted s (λ e. ne (sym e)))
-            ∙ sym (ap (λ (f : Filling). f.state) (with_at-other (state_at b.shape p).filling segment s emptied
-            ne))))
+        ∙ (ap or_empty (state_apart (ended segment p.plain) segment Evicted s (λ e. ne (sym e)))
+        ∙ sym (ap (λ (f : Filling). f.state) (with_at-other (state_at b.shape p).filling segment s emptied
+        ne))))
 
     same_keys : (s : ℕ) → keys_stored_in (seen p) s ≡ (with_at (state_at b.shape p).filling segment emptied s).keys
     same_keys s = by (eqb segment s) (eqb-true segment s)
@@ -253,9 +253,9 @@ module _ (b : Board) (p q : Pass) (segment : ℕ) (was : IsAlone b p) (on : Goes
   evict_serves : (told : EvictAnswer) → IsEvictAnswer b.shape segment told p q → ((told ≡ evict.NotYours) ↔ (state_of p segment ≡ None)) → ServesAlone b (command.Evict segment) (answer.Evict told) p q
   evict_serves (evict.Evicted count) (inl (before, takes, now, empty)) not_yours =
       own_serves (evict.Evicted count) InUse (counts b p q segment count was on undrawn unraised takes
-          (rest_emptied p q segment now)) (names count takes) before
-          (evicts_all b p q segment count was on undrawn unraised takes (rest_emptied p q segment now) before now
-          empty)
+      (rest_emptied p q segment now)) (names count takes) before
+      (evicts_all b p q segment count was on undrawn unraised takes (rest_emptied p q segment now) before now
+      empty)
   evict_serves (evict.Evicted count) (inr (other, zero, same)) not_yours = by (state_of p segment) refl
     where
       by : (kept : Option SegState) → state_of p segment ≡ kept → ServesAlone b (command.Evict segment) (answer.Evict (evict.Evicted count)) p q
@@ -271,8 +271,8 @@ module _ (b : Board) (p q : Pass) (segment : ℕ) (was : IsAlone b p) (on : Goes
   )
   evict_serves (evict.Busy count) (before, takes, now, barred) not_yours =
       own_serves (evict.Busy count) InUse (counts b p q segment count was on undrawn unraised takes
-          (ap rest_of now)) (names count takes) before
-          (evicts_some b p q segment count was on undrawn unraised takes (ap rest_of now) now barred)
+      (ap rest_of now)) (names count takes) before
+      (evicts_some b p q segment count was on undrawn unraised takes (ap rest_of now) now barred)
 
 pub serves_evict : (b : Board) (p q : Pass) (segment : ℕ) (told : EvictAnswer) → IsAlone b p → GoesOn b p q → DrawsNothing p q → RaisesNothing p q
     → IsEvictAnswer b.shape segment told p q → ((told ≡ evict.NotYours) ↔ (state_of p segment ≡ None)) → ServesAlone b (command.Evict segment) (answer.Evict told) p q

@@ -129,8 +129,11 @@ module _ (b : Board) (p q : Pass) (was : IsAlone b p) (on : GoesOn b p q) (nothi
   }
     where
       before : Begins hit.at (trace q)
-      before = (hit.raise.0 ++ Bumped (number p) hit.segment hit.row (hit.frequency + 1) ∷ [], hit.raise.1
-          ∙ sym (append_assoc hit.raise.0 (Bumped (number p) hit.segment hit.row (hit.frequency + 1) ∷ []) hit.at))
+      before = (
+        hit.raise.0 ++ Bumped (number p) hit.segment hit.row (hit.frequency + 1) ∷ [],
+        hit.raise.1
+            ∙ sym (append_assoc hit.raise.0 (Bumped (number p) hit.segment hit.row (hit.frequency + 1) ∷ []) hit.at),
+      )
 
       marks_then : List Mark
       marks_then = mark.bumped hit.segment hit.row (hit.frequency + 1) ∷ mark.marked hit.at
@@ -154,9 +157,9 @@ module _ (b : Board) (p q : Pass) (was : IsAlone b p) (on : GoesOn b p q) (nothi
       bring_second : BringNothing (entries second.0)
       bring_second = subst BringNothing (sym (append_cancel_right (entries second.0) [] (event.seen hit.at)
           (ap (λ h. entries second.0 ++ h) (sym (entries_marked hit.at))
-              ∙ (sym (entries_joined second.0 marks_then)
-              ∙ (sym (ap entries second.1) ∙ (entries_marked (trace q)
-              ∙ (same ∙ sym (then hit.at hit.since before)))))))) tt
+          ∙ (sym (entries_joined second.0 marks_then)
+          ∙ (sym (ap entries second.1) ∙ (entries_marked (trace q)
+          ∙ (same ∙ sym (then hit.at hit.since before)))))))) tt
 
       now_at : (s r : ℕ) → frequency_in (marked q) s r ≡ cond (eqb hit.segment s && eqb hit.row r) (hit.frequency + 1) (frequency_in (marked p) s r)
       now_at s r = ap (λ marks. frequency_in marks s r) second.1
@@ -242,7 +245,7 @@ module _ (b : Board) (p q : Pass) (was : IsAlone b p) (on : GoesOn b p q) (nothi
     at_hit : state_at b.shape q ≡ record (state_at b.shape p) { filling = new }
     at_hit = let widths = same_widths b p q was on undrawn in
         at_state b.shape q (record (state_at b.shape p) { filling = new }) (ap (after b.shape) same) states_then
-            keys_then frequencies_then (ap (λ (x : PlainPart). x.current) nothing.plain) widths.wide widths.drawn
+        keys_then frequencies_then (ap (λ (x : PlainPart). x.current) nothing.plain) widths.wide widths.drawn
         (ap (λ (m : Memo). option_map item_of m.holding) nothing.memo) (ap (λ (x : PlainPart). x.locked) nothing.plain)
 
 -- a hit leaves the state that the model's hit leaves
@@ -257,9 +260,9 @@ hit_leaves b p q key value now was on undrawn nothing raises is = by (present (a
     by (Some x) found read =
         let item = raises_item b p q was on nothing key value (raises_since b.shape key value 0 p q raises) in
         let one : x ≡ cached value item.segment =
-            same_Some x (cached value item.segment) (sym
-            (stood (after b.shape (seen p)).deadline now (standing (after b.shape (seen p)) key) x found)
-            ∙ item.stands) in
+        same_Some x (cached value item.segment) (sym
+        (stood (after b.shape (seen p)).deadline now (standing (after b.shape (seen p)) key) x found)
+        ∙ item.stands) in
         at_hit b p q was on nothing undrawn key value item ∙ sym (ap (λ y. after_hit key (Some y) (state_at b.shape p)) one)
 
 -- and a miss leaves the state as it was

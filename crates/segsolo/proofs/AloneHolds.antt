@@ -62,7 +62,7 @@ module _ (b : Board) (p q : Pass) (was : IsAlone b p) (on : GoesOn b p q) (undra
       let free : option_map item_of (holding p) ≡ None = ap (option_map item_of) (free_hold (answer.Holding hold) already (λ e. cc)) in
       let found : present (after b.shape (seen p)) now key ≡ Some (item_of held) =
       (λ i. present (after b.shape (sym (same_moment (seen p) (seen q) (event.seen held.trace) same
-          (between_since p q (event.seen held.trace) takes.between)) i)) now (sym takes.of i)) ∙ takes.finds in
+      (between_since p q (event.seen held.trace) takes.between)) i)) now (sym takes.of i)) ∙ takes.finds in
       turned_kept b (turn.Hold key now) outcome.Holding p q was on takes.entries (ap stored_in takes.sets.plain) (
         (λ i. turns.hold_outcome (sym free i) (sym found i)),
         holds_alone (Some held) takes.entries takes.sets
@@ -71,8 +71,8 @@ module _ (b : Board) (p q : Pass) (was : IsAlone b p) (on : GoesOn b p q) (undra
   hold_turn key now answer.Miss (nothing, gone) already =
       let free : option_map item_of (holding p) ≡ None = ap (option_map item_of) (free_hold answer.Miss already (λ e. cc)) in
       let absent : present (after b.shape (seen p)) now key ≡ None =
-          none_present (present (after b.shape (seen p)) now key)
-          (read_then b p q key now was on nothing None (reads_since b.shape key now p q None gone)) in
+      none_present (present (after b.shape (seen p)) now key)
+      (read_then b p q key now was on nothing None (reads_since b.shape key now p q None gone)) in
       turned_still b (turn.Hold key now) outcome.Miss p q was on nothing (
         (λ i. turns.hold_outcome (sym free i) (sym absent i)),
         left b p q was on nothing (same_widths b p q was on undrawn) (frequencies_still b p q was on nothing.entries unraised)

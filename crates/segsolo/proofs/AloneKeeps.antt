@@ -92,8 +92,8 @@ module _ (b : Board) (segment into cutoff row count : ℕ) (p q : Pass) (was : I
   leaves is = ⊎_elim
       (λ none. gone_then none nothing same)
       (λ some. passed (seldom b segment cutoff row p was within some.0
-          (names_then b segment cutoff row p was within q is.on unraised nothing (λ frequency. frequency < cutoff)
-          some.0 some.1)) nothing same)
+      (names_then b segment cutoff row p was within q is.on unraised nothing (λ frequency. frequency < cutoff)
+      some.0 some.1)) nothing same)
       is.answer.3
     where
       nothing : ChangesNothing p q
@@ -140,8 +140,8 @@ module _ (b : Board) (segment into cutoff row count : ℕ) (p q : Pass) (was : I
         alone = same.alone;
         end = blocks b.shape segment into cutoff count (state_at b.shape p) keys frequencies row within long (often b segment cutoff row p was within owner names) (out_is ∙ ap not room)
             (ap (is_locked b.shape (state_at b.shape p))
-                (last_row b segment cutoff row p was within (λ frequency. cutoff ≤ frequency) owner names).0
-                ∙ locked_here b.shape p owner (own_lock owner is.answer.4.2))
+            (last_row b segment cutoff row p was within (λ frequency. cutoff ≤ frequency) owner names).0
+            ∙ locked_here b.shape p owner (own_lock owner is.answer.4.2))
             ∙ ap (λ s. (keep.Busy count, s)) (sym same.state);
       }
     where
@@ -179,8 +179,8 @@ module _ (b : Board) (segment into cutoff row count : ℕ) (p q : Pass) (was : I
       rest = moves_on b.shape segment into cutoff count (state_at b.shape p) keys frequencies row within long (often b segment cutoff row p was within owner is_moved.names)
           (lt-leb b.shape.rows (length (keys_stored_in (seen p) into)) is_moved.fits) (ap (is_locked b.shape (state_at b.shape p)) key_is ∙ is_moved.free)
           ∙ ((λ i. keep_rows b.shape segment into cutoff (drop (row + 1) (sym rows_kept i).keys)
-              (drop (row + 1) (sym rows_kept i).frequencies) (count + 1)
-              (moved_to (key_is i) (frequency_is b segment cutoff row p was within i) into (state_at b.shape p)))
+          (drop (row + 1) (sym rows_kept i).frequencies) (count + 1)
+          (moved_to (key_is i) (frequency_is b segment cutoff row p was within i) into (state_at b.shape p)))
           ∙ (next_rows (count + 1) (moved_to owner had into (state_at b.shape p))
           ∙ ap (rows_left b segment into cutoff (suc row) (count + 1)) (sym is_moved.state)));
     }
@@ -338,8 +338,10 @@ module _ (b : Board) (p q : Pass) (segment cutoff : ℕ) (told : KeepAnswer) (wa
             came.0,
             into_is ∙ (ap (keep_into b.shape old segment cutoff) current
                 ∙ ((λ i. cond (not (ne_eqb segment into apart i) && eq-eqb (old.cache.deadline segment)
-                    (old.cache.deadline into) same i) (rows_left b segment into cutoff 0 0 old) (keep.NoRoom 0,
-                    old)) ∙ came.1)),
+                (old.cache.deadline into) same i) (rows_left b segment into cutoff 0 0 old) (
+                  keep.NoRoom 0,
+                  old,
+                )) ∙ came.1)),
           )
 
       by_target : AnswersSo

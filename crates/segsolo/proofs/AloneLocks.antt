@@ -56,10 +56,12 @@ module _ (b : Board) (p q : Pass) (was : IsAlone b p) (on : GoesOn b p q) (undra
   lock_turn key lock.AlreadyLocked same already =
       let nothing = unchanged p q same in
       let stays = stays_locked (bucket_of b.shape key) (locked_of p) (already.0 refl) in
-      turned_still b (turn.Lock key) outcome.AlreadyLocked p q was on nothing
-      (sym stays.0, left b p q was on nothing (same_widths b p q was on undrawn)
-          (frequencies_still b p q was on nothing.entries unraised)
-          ∙ ap (λ o. record (state_at b.shape p) { locked = o }) (sym stays.1))
+      turned_still b (turn.Lock key) outcome.AlreadyLocked p q was on nothing (
+        sym stays.0,
+        left b p q was on nothing (same_widths b p q was on undrawn)
+            (frequencies_still b p q was on nothing.entries unraised)
+            ∙ ap (λ o. record (state_at b.shape p) { locked = o }) (sym stays.1),
+      )
 
   -- ---- unlock
 
@@ -76,10 +78,12 @@ module _ (b : Board) (p q : Pass) (was : IsAlone b p) (on : GoesOn b p q) (undra
   unlock_turn false same was_locked =
       let nothing = unchanged p q same in
       let free = none_if (locked_of p) (sym was_locked) in
-      turned_still b turn.Unlock outcome.NotLocked p q was on nothing
-      (sym (ap turns.unlock_outcome free), left b p q was on nothing (same_widths b p q was on undrawn)
-          (frequencies_still b p q was on nothing.entries unraised)
-          ∙ ap (λ o. record (state_at b.shape p) { locked = o }) free)
+      turned_still b turn.Unlock outcome.NotLocked p q was on nothing (
+        sym (ap turns.unlock_outcome free),
+        left b p q was on nothing (same_widths b p q was on undrawn)
+            (frequencies_still b p q was on nothing.entries unraised)
+            ∙ ap (λ o. record (state_at b.shape p) { locked = o }) free,
+      )
 
 -- ---- as turns
 

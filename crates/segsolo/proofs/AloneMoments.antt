@@ -117,8 +117,8 @@ module _ (b : Board) (p q : Pass) (was : IsAlone b p) (on : GoesOn b p q) (unrai
       → NamesRow b.shape segment row IsSo p key
   names_still segment row IsSo key old nothing since had = names b.shape segment row IsSo p key old (marked q) had
       (still first.0 (marked p) had.moment first.1
-          (still had.to.0 had.moment (marked q) had.to.1 paired_now none.0
-          (omega (arith, raised, raised_alike))).before none.1 (omega (arith, raised, raised_alike)))
+      (still had.to.0 had.moment (marked q) had.to.1 paired_now none.0
+      (omega (arith, raised, raised_alike))).before none.1 (omega (arith, raised, raised_alike)))
       (ap entries first.1 ∙ (entries_joined first.0 (marked p) ∙ ((λ i. none.1 i ++ entries (marked p)) ∙ entries_marked (trace p))))
     where
       first : Begins (marked p) had.moment

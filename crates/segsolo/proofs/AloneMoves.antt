@@ -155,7 +155,7 @@ pub record HasMoved (b : Board) (segment into cutoff row : ℕ) (p q : Pass) (ow
 
 module _ (b : Board) (segment into cutoff row : ℕ) (p q : Pass) (was : IsAlone b p) (target : IsKeepTarget segment into p) (within : row < length (keys_stored_in (seen p) segment))
     (on : GoesOn b p q) (undrawn : DrawsNothing p q) (unraised : RaisesNothing p q) (uses : UsesRows into 1 p q)
-        (owner : List ℕ) (carries : CarriesItem b.shape segment row cutoff into p q owner) where
+    (owner : List ℕ) (carries : CarriesItem b.shape segment row cutoff into p q owner) where
   abbrev had : ℕ
   had = frequency_in (marked p) segment row
 

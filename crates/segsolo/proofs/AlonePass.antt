@@ -123,8 +123,10 @@ counts_still p q counts same kept segment count is = counts segment count (sym (
 -- it changes the cache alone
 pub as_replied : (b : Board) (p q : Pass) (added : Entry) → IsAlone b p → IsQuiet b q → AddsEntry added p q → q.plain ≡ p.plain → memo q ≡ memo p
     → ((segment : ℕ) → keys_stored_in (added ∷ seen p) segment ≡ keys_stored_in (seen p) segment) → SameWidths p q
-        → SameFrequencies p q → state_at b.shape q ≡ record (state_at b.shape p) { cache =
-        after b.shape (added ∷ seen p) }
+    → SameFrequencies p q → state_at b.shape q ≡ record (state_at b.shape p) {
+      cache =
+          after b.shape (added ∷ seen p);
+    }
 as_replied b p q added was quiet adds plain same keeps widths frequencies =
     let more = more_seen b p q (added ∷ []) was quiet adds in
     at_state b.shape q (record (state_at b.shape p) { cache = after b.shape (added ∷ seen p) })

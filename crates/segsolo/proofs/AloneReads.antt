@@ -88,15 +88,17 @@ serves_get b p q key now told was on undrawn nothing raises is = served_still b 
 
 pub serves_gets : (b : Board) (p q : Pass) (key : List ℕ) (now : ℕ) (told : GetsAnswer) → IsAlone b p → GoesOn b p q → DrawsNothing p q → ChangesNothing p q
     → GetsRaises b.shape key 0 told p q → IsGetsAnswer b.shape key now told (seen p) p q
-        → ((value : List ℕ) (version : ℕ) → told ≡ gets.Found value version
-        → locked_of p ≢ Some (bucket_of b.shape key))
+    → ((value : List ℕ) (version : ℕ) → told ≡ gets.Found value version
+    → locked_of p ≢ Some (bucket_of b.shape key))
     → ServesAlone b (command.Gets key now) (answer.Gets told) p q
 serves_gets b p q key now told was on undrawn nothing raises is unlocked = served_still b (command.Gets key now) (answer.Gets told) p q was on nothing
     (ap answer.Gets (versioned b p q key now was on nothing told unlocked is), left_by told raises unlocked is)
   where
     value_read : (found : Option Cached) (value : List ℕ) (version : ℕ)
-        → option_map {U = List ℕ × ℕ} (λ (item : Cached). (item.value,
-        (after b.shape (seen p)).version (bucket_of b.shape key))) found ≡ Some (value, version)
+        → option_map {U = List ℕ × ℕ} (λ (item : Cached). (
+          item.value,
+          (after b.shape (seen p)).version (bucket_of b.shape key),
+        )) found ≡ Some (value, version)
         → option_map (λ (item : Cached). item.value) found ≡ Some value
     value_read None value version is = absurd (none-some (value, version) is)
     value_read (Some item) value version is = ap (λ (r : Option (List ℕ × ℕ)). option_map (λ (x : List ℕ × ℕ). x.0) r) is
@@ -113,8 +115,8 @@ serves_gets b p q key now told was on undrawn nothing raises is unlocked = serve
         → state_at b.shape q ≡ cond (is_locked b.shape (state_at b.shape p) key) (state_at b.shape p) (after_hit key (present (after b.shape (seen p)) now key) (state_at b.shape p))
     left_by (gets.Found value version) raises unlocked is =
         hit_leaves b p q key value now was on undrawn nothing raises
-            (value_read (present (after b.shape (seen p)) now key) value version
-            (version_then b p q key now was on nothing (Some (value, version)) is))
+        (value_read (present (after b.shape (seen p)) now key) value version
+        (version_then b p q key now was on nothing (Some (value, version)) is))
         ∙ sym (ap (λ t. cond t (state_at b.shape p) (after_hit key (present (after b.shape (seen p)) now key) (state_at b.shape p))) (free_here b.shape p key (unlocked value version refl)))
     left_by gets.Miss unraised unlocked is =
         let missed = read_then b p q key now was on nothing None is in

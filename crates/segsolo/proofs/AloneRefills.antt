@@ -106,7 +106,7 @@ module _ (b : Board) (p q : Pass) (segment deadline : ℕ) (was : IsAlone b p) (
     frequencies_then : (s : ℕ) → frequencies_in q s ≡ (with_at (state_at b.shape p).filling segment begun s).frequencies
     frequencies_then s =
         (λ i. of_rows (λ row. frequencies_kept b p q was on (entry.Refilled (number p) segment deadline ∷ [])
-            refills.entry (refl, tt) unraised s row i) 0 (length (keys_then s i))) ∙ by (eqb segment s)
+        refills.entry (refl, tt) unraised s row i) 0 (length (keys_then s i))) ∙ by (eqb segment s)
       where
         by : (here : Bool) → of_rows (frequency_in (marked p) s) 0 (length (cond here begun ((state_at b.shape p).filling s)).keys) ≡ (cond here begun ((state_at b.shape p).filling s)).frequencies
         by true = refl
@@ -117,18 +117,18 @@ module _ (b : Board) (p q : Pass) (segment deadline : ℕ) (was : IsAlone b p) (
         let widths = same_widths b p q was on undrawn in
         at_state b.shape q (after_refill segment deadline refill.Refilled (state_at b.shape p))
         (ap (after b.shape) more) state_then keys_then frequencies_then
-            (ap (λ (x : PlainPart). x.current) refills.plain) widths.wide widths.drawn
-            (ap (λ (m : Memo). option_map item_of m.holding) refills.memo)
-            (ap (λ (x : PlainPart). x.locked) refills.plain)
+        (ap (λ (x : PlainPart). x.current) refills.plain) widths.wide widths.drawn
+        (ap (λ (m : Memo). option_map item_of m.holding) refills.memo)
+        (ap (λ (x : PlainPart). x.locked) refills.plain)
 
     counts : CountsRows q
     counts s count is = by_segment (λ s. used_of q s ≡ Some count → count ≡ length (with_at (state_at b.shape p).filling segment begun s).keys) segment
         (λ is. same_Some count 0 (sym is ∙ refills_used segment deadline p q refills)
-            ∙ sym (ap (λ (f : Filling). length f.keys)
-            (with_at-same (state_at b.shape p).filling segment segment begun refl)))
+        ∙ sym (ap (λ (f : Filling). length f.keys)
+        (with_at-same (state_at b.shape p).filling segment segment begun refl)))
         (λ s ne is. was.used s count (sym (other_used segment deadline p q refills s (λ e. ne (sym e))) ∙ is)
-            ∙ sym (ap (λ (f : Filling). length f.keys)
-            (with_at-other (state_at b.shape p).filling segment s begun ne)))
+        ∙ sym (ap (λ (f : Filling). length f.keys)
+        (with_at-other (state_at b.shape p).filling segment s begun ne)))
         s is ∙ ap (λ (keys : List (List ℕ)). length keys) (sym (keys_then s))
 
   refill_serves : (given : RefillAnswer) → IsRefillAnswer segment deadline given p q

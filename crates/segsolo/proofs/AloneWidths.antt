@@ -72,8 +72,8 @@ pub record Grows (shape : Shape) (p q : Pass) (request : Request) : Type 0 where
 -- a new key that was put, where the chain stays, has a word, so that one was left
 had_word : (shape : Shape) (state : State) (request : Request) (segment : ℕ) → IsStrictlySortedBy key_cmp (keys_of state.cache.items)
     → keys_in shape (put shape (key_of request) (value_of request) segment state.cache)
-        (bucket_of shape (key_of request)) ≤ 6 * state.width (bucket_of shape (key_of request)) + 1
-        → lacks_word shape state request ≡ false
+    (bucket_of shape (key_of request)) ≤ 6 * state.width (bucket_of shape (key_of request)) + 1
+    → lacks_word shape state request ≡ false
 had_word shape state request segment sorted most = by (standing state.cache (key_of request)) refl
   where
     bucket : ℕ
@@ -178,10 +178,11 @@ module _ (b : Board) (p q : Pass) (request : Request) (segment : ℕ) (was : IsA
         | inl same ↦ subst (λ n. count (drew n) q ≡ count (drew n) p) (sym same) none
         | inr other ↦ grows.others bucket other
       ]))
-      (λ (one, adds, need). grown_one grows.others one adds (mark.marked need.at)
-      (marked_begins (trace p) need.at need.since,
-          marked_begins need.at (trace q) (begins_on need.at
-          (Drew (number p) (bucket_of b.shape (key_of request)) need.depth need.overflow ∷ need.at) (trace q)
-          (Drew (number p) (bucket_of b.shape (key_of request)) need.depth need.overflow ∷ [], refl) need.draw))
-          need.could)
+      (λ (one, adds, need). grown_one grows.others one adds (mark.marked need.at) (
+        marked_begins (trace p) need.at need.since,
+        marked_begins need.at (trace q) (begins_on need.at
+            (Drew (number p) (bucket_of b.shape (key_of request)) need.depth need.overflow ∷ need.at) (trace q)
+            (Drew (number p) (bucket_of b.shape (key_of request)) need.depth need.overflow ∷ [], refl) need.draw),
+      )
+      need.could)
       grows.own

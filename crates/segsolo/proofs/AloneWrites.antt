@@ -55,78 +55,79 @@ adds_nothing (Delete key now) here stands version there store other = refl
 
 module _ (b : Board) (p q : Pass) (request : Request) (segment : ℕ) (was : IsAlone b p)
     (more : seen q ≡ Wrote (number p) request reply.Stored (Some segment) ∷ seen p) (uses : UsesRow segment p q)
-    where
-  stored_so : (s : ℕ) → keys_stored_in (seen q) s ≡ cond (eqb segment s) (keys_stored_in (seen p) s ++ key_of request ∷ []) (keys_stored_in (seen p) s)
-  stored_so s = ap (λ h. keys_stored_in h s) more
+  where
+    stored_so : (s : ℕ) → keys_stored_in (seen q) s ≡ cond (eqb segment s) (keys_stored_in (seen p) s ++ key_of request ∷ []) (keys_stored_in (seen p) s)
+    stored_so s = ap (λ h. keys_stored_in h s) more
 
-  used : used_of p segment ≡ Some (length (keys_stored_in (seen p) segment))
-  used = rows_of b p segment was uses.current
+    used : used_of p segment ≡ Some (length (keys_stored_in (seen p) segment))
+    used = rows_of b p segment was uses.current
 
-  row_used : UsesRows segment 1 p q
-  row_used = uses_one segment p q uses.plain uses.memo
+    row_used : UsesRows segment 1 p q
+    row_used = uses_one segment p q uses.plain uses.memo
 
-  abbrev filling : ℕ → Filling
-  filling = with_at (state_at b.shape p).filling segment (with_key (key_of request) 1 ((state_at b.shape p).filling segment))
+    abbrev filling : ℕ → Filling
+    filling = with_at (state_at b.shape p).filling segment (with_key (key_of request) 1 ((state_at b.shape p).filling segment))
 
-  counts : CountsRows q
-  counts = brought_counts b p q (key_of request) 1 segment was stored_so used row_used
+    counts : CountsRows q
+    counts = brought_counts b p q (key_of request) 1 segment was stored_so used row_used
 
-  -- the item names the row that was used
-  module _ (on : GoesOn b p q) (adds : AddsEntry (Wrote (number p) request reply.Stored (Some segment)) p q) (unraised : RaisesNothing p q) where
-    brought : BringsItem (key_of request) segment 1 (marked p) (marked q)
-    brought = item_brought b p q was on (Wrote (number p) request reply.Stored (Some segment)) (key_of request) segment adds refl unraised
+    -- the item names the row that was used
+    module _ (on : GoesOn b p q) (adds : AddsEntry (Wrote (number p) request reply.Stored (Some segment)) p q) (unraised : RaisesNothing p q) where
+      brought : BringsItem (key_of request) segment 1 (marked p) (marked q)
+      brought = item_brought b p q was on (Wrote (number p) request reply.Stored (Some segment)) (key_of request) segment adds refl unraised
 
-    stands_now : (key : List ℕ) → standing (after b.shape (seen q)) key ≡ cond (is_at (key_cmp key) (key_of request)) (Some (cached (value_of request) segment)) (standing (after b.shape (seen p)) key)
-    stands_now key = ap (λ h. standing (after b.shape h) key) more ∙ standing-put b.shape (key_of request) (value_of request) segment (after b.shape (seen p)) key
+      stands_now : (key : List ℕ) → standing (after b.shape (seen q)) key
+          ≡ cond (is_at (key_cmp key) (key_of request)) (Some (cached (value_of request) segment)) (standing (after b.shape (seen p)) key)
+      stands_now key = ap (λ h. standing (after b.shape h) key) more ∙ standing-put b.shape (key_of request) (value_of request) segment (after b.shape (seen p)) key
 
-    row_is : brought.row ≡ length (keys_stored_in (seen p) segment)
-    row_is = next_row b p q (key_of request) segment brought.row (length (keys_stored_in (seen p) segment)) was.quiet on.quiet
-        (row_in b q (key_of request) (value_of request) segment brought.row on.quiet
-        (stands_now (key_of request) ∙ cond-true (is_at (key_cmp (key_of request)) (key_of request))
-            (Some (cached (value_of request) segment)) (standing (after b.shape (seen p)) (key_of request))
-            (at_self (key_of request)))
-        (brought.lasts (key_of request) ∙ cond-true (same_key (key_of request) (key_of request))
-            (Some (slot (key_of request) segment brought.row)) (last_at (marked p) (key_of request))
-            (same_true (key_of request) (key_of request) refl)))
-        used (used_more b p q (key_of request) 1 segment was stored_so used row_used) brought.unlinked brought.linked
+      row_is : brought.row ≡ length (keys_stored_in (seen p) segment)
+      row_is = next_row b p q (key_of request) segment brought.row (length (keys_stored_in (seen p) segment)) was.quiet on.quiet
+          (row_in b q (key_of request) (value_of request) segment brought.row on.quiet
+          (stands_now (key_of request) ∙ cond-true (is_at (key_cmp (key_of request)) (key_of request))
+          (Some (cached (value_of request) segment)) (standing (after b.shape (seen p)) (key_of request))
+          (at_self (key_of request)))
+          (brought.lasts (key_of request) ∙ cond-true (same_key (key_of request) (key_of request))
+          (Some (slot (key_of request) segment brought.row)) (last_at (marked p) (key_of request))
+          (same_true (key_of request) (key_of request) refl)))
+          used (used_more b p q (key_of request) 1 segment was stored_so used row_used) brought.unlinked brought.linked
 
-    frequencies_as_model : (s : ℕ) → frequencies_in q s ≡ (filling s).frequencies
-    frequencies_as_model = frequencies_then b p q (key_of request) 1 segment was stored_so used row_used on.quiet brought row_is
+      frequencies_as_model : (s : ℕ) → frequencies_in q s ≡ (filling s).frequencies
+      frequencies_as_model = frequencies_then b p q (key_of request) 1 segment was stored_so used row_used on.quiet brought row_is
 
-    stored_named : NamesLastRows b.shape q
-    stored_named = named b p q (key_of request) 1 segment was stored_so used row_used on.quiet brought row_is
-        (λ other ne. stands_now other ∙ cond-false (is_at (key_cmp other) (key_of request))
-            (Some (cached (value_of request) segment)) (standing (after b.shape (seen p)) other)
-            (at_other other (key_of request) (λ e. ne (sym e))))
+      stored_named : NamesLastRows b.shape q
+      stored_named = named b p q (key_of request) 1 segment was stored_so used row_used on.quiet brought row_is
+          (λ other ne. stands_now other ∙ cond-false (is_at (key_cmp other) (key_of request))
+          (Some (cached (value_of request) segment)) (standing (after b.shape (seen p)) other)
+          (at_other other (key_of request) (λ e. ne (sym e))))
 
-  -- the state with one bucket more in the chain, where a word lacks
-  longer : Bool → State
-  longer lacks = chained (bucket_of b.shape (key_of request)) lacks (state_at b.shape p)
+    -- the state with one bucket more in the chain, where a word lacks
+    longer : Bool → State
+    longer lacks = chained (bucket_of b.shape (key_of request)) lacks (state_at b.shape p)
 
-  placed_alike : (lacks : Bool) → ◌≡◌ {A = State} (record (state_at b.shape p) {
-    cache = put b.shape (key_of request) (value_of request) segment (after b.shape (seen p));
-    filling = filling;
-    width = (longer lacks).width;
-    drawn = (longer lacks).drawn;
-  }) (chained (bucket_of b.shape (key_of request)) lacks (placed b.shape (key_of request) (value_of request) segment (state_at b.shape p)))
-  unfolding longer
-  placed_alike true = refl
-  placed_alike false = refl
+    placed_alike : (lacks : Bool) → ◌≡◌ {A = State} (record (state_at b.shape p) {
+      cache = put b.shape (key_of request) (value_of request) segment (after b.shape (seen p));
+      filling = filling;
+      width = (longer lacks).width;
+      drawn = (longer lacks).drawn;
+    }) (chained (bucket_of b.shape (key_of request)) lacks (placed b.shape (key_of request) (value_of request) segment (state_at b.shape p)))
+    unfolding longer
+    placed_alike true = refl
+    placed_alike false = refl
 
-  at_stored : ((s : ℕ) → frequencies_in q s ≡ (filling s).frequencies) → Grows b.shape p q request → state_at b.shape q ≡ after_reply b.shape request reply.Stored (state_at b.shape p)
-  unfolding longer
-  at_stored frequencies grows =
-      at_state b.shape q (record (state_at b.shape p) {
-        cache = put b.shape (key_of request) (value_of request) segment (after b.shape (seen p));
-        filling = filling;
-        width = (longer (lacks_word b.shape (state_at b.shape p) request)).width;
-        drawn = (longer (lacks_word b.shape (state_at b.shape p) request)).drawn;
-      })
-      (ap (after b.shape) more) (state_then b p q (key_of request) 1 segment was stored_so used row_used)
-          (keys_then b p q (key_of request) 1 segment was stored_so used row_used) frequencies
-          (ap (λ (x : PlainPart). x.current) uses.plain) grows.wide grows.drawn
-      (ap (λ (m : Memo). option_map item_of m.holding) uses.memo) (ap (λ (x : PlainPart). x.locked) uses.plain)
-      ∙ (placed_alike (lacks_word b.shape (state_at b.shape p) request) ∙ sym (ap (λ current. stored b.shape request current (state_at b.shape p)) uses.current))
+    at_stored : ((s : ℕ) → frequencies_in q s ≡ (filling s).frequencies) → Grows b.shape p q request → state_at b.shape q ≡ after_reply b.shape request reply.Stored (state_at b.shape p)
+    unfolding longer
+    at_stored frequencies grows =
+        at_state b.shape q (record (state_at b.shape p) {
+          cache = put b.shape (key_of request) (value_of request) segment (after b.shape (seen p));
+          filling = filling;
+          width = (longer (lacks_word b.shape (state_at b.shape p) request)).width;
+          drawn = (longer (lacks_word b.shape (state_at b.shape p) request)).drawn;
+        })
+        (ap (after b.shape) more) (state_then b p q (key_of request) 1 segment was stored_so used row_used)
+        (keys_then b p q (key_of request) 1 segment was stored_so used row_used) frequencies
+        (ap (λ (x : PlainPart). x.current) uses.plain) grows.wide grows.drawn
+        (ap (λ (m : Memo). option_map item_of m.holding) uses.memo) (ap (λ (x : PlainPart). x.locked) uses.plain)
+        ∙ (placed_alike (lacks_word b.shape (state_at b.shape p) request) ∙ sym (ap (λ current. stored b.shape request current (state_at b.shape p)) uses.current))
 
 -- ---- any request to store
 
@@ -168,8 +169,8 @@ module _ (b : Board) (p q : Pass) (request : Request) (store : is_store request 
     refused unstored nothing serves = served_still b (command.Write request) (answer.Write told) p q was is.on nothing
         (stores.serves_write b.shape (state_at b.shape p) (state_at b.shape q) request told store
         (subst (ServesStore b.shape (state_at b.shape p) request told)
-            (sym (left b p q was is.on nothing (same_widths b p q was is.on (undrawn told is unstored))
-            (frequencies_still b p q was is.on nothing.entries is.costs.enters.raises_nothing))) serves))
+        (sym (left b p q was is.on nothing (same_widths b p q was is.on (undrawn told is unstored))
+        (frequencies_still b p q was is.on nothing.entries is.costs.enters.raises_nothing))) serves))
 
     -- replied by an entry that stores nothing
     replied : (r : Reply) → told ≢ write.NoRoom → told ≢ write.Busy → r ≢ reply.Stored → reply_of_write told ≡ Some r → AddsReply request r p q
@@ -185,8 +186,8 @@ module _ (b : Board) (p q : Pass) (request : Request) (store : is_store request 
         (and_left (adds_key request (is_some (standing (after b.shape (seen p)) (key_of request)))) _
         (adds_nothing request (is_some (present (after b.shape (seen p)) (moment_of request) (key_of request))) (is_some (standing (after b.shape (seen p)) (key_of request)))
         ((after b.shape (seen p)).version (bucket_of b.shape (key_of request)))
-            (absent_unless_stands (after b.shape (seen p)) (moment_of request) (key_of request)) store
-            (λ e. unstored (was_replied ∙ e)))))
+        (absent_unless_stands (after b.shape (seen p)) (moment_of request) (key_of request)) store
+        (λ e. unstored (was_replied ∙ e)))))
         r was_replied is_reply (same_state ∙ sym stays)))
       where
         was_replied : r ≡ reply_in b.shape (after b.shape (seen p)) request
@@ -208,9 +209,9 @@ module _ (b : Board) (p q : Pass) (request : Request) (store : is_store request 
       (stores.serves_write b.shape (state_at b.shape p) (state_at b.shape q) request write.Stored store
       (serves_replied b.shape (state_at b.shape p) request write.Stored (state_at b.shape q) (has_rows write.Stored is (λ e. cc)) (unlocked write.Stored is (λ e. cc) (λ e. cc)) grows.fits
       reply.Stored (reply_then b p q request reply.Stored (Some segment) is.on.quiet more) refl
-          (at_stored b p q request segment was more uses
-          (frequencies_as_model b p q request segment was more uses is.on is.answer.1
-          is.costs.enters.raises_nothing) grows)))
+      (at_stored b p q request segment was more uses
+      (frequencies_as_model b p q request segment was more uses is.on is.answer.1
+      is.costs.enters.raises_nothing) grows)))
   write_serves write.NotStored is = replied write.NotStored is reply.NotStored (λ e. cc) (λ e. cc) (λ e. cc) refl is.answer (λ s. refl) refl refl
   write_serves write.Exists is = replied write.Exists is reply.Exists (λ e. cc) (λ e. cc) (λ e. cc) refl is.answer (λ s. refl) refl refl
   write_serves write.NotFound is = replied write.NotFound is reply.NotFound (λ e. cc) (λ e. cc) (λ e. cc) refl is.answer (λ s. refl) refl refl
@@ -218,13 +219,13 @@ module _ (b : Board) (p q : Pass) (request : Request) (store : is_store request 
   write_serves write.BucketFull is =
       refused write.BucketFull is (λ e. cc) is.answer.0 (refused_word (has_rows write.BucketFull is (λ e. cc)) (unlocked write.BucketFull is (λ e. cc) (λ e. cc))
       (none_left b.shape p q request (same_seen b p q was is.on.quiet is.answer.0.entries)
-          (same_widths b p q was is.on (undrawn write.BucketFull is (λ e. cc)))
-          (full_since b.shape (key_of request) p q is.answer.2) is.answer.1))
+      (same_widths b p q was is.on (undrawn write.BucketFull is (λ e. cc)))
+      (full_since b.shape (key_of request) p q is.answer.2) is.answer.1))
   write_serves write.Busy is =
       refused write.Busy is (λ e. cc) is.answer.0
-          (refused_lock (has_rows write.Busy is (λ e. cc))
-          (locked_here b.shape p (key_of request) (busy_by_lock b p q (bucket_of b.shape (key_of request)) was.quiet
-          is.on.quiet was.one is.answer.1)))
+      (refused_lock (has_rows write.Busy is (λ e. cc))
+      (locked_here b.shape p (key_of request) (busy_by_lock b p q (bucket_of b.shape (key_of request)) was.quiet
+      is.on.quiet was.one is.answer.1)))
 
 -- ---- served
 

@@ -113,17 +113,37 @@ brings_item (at k s row position f ∷ more) old added key segment settled paire
 brings_item (bumped s row f ∷ more) old added key segment settled paired is one still orderly = absurd (omega (arith, still))
 brings_item (drawn bucket ∷ more) old added key segment settled paired is one still orderly =
     let rest = brings_item more old added key segment settled paired is one still orderly.0 in
-        record { row = rest.row; unlinked = rest.unlinked; linked = rest.linked; lasts = rest.lasts;
-        frequencies = rest.frequencies }
+    record {
+      row = rest.row;
+      unlinked = rest.unlinked;
+      linked = rest.linked;
+      lasts = rest.lasts;
+      frequencies = rest.frequencies;
+    }
 brings_item (chained bucket ∷ more) old added key segment settled paired is one still orderly =
     let rest = brings_item more old added key segment settled paired is one still orderly.0 in
-        record { row = rest.row; unlinked = rest.unlinked; linked = rest.linked; lasts = rest.lasts;
-        frequencies = rest.frequencies }
+    record {
+      row = rest.row;
+      unlinked = rest.unlinked;
+      linked = rest.linked;
+      lasts = rest.lasts;
+      frequencies = rest.frequencies;
+    }
 brings_item (entered pass s ∷ more) old added key segment settled paired is one still orderly =
     let rest = brings_item more old added key segment settled paired is one still orderly.0 in
-        record { row = rest.row; unlinked = rest.unlinked; linked = rest.linked; lasts = rest.lasts;
-        frequencies = rest.frequencies }
+    record {
+      row = rest.row;
+      unlinked = rest.unlinked;
+      linked = rest.linked;
+      lasts = rest.lasts;
+      frequencies = rest.frequencies;
+    }
 brings_item (left pass s ∷ more) old added key segment settled paired is one still orderly =
     let rest = brings_item more old added key segment settled paired is one still orderly.0 in
-        record { row = rest.row; unlinked = rest.unlinked; linked = rest.linked; lasts = rest.lasts;
-        frequencies = rest.frequencies }
+    record {
+      row = rest.row;
+      unlinked = rest.unlinked;
+      linked = rest.linked;
+      lasts = rest.lasts;
+      frequencies = rest.frequencies;
+    }

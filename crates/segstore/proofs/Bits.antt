@@ -35,9 +35,11 @@ had_bit z (e ∷ more) h p b none held =
 pub bit_before : (b : Board) (own : List Event) (p q : Pass) (bucket : ℕ) → AddsEvents b own p q
     → NoneAt b.shape bucket own → HasBit b.shape (trace q) (number q) bucket
     → HasBit b.shape (trace p) (number p) bucket
-bit_before b own p q bucket m none bit =
-    (bit.0, had_bit b.shape m.more (trace p) (number p) bucket (subst (NoneAt b.shape bucket) (sym m.adds) none)
-        (ap (λ h. (bucket_after b.shape h bucket).holder) (sym m.goes_on) ∙ (bit.1 ∙ ap Some m.same)))
+bit_before b own p q bucket m none bit = (
+  bit.0,
+  had_bit b.shape m.more (trace p) (number p) bucket (subst (NoneAt b.shape bucket) (sym m.adds) none)
+      (ap (λ h. (bucket_after b.shape h bucket).holder) (sym m.goes_on) ∙ (bit.1 ∙ ap Some m.same)),
+)
 
 -- a call that gave back the bit of its bucket, and did nothing in another, leaves the pass no bit that it hadn't
 pub no_new_bit : (b : Board) (own : List Event) (p q : Pass) (home : ℕ) → AddsEvents b own p q

@@ -23,8 +23,8 @@ by_link z p q t i n h s r k l hit on =
     let now = cond-true (eqb t s && eqb i r) (writes_row e u) u hit in
     let key : key_of q ≡ k = same_Some (key_of q) k (sym (ap (λ (x : Row). x.linked) now) ∙ on) in
     let old : Holds u (key_of q) (value_of q) =
-        subst (λ x. Holds (row_after h s x) (key_of q) (value_of q)) (eqb-true i r w.1)
-        (subst (λ x. Holds (row_after h x i) (key_of q) (value_of q)) (eqb-true t s w.0) l.1.suits.1) in
+    subst (λ x. Holds (row_after h s x) (key_of q) (value_of q)) (eqb-true i r w.1)
+    (subst (λ x. Holds (row_after h x i) (key_of q) (value_of q)) (eqb-true t s w.0) l.1.suits.1) in
     subst (IsPairOf (row_after (e ∷ h) s r)) key (record {
       value = value_of q;
       valid = (l.1.suits.5, l.1.suits.6);
@@ -59,7 +59,7 @@ linked_pair z (Relinked p q f g t i n ∷ h) s r k l on = let e = Relinked p q f
 linked_pair z (Filled p t i place w ∷ h) s r k l on = let e = Filled p t i place w in let u = row_after h s r in ⊎_elim
     (λ hit. let x = and_parts (eqb t s) (eqb i r) hit in
     absurd (none-some k (sym l.1.suits.0.3 ∙ ((λ j. (row_after h (eqb-true t s x.0 j) (eqb-true i r x.1 j)).linked)
-        ∙ (ap (λ (y : Row). y.linked) (sym (cond-true (eqb t s && eqb i r) (writes_row e u) u hit)) ∙ on)))))
+    ∙ (ap (λ (y : Row). y.linked) (sym (cond-true (eqb t s && eqb i r) (writes_row e u) u hit)) ∙ on)))))
     (λ miss. let same = cond-false (eqb t s && eqb i r) (writes_row e u) u miss in
     subst (λ x. IsPairOf x k) (sym same) (linked_pair z h s r k l.0 (ap (λ (x : Row). x.linked) (sym same) ∙ on)))
     (cases_Bool (eqb t s && eqb i r))

@@ -267,8 +267,8 @@ keeps_named_in b e p r segment row at d same in_use used lt is k =
     let own = owns_used b p segment row is used in
     let now : used_of q segment ≡ Some (row + 1) = used_set r.plain segment (row + 1) (known r segment row (same_used p r segment same ∙ used)) in
     let old_used : (s u : ℕ) → segment ≢ s → used_of q s ≡ Some u
-        → used_of p s ≡ Some u = λ s u other there. sym (used_apart r.plain segment (row + 1) s (λ e. other (sym e))
-        ∙ same_used p r s same) ∙ there in
+    → used_of p s ≡ Some u = λ s u other there. sym (used_apart r.plain segment (row + 1) s (λ e. other (sym e))
+    ∙ same_used p r s same) ∙ there in
     let lasts : (s : ℕ) → deadline_of q s ≡ deadline_of p s = λ s. deadline_counted r.plain segment (row + 1) s ∙ same_deadlines p r s same in
     let states : (s : ℕ) → state_of q s ≡ state_of p s = λ s. state_kept r.plain segment (row + 1) s ∙ same_states p r s same in record {
       few = λ s u there. ⊎_elim
@@ -350,8 +350,8 @@ keeps_refilled b p r segment deadline state d same was other_state is k =
     let now : state_of q segment ≡ Some InUse = refilled_state r.plain segment deadline there_now in
     let empty : used_of q segment ≡ Some 0 = refilled_used r.plain segment deadline there_now in
     let old_used : (s u : ℕ) → segment ≢ s → used_of q s ≡ Some u
-        → used_of p s ≡ Some u = λ s u other there. sym (others_used r.plain segment deadline s (λ x. other (sym x))
-        ∙ same_used p r s same) ∙ there in record {
+    → used_of p s ≡ Some u = λ s u other there. sym (others_used r.plain segment deadline s (λ x. other (sym x))
+    ∙ same_used p r s same) ∙ there in record {
       few = λ s u there. ⊎_elim
           (λ x. let y : 0 ≡ u = same_Some 0 u (sym empty ∙ (ap (used_of q) x ∙ there)) in omega arith)
           (λ other. k.few s u (old_used s u other there))
@@ -359,13 +359,13 @@ keeps_refilled b p r segment deadline state d same was other_state is k =
       rows = λ s u i there below. ⊎_elim
           (λ x. let y : 0 ≡ u = same_Some 0 u (sym empty ∙ (ap (used_of q) x ∙ there)) in
           ap (λ (v : Row). is_some v.linked) (stepped_row b e p r s i d (ap (owner b.shape) (sym x)
-              ∙ owns_stated b p segment state is was) ∙ cond-true (eqb segment s)
-              (writes_row e (row_after (trace p) s i)) (row_after (trace p) s i) (eq-eqb segment s x))
+          ∙ owns_stated b p segment state is was) ∙ cond-true (eqb segment s)
+          (writes_row e (row_after (trace p) s i)) (row_after (trace p) s i) (eq-eqb segment s x))
           ∙ (sym (le-ltb i 0 (omega arith)) ∙ ap (nat_lt i) y))
           (λ other. let before = old_used s u other there in
           ap (λ (v : Row). is_some v.linked) (stepped_row b e p r s i d (owns_used b p s u is before)
-              ∙ cond-false (eqb segment s) (writes_row e (row_after (trace p) s i)) (row_after (trace p) s i)
-              (ne_eqb segment s other)) ∙ k.rows s u i before below)
+          ∙ cond-false (eqb segment s) (writes_row e (row_after (trace p) s i)) (row_after (trace p) s i)
+          (ne_eqb segment s other)) ∙ k.rows s u i before below)
           (cases_eq segment s);
       deadlines = λ s n there. let lasts : segment_of.deadline_of (trace r) s ≡ cond (eqb segment s) deadline (segment_of.deadline_of (trace p) s) =
           ap (λ h. segment_of.deadline_of h s) d.now ∙ ap (cond (eqb segment s) deadline) (others_deadline b _ p r s d (known_owner s n there)) in ⊎_elim

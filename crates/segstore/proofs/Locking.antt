@@ -165,9 +165,12 @@ module _ (b : Board) (p r q : Pass) (bucket : ℕ) (quiet : IsQuiet b p) (had : 
       let bit = (has_locked b p bucket quiet had).bit in
       let others : NoneAt b.shape lock.bucket did.others = subst (λ x. NoneAt b.shape x did.others) (sym of) (quiet_none b.shape did.others (trace p) (number p) bucket did.before did.none bit.1) in
       let now : trace q ≡ Freed (number p) bucket false ∷ (did.others ++ trace p) = ap (λ (v : View). v.trace) view_is ∙ did.now in (
-        seen_begins lock.trace (trace q) (unlocked_move.more ++ old.more, unlocked_move.goes_on
-            ∙ (ap (λ h. unlocked_move.more ++ h) old.since
-            ∙ sym (append_assoc unlocked_move.more old.more lock.trace))),
+        seen_begins lock.trace (trace q) (
+          unlocked_move.more ++ old.more,
+          unlocked_move.goes_on
+              ∙ (ap (λ h. unlocked_move.more ++ h) old.since
+              ∙ sym (append_assoc unlocked_move.more old.more lock.trace)),
+        ),
         ap (λ h. history.entries_of b.shape lock.bucket (event.seen h)) now ∙ (none_entries b.shape lock.bucket did.others (trace p) others
             ∙ (ap (λ h. history.entries_of b.shape lock.bucket (event.seen h)) old.since ∙ none_entries b.shape lock.bucket old.more lock.trace old.still)),
       )

@@ -68,9 +68,10 @@ module _ (n : ℕ) (into : Option ℕ) (early : List Event) (calm : AreStill ear
 
   parted_glanced : (late h : List Event) (bucket : ℕ) → AreStill late → count (glanced bucket) n ((late ++ looked) ++ h) ≡ count (glanced bucket) n h
   parted_glanced late h bucket still = ap (count (glanced bucket) n) (append_assoc late looked h) ∙ (still_count (glanced bucket) n late (looked ++ h) tt still
-      ∙ elim into as (λ o. count (glanced bucket) n ((peek n o ++ early) ++ h) ≡ count (glanced bucket) n h)
-          [ None ↦ still_count (glanced bucket) n early h tt calm
-          | Some segment ↦ still_count (glanced bucket) n early h tt calm ])
+      ∙ elim into as (λ o. count (glanced bucket) n ((peek n o ++ early) ++ h) ≡ count (glanced bucket) n h) [
+        | None ↦ still_count (glanced bucket) n early h tt calm
+        | Some segment ↦ still_count (glanced bucket) n early h tt calm
+      ])
 
   parted_entered : (late h : List Event) → AreStill late → count entered n ((late ++ looked) ++ h) ≡ count entered n h + times into
   parted_entered late h still = ap (count entered n) (append_assoc late looked h) ∙ (still_count entered n late (looked ++ h) tt still

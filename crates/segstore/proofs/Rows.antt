@@ -18,8 +18,10 @@ stepped_row b e p q s r d own =
     ap (λ h. row_after h s r) d.now ∙ ap (λ u. cond (row_at e s r) (writes_row e u) u) (quiet_row b.shape d.others (trace p) s r d.before (subst (λ n. NoneBy n d.others) (sym own) d.none))
 
 pub stored : (b : Board) (p q : Pass) (s r place w : ℕ) → AddsAtOnce b (Filled (number p) s r place w ∷ []) p q
-    → owner b.shape s ≡ number p → row_after (trace q) s r ≡ record (row_after (trace p) s r) { words =
-    with_at (row_after (trace p) s r).words place w }
+    → owner b.shape s ≡ number p → row_after (trace q) s r ≡ record (row_after (trace p) s r) {
+      words =
+          with_at (row_after (trace p) s r).words place w;
+    }
 stored b p q s r place w d own =
     let e = Filled (number p) s r place w in let u = row_after (trace p) s r in
     stepped_row b e p q s r d own ∙ cond-true (row_at e s r) (writes_row e u) u (and_from (eqb s s) (eqb r r) (eq-eqb s s refl) (eq-eqb r r refl))

@@ -39,8 +39,8 @@ sees_again b p q place word now item d c there is same of =
     let same' : IsSameItem word (item_word item) = subst (IsSameItem word) (sym of) same in
     let tag : 1 ≤ item_word item / 2 ^ 52 = subst (λ n. 1 ≤ n) same'.1 same'.0 in
     let s = stood_item b.shape (trace q) place (item_word item) d.moved.pass.valid d.moved.pass.lawful
-        (chained_later b.shape (trace p) (trace q) place d.moved.pass.lawful (moved_on b [] p q d.moved) c) here tag
-        in
+    (chained_later b.shape (trace p) (trace q) place d.moved.pass.lawful (moved_on b [] p q d.moved) c) here tag
+    in
     let es = segment_of_item item in let er = row_of_item item in
     let e : inside (trace q) (number q) item.seg ≡ inside (trace p) (number p) (segment_part word) =
     ap (λ n. inside (trace q) n item.seg) d.moved.same ∙ (ap (inside (trace q) (number p)) (es ∙ sym (same_segment word (item_word item) same')) ∙ moved_inside b [] p q (segment_part word) d.moved) in
@@ -50,10 +50,18 @@ sees_again b p q place word now item d c there is same of =
       value = s.1;
       was = s.2;
       entered = subst (λ n. 0 < n) (sym e) there;
-      readable = (subst (IsSegment b.shape) (sym es) s.2.in_segment.0,
-          subst (λ r. r < b.shape.rows) (sym er) s.2.in_segment.1,
-          inr (inl (subst (λ n. 0 < n) (sym e) there, (s.0, ap (λ (x : Row). x.linked) (same_names item (trace q))
-          ∙ s.2.linked))));
+      readable = (
+        subst (IsSegment b.shape) (sym es) s.2.in_segment.0,
+        subst (λ r. r < b.shape.rows) (sym er) s.2.in_segment.1,
+        inr (inl (
+          subst (λ n. 0 < n) (sym e) there,
+          (
+            s.0,
+            ap (λ (x : Row). x.linked) (same_names item (trace q))
+                ∙ s.2.linked,
+          ),
+        )),
+      );
     }
 
 -- ---- reads of the row after it
@@ -119,10 +127,13 @@ found_value b p q place item header key value h there f reads is =
     let same = is key f.value saw.was.valid.0 saw.was.valid.1 (holds_still b p q place item key f.value h f.found reads) in
     found_as b.shape h (trace q) place (item_word item) key f.value key value refl same (record {
       saw = record { at = saw.at; between = (saw.between.0, begins_on saw.at (trace p) (trace q) saw.between.1 (moved_on b [] p q m)); was = saw.was };
-      kept = (m.more ++ f.found.kept.0, m.goes_on
-          ∙ (ap (λ x. m.more ++ x) f.found.kept.1 ∙ sym (append_assoc m.more f.found.kept.0 saw.at)),
-          none_both (segment_part (item_word item)) m.more f.found.kept.0
-          (subst (λ s. NoneRefills s m.more) (segment_of_item item) (m.kept item.seg there)) f.found.kept.2);
+      kept = (
+        m.more ++ f.found.kept.0,
+        m.goes_on
+            ∙ (ap (λ x. m.more ++ x) f.found.kept.1 ∙ sym (append_assoc m.more f.found.kept.0 saw.at)),
+        none_both (segment_part (item_word item)) m.more f.found.kept.0
+            (subst (λ s. NoneRefills s m.more) (segment_of_item item) (m.kept item.seg there)) f.found.kept.2,
+      );
       still = sym (same_names item (trace q)) ∙ (reads.same ∙ (same_names item (trace p) ∙ f.found.still));
       alone = λ one. moved_alone b [] p q m one ∙ f.found.alone one;
     })

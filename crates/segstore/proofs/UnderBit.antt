@@ -59,8 +59,8 @@ pub moved_at : (b : Board) (own : List Event) (p q : Pass) (key : List ℕ) → 
     → IsSameAt b.shape (after b.shape (seen p)) (after b.shape (seen q)) key
 moved_at b own p q key m bit none =
     subst (λ h. IsSameAt b.shape (after b.shape (seen p)) (after b.shape (event.seen h)) key) (sym m.goes_on)
-        (unchanged_at b.shape m.more (trace p) key (subst (IsLawful b.shape) m.goes_on m.pass.lawful)
-        (moved_none b own p q (bucket_of b.shape key) m bit none))
+    (unchanged_at b.shape m.more (trace p) key (subst (IsLawful b.shape) m.goes_on m.pass.lawful)
+    (moved_none b own p q (bucket_of b.shape key) m bit none))
 
 -- a step of the pass's own in the bucket acts on what it was before
 pub did_acts : (b : Board) (e : Event) (q r : Pass) (bucket : ℕ) → AddsAtOnce b (e ∷ []) q r
@@ -69,5 +69,5 @@ pub did_acts : (b : Board) (e : Event) (q r : Pass) (bucket : ℕ) → AddsAtOnc
 did_acts b e q r bucket d here bit =
     let before = bucket_after b.shape (d.others ++ trace q) bucket in
     ap (λ h. bucket_after b.shape h bucket) d.now
-        ∙ (cond-true (is (bucket_at b.shape e) bucket) (acts e before) before here
-        ∙ ap (acts e) (quiet b.shape d.others (trace q) (number q) bucket d.before d.none bit.1))
+    ∙ (cond-true (is (bucket_at b.shape e) bucket) (acts e before) before here
+    ∙ ap (acts e) (quiet b.shape d.others (trace q) (number q) bucket d.before d.none bit.1))

@@ -180,8 +180,8 @@ module _ (b : Board) (bucket : ℕ) (p q : Pass) (quiet : IsQuiet b p) {into : O
   -- the same where the release is a step of its own, that tells no entry
   module _ (r s : Pass) (own : List Event) (added : List Entry) (counted : Bool) (m : AddsEvents b own q r) (elsewhere : (other : ℕ) → bucket ≢ other → NoneAt b.shape other own) (still : AreStill own)
       (adds : (h : List Event) → event.seen (own ++ h) ≡ added ++ event.seen h)
-          (freed : AddsAtOnce b (Freed (number r) bucket counted ∷ []) r s)
-          (free : (bucket_after b.shape (trace s) bucket).holder ≡ None) where
+      (freed : AddsAtOnce b (Freed (number r) bucket counted ∷ []) r s)
+      (free : (bucket_after b.shape (trace s) bucket).holder ≡ None) where
     ended : AddsEvents b (Freed (number p) bucket counted ∷ own) q s
     ended = subst (λ n. AddsEvents b (Freed n bucket counted ∷ own) q s) (m.same ∙ took_moved.same) (moved_then b own (Freed (number r) bucket counted ∷ []) q r s m freed.moved)
 

@@ -23,13 +23,13 @@ pub linked_used : (h : List Event) (s r : ℕ) (k : List ℕ) → (row_after h s
 linked_used [] s r k on = absurd (none-some k on)
 linked_used (Linked p q t i n ∷ h) s r k on =
     used_or (eqb t s) (was_used h s) (λ f. linked_used h s r k
-        (ap (λ (u : Row). u.linked) (sym (cond-false (eqb t s && eqb i r)
-        (writes_row (Linked p q t i n) (row_after h s r)) (row_after h s r) (ap (λ a. a && eqb i r) f))) ∙ on))
+    (ap (λ (u : Row). u.linked) (sym (cond-false (eqb t s && eqb i r)
+    (writes_row (Linked p q t i n) (row_after h s r)) (row_after h s r) (ap (λ a. a && eqb i r) f))) ∙ on))
 linked_used (Relinked p q f g t i n ∷ h) s r k on =
     used_or (eqb t s) (was_used h s) (λ f'. linked_used h s r k
-        (ap (λ (u : Row). u.linked) (sym (cond-false (eqb t s && eqb i r)
-        (writes_row (Relinked p q f g t i n) (row_after h s r)) (row_after h s r) (ap (λ a. a && eqb i r) f')))
-        ∙ on))
+    (ap (λ (u : Row). u.linked) (sym (cond-false (eqb t s && eqb i r)
+    (writes_row (Relinked p q f g t i n) (row_after h s r)) (row_after h s r) (ap (λ a. a && eqb i r) f')))
+    ∙ on))
 linked_used (Filled p t i j w ∷ h) s r k on = linked_used h s r k (same_linked (eqb t s && eqb i r) (row_after h s r) (writes_row (Filled p t i j w) (row_after h s r)) k refl on)
 linked_used (Refilled p t d ∷ h) s r k on = linked_used h s r k (linked_in (eqb t s) (row_after h s r) (writes_row (Refilled p t d) (row_after h s r)) k refl on)
 linked_used (e ∷ h) s r k on = linked_used h s r k on

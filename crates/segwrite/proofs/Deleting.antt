@@ -40,9 +40,14 @@ pub may_look : (b : Board) (request : Request) (key : List ℕ) (now bucket : �
 may_look b request key now bucket asked home p f found clean search outside finds =
     let key_is = sym (ap key_of asked) in (
       search.moved.pass,
-      (may_enter_idle b p f search outside, (subst (λ n. HasBit b.shape (trace f) (number f) n) (home
-          ∙ ap (bucket_of b.shape) key_is) (clean_still b [] bucket p f clean search.moved tt).bit,
-          subst (λ k. Finds b k found f) key_is finds)),
+      (
+        may_enter_idle b p f search outside,
+        (
+          subst (λ n. HasBit b.shape (trace f) (number f) n) (home
+              ∙ ap (bucket_of b.shape) key_is) (clean_still b [] bucket p f clean search.moved tt).bit,
+          subst (λ k. Finds b k found f) key_is finds,
+        ),
+      ),
     )
 
 -- ---- under the bit: from p, where it was taken, to f, where the search ended, and g, where the pass knows whether the key is present
@@ -104,9 +109,11 @@ module _ (b : Board) (request : Request) (key : List ℕ) (now : ℕ) (bucket : 
     gone = event_at b (unlink_event (key_of request) (leaving.Deletes (moment_of request))) target.place g
 
     the_target : IsTarget b (key_of request) target g × (target.word ≢ 0)
-    the_target = let t = own_target b (key_of request) found target f finds_it known_word.0 in
-        (target_later b (peek (number f) look.into) f g (key_of request) look.moved search.moved.pass bit_found
-            (peek_nowhere b.shape (bucket_of b.shape (key_of request)) (number f) look.into) target t.0, t.1)
+    the_target = let t = own_target b (key_of request) found target f finds_it known_word.0 in (
+      target_later b (peek (number f) look.into) f g (key_of request) look.moved search.moved.pass bit_found
+          (peek_nowhere b.shape (bucket_of b.shape (key_of request)) (number f) look.into) target t.0,
+      t.1,
+    )
 
     deletes_it : reply.Deleted ≡ reply_now b g (Delete (key_of request) (moment_of request))
     deletes_it = sym (ap (λ m. reply_now b g (Delete (key_of request) m)) (ap moment_of asked) ∙ ap (λ t. reply_to (Delete (key_of request) now) t version) known_word.1)
@@ -158,9 +165,18 @@ module _ (b : Board) (request : Request) (key : List ℕ) (now : ℕ) (bucket : 
 
 -- the bit can't be had
 pub deletes_nothing : (b : Board) (key : List ℕ) (now : ℕ) (p q : Pass) → TakesToWrite b (bucket_of b.shape key) false p q → TakesAtMost most_tries_for_bit p q → Deletes b key now delete.Busy p q
-deletes_nothing b key now p q busy steps = record { on = busy.0; answer = (busy.1, busy.2); locked = λ has. refl;
-    costs = record { takes = λ other. absurd (other refl); steps = (omega (arith, steps)); draws_nothing = busy.3;
-    enters = enters_none b.shape key p q busy.4; reads_nothing = λ told. busy.4 } }
+deletes_nothing b key now p q busy steps = record {
+  on = busy.0;
+  answer = (busy.1, busy.2);
+  locked = λ has. refl;
+  costs = record {
+    takes = λ other. absurd (other refl);
+    steps = (omega (arith, steps));
+    draws_nothing = busy.3;
+    enters = enters_none b.shape key p q busy.4;
+    reads_nothing = λ told. busy.4;
+  };
+}
 
 deletion_entry : (z : Shape) (key : List ℕ) (now at : ℕ) → IsEntry z (bucket_of z key) (λ pass. Unlinked pass key at (leaving.Deletes now)) (λ pass. Wrote pass (Delete key now) reply.Deleted None)
 deletion_entry z key now at = record { at = λ pass. refl; adds = λ pass. refl; of = λ pass. refl; still = λ pass. tt; calm = λ pass. tt; undrawn = λ pass. tt; untried = λ pass. tt }
@@ -190,12 +206,14 @@ module _ (b : Board) (key : List ℕ) (now : ℕ) (p q s : Pass) (quiet : IsQuie
     pub deletes_present : (told : DeleteAnswer) → RemovesPresent b (Delete key now) told g s → TakesAtMost (most_steps_to_remove told) q s → Deletes b key now told p s
     deletes_present delete.Deleted (at, gives) steps =
         let is = deletion_entry b.shape key now at in let act : ℕ
-            → Event = (λ pass. Unlinked pass key at (leaving.Deletes now)) in let entry : ℕ
-            → Entry = (λ pass. Wrote pass (Delete key now) reply.Deleted None) in record {
+        → Event = (λ pass. Unlinked pass key at (leaving.Deletes now)) in let entry : ℕ
+        → Entry = (λ pass. Wrote pass (Delete key now) reply.Deleted None) in record {
           on = entered_on b own_bucket true act entry is p g g s quiet had still gives;
-          answer = (entered b own_bucket true act entry is p g g s quiet had still gives,
-              plain_back b own_bucket true act entry is p g g s quiet had still gives,
-              memo_back b own_bucket true act entry is p g g s quiet had still gives);
+          answer = (
+            entered b own_bucket true act entry is p g g s quiet had still gives,
+            plain_back b own_bucket true act entry is p g g s quiet had still gives,
+            memo_back b own_bucket true act entry is p g g s quiet had still gives,
+          );
           locked = λ has. absurd (took.unlocked has);
           costs = record {
             steps = (omega (arith, tries, steps));

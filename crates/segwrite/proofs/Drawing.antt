@@ -30,9 +30,13 @@ module _ (b : Board) (bucket from : ℕ) (first p q : Pass) (d : Drawing b from 
       (did_has b first p bucket d.did clean.bit, ap (λ (u : Bucket). u.spare) same ∙ clean.undrawn, refl, omega (arith, short, long), left, d.drawn)
 
   pub drawing_later : (counter : ℕ) → CounterMissed b from counter p q → step_count q ≡ step_count p + 1 → q.plain ≡ p.plain → memo q ≡ memo p → Drawing b counter first q
-  drawing_later counter missed one plain kept = record { did = did_after b [] first p q d.did missed.did;
-      plain = plain ∙ d.plain; memo = kept ∙ d.memo; drawn = (let e = missed.is in omega arith);
-      steps = (let before = d.steps in let over = missed.over in omega (arith, before, over, one)) }
+  drawing_later counter missed one plain kept = record {
+    did = did_after b [] first p q d.did missed.did;
+    plain = plain ∙ d.plain;
+    memo = kept ∙ d.memo;
+    drawn = (let e = missed.is in omega arith);
+    steps = (let before = d.steps in let over = missed.over in omega (arith, before, over, one));
+  }
 
   pub drawn_now : AddsAtOnce b (Drew (number p) bucket (depth_to_draw b bucket p) from ∷ []) p q → q.plain ≡ p.plain → memo q ≡ memo p → DrawsSpare b bucket (Some from) first q
   drawn_now drew plain kept = (

@@ -88,8 +88,8 @@ module _ (b : Board) (key : List ℕ) (first p q : Pass) (place : Place) (word :
           let there = same_position b [] p q k place look.moved s.chain in
           let still = same_position b [] q r k place read.moved looked.chain in
           let e : position b.shape (trace r) after / 8 ≡ position b.shape (trace p) place / 8 + bool_byte
-              (eqb after.word 1) = on.2 ∙ ap (λ n. n / 8 + bool_byte (eqb after.word 1)) (still ∙ there) in
-              omega (arith, deep, e)
+          (eqb after.word 1) = on.2 ∙ ap (λ n. n / 8 + bool_byte (eqb after.word 1)) (still ∙ there) in
+          omega (arith, deep, e)
 
       -- or it ends here
       abbrev all_passed : Passed b key first r place new

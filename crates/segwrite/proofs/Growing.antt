@@ -123,12 +123,19 @@ module _ (b : Board) (bucket overflow : ℕ) (place : Place) (word : ℕ) (p r :
           second = refl;
           free = λ key of absent. record {
             chain = subst (λ k. IsInChain b k room q) (sym of)
-                (record { in_table = (omega (arith, overflow_in), omega arith, omega arith);
-                at = subst (λ n. IsItemAt z (trace q) bucket n (cell_at z room)) (sym room_position) room_at });
-            is = inl (refl, subst (λ k. (bucket_after z (trace q) k).items (position z (trace q) room) ≡ nothing)
-                (sym of) (ap longer.items room_position ∙ joined.2.empty), (both.keys key of).stands
-                ∙ absent, subst (λ k. AreTakenBefore (bucket_after z (trace q) k) (position z (trace q) room))
-                (sym of) (subst (AreTakenBefore longer) (sym room_position) joined.2.before));
+                (record {
+                  in_table = (omega (arith, overflow_in), omega arith, omega arith);
+                  at = subst (λ n. IsItemAt z (trace q) bucket n (cell_at z room)) (sym room_position) room_at;
+                });
+            is = inl (
+              refl,
+              subst (λ k. (bucket_after z (trace q) k).items (position z (trace q) room) ≡ nothing)
+                  (sym of) (ap longer.items room_position ∙ joined.2.empty),
+              (both.keys key of).stands
+                  ∙ absent,
+              subst (λ k. AreTakenBefore (bucket_after z (trace q) k) (position z (trace q) room))
+                  (sym of) (subst (AreTakenBefore longer) (sym room_position) joined.2.before),
+            );
           };
           could = in_need;
         }

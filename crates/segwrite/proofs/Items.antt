@@ -44,8 +44,8 @@ pub record IsNamed (z : Shape) (h : List Event) (b n : ℕ) (read : Item) : Type
 pub named : (z : Shape) (h : List Event) (b n word : ℕ) (read : Item) → IsValid z → IsLawful z h → IsWordOfContent ((bucket_after z h b).items n) word → item_word read ≡ word → IsNamed z h b n read
 named z h b n word read v l reads is =
     let tagged : 1 ≤ word / 2 ^ 52 = subst (λ w. 1 ≤ w / 2 ^ 52) is
-        (subst (λ t. 1 ≤ t) (sym (tag_of_word read.tag read.freq read.seg read.row read.freq_in_range
-        read.seg_in_range read.row_in_range)) read.tag_above_zero) in
+    (subst (λ t. 1 ≤ t) (sym (tag_of_word read.tag read.freq read.seg read.row read.freq_in_range
+    read.seg_in_range read.row_in_range)) read.tag_above_zero) in
     let found = item_here z h b n word ((bucket_after z h b).items n) v l ((chain_of z h l b).contents n) reads tagged in
     let a = found.0 in let stands = (coherent z h l).items b n a found.1 in
     let same = parts read.tag read.freq read.seg read.row (tag_of a.key) found.2.0 a.segment a.row read.freq_in_range read.seg_in_range read.row_in_range
@@ -80,8 +80,8 @@ pub row_tells : (z : Shape) (h : List Event) (b n : ℕ) (key : List ℕ) (read 
 row_tells z h b n key read found l name tells =
     let a = name.slot in let stands = (coherent z h l).items b n a name.here in
     let row : Holds (row_after h read.seg read.row) a.key stands.value =
-        subst (λ s. Holds (row_after h s read.row) a.key stands.value) name.segment
-        (subst (λ r. Holds (row_after h a.segment r) a.key stands.value) name.row stands.holds) in
+    subst (λ s. Holds (row_after h s read.row) a.key stands.value) name.segment
+    (subst (λ r. Holds (row_after h a.segment r) a.key stands.value) name.row stands.holds) in
     let same = tells a.key stands.value stands.valid.0 stands.valid.1 row in
     (λ y. (a, name.here, same.0 y), λ has. same.1 (ap (λ (x : Slot). x.key) (same_item a has.0 (sym name.here ∙ has.1)) ∙ has.2))
 

@@ -46,11 +46,11 @@ last_later b e p q bucket place word is d bit at leaves l =
     let there : v.items (last u) ≡ item l.named = ap (λ (w : Bucket). w.items (last u)) same ∙ (leaves.here ∙ l.here) in
     let up = (meanwhile z (number p) d.others (trace p) d.before d.none).rises bucket (last u) l.named bit l.here in
     let rose = item_rose z (trace p) (trace q) bucket (last u) (cell_at z place) l.named is.valid is.lawful
-        d.moved.pass.lawful (subst (λ n. IsItemAt z (trace p) bucket n (cell_at z place)) l.ends l.chain.at)
+    d.moved.pass.lawful (subst (λ n. IsItemAt z (trace p) bucket n (cell_at z place)) l.ends l.chain.at)
     (subst (λ n. IsItemAt z (trace q) bucket n (cell_at z place)) (still ∙ l.ends) later.at) l.here there
     (subst (λ n. frequency_of (trace p) l.named.segment l.named.row ≤ n)
-        (sym (ap (λ h. frequency_of h l.named.segment l.named.row) d.now
-        ∙ leaves.frequencies (d.others ++ trace p) l.named.segment l.named.row)) up) in record {
+    (sym (ap (λ h. frequency_of h l.named.segment l.named.row) d.now
+    ∙ leaves.frequencies (d.others ++ trace p) l.named.segment l.named.row)) up) in record {
       chain = later;
       ends = still ∙ (l.ends ∙ sym end);
       named = l.named;
@@ -171,25 +171,25 @@ module _ (b : Board) (bucket overflow : ℕ) (place : Place) (word : ℕ) (p : P
     apart : longer.items (8 * (waiting.chained + 1) + 2) ≡ waiting.items (8 * (waiting.chained + 1) + 2)
     apart = let n = 8 * (waiting.chained + 1) + 2 in
         cond-false (eqb (last waiting) n) (next overflow) _ (ne_eqb (last waiting) n (λ same. omega arith))
-            ∙ cond-false (eqb (fresh_position waiting) n) (waiting.items (last waiting)) (waiting.items n)
-            (ne_eqb (fresh_position waiting) n (λ same. omega arith))
+        ∙ cond-false (eqb (fresh_position waiting) n) (waiting.items (last waiting)) (waiting.items n)
+        (ne_eqb (fresh_position waiting) n (λ same. omega arith))
 
     before : AreTakenBefore longer (8 * (waiting.chained + 1) + 2)
     before n lt here none = ⊎_elim
         (λ end. let leads : next overflow ≡ nothing =
-            sym (cond-true (eqb (last waiting) n) (next overflow)
-            (cond (eqb (fresh_position waiting) n) (waiting.items (last waiting)) (waiting.items n))
-            (eq-eqb (last waiting) n end)) ∙ none in cc)
+        sym (cond-true (eqb (last waiting) n) (next overflow)
+        (cond (eqb (fresh_position waiting) n) (waiting.items (last waiting)) (waiting.items n))
+        (eq-eqb (last waiting) n end)) ∙ none in cc)
         (λ other.
         let there = sym (cond-false (eqb (last waiting) n) (next overflow)
-            (cond (eqb (fresh_position waiting) n) (waiting.items (last waiting)) (waiting.items n))
-            (ne_eqb (last waiting) n other)) ∙ none in ⊎_elim
+        (cond (eqb (fresh_position waiting) n) (waiting.items (last waiting)) (waiting.items n))
+        (ne_eqb (last waiting) n other)) ∙ none in ⊎_elim
         (λ first. spare.full (last waiting) (omega arith, omega arith)
-            (sym (cond-true (eqb (fresh_position waiting) n) (waiting.items (last waiting)) (waiting.items n)
-            (eq-eqb (fresh_position waiting) n first)) ∙ there))
+        (sym (cond-true (eqb (fresh_position waiting) n) (waiting.items (last waiting)) (waiting.items n)
+        (eq-eqb (fresh_position waiting) n first)) ∙ there))
         (λ old. let x = here.1 in spare.full n (omega (arith, lt, x, old), x)
-            (sym (cond-false (eqb (fresh_position waiting) n) (waiting.items (last waiting)) (waiting.items n)
-            (ne_eqb (fresh_position waiting) n old)) ∙ there))
+        (sym (cond-false (eqb (fresh_position waiting) n) (waiting.items (last waiting)) (waiting.items n)
+        (ne_eqb (fresh_position waiting) n old)) ∙ there))
         (cases_eq (fresh_position waiting) n))
         (cases_eq (last waiting) n)
 
@@ -202,8 +202,8 @@ module _ (b : Board) (bucket overflow : ℕ) (place : Place) (word : ℕ) (p : P
       };
       home = ap (λ h. home_of h overflow) d.moved.goes_on
           ∙ (home_stays z d.moved.more (trace p) overflow (home bucket (waiting.chained + 1))
-              (subst (IsLawful z) d.moved.goes_on d.moved.pass.lawful)
-              ((chain_of z (trace p) is.lawful bucket).spare overflow spare.spare).1
+          (subst (IsLawful z) d.moved.goes_on d.moved.pass.lawful)
+          ((chain_of z (trace p) is.lawful bucket).spare overflow spare.spare).1
           ∙ ap (λ (w : Bucket). Some (home bucket w.chained)) (sym grown));
       empty = ap (λ (w : Bucket). w.items (8 * w.chained + 2)) grown ∙ (apart ∙ empty);
       before = subst (λ (w : Bucket). AreTakenBefore w (8 * w.chained + 2)) (sym grown) before;

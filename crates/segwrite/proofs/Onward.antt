@@ -118,17 +118,20 @@ module _ (b : Board) (key : List ℕ) (first p : Pass) (place : Place) (word : �
   inner lt = let d = depth in let t = passed.chain.in_table in let here = passed.chain.at.0 in
       on_to (next_word place) (n + 1) (t.0, omega arith, omega (arith, lt)) (omega (arith, here.0, d.1, lt), (let e : n + 1 ≡ 8 * d.0 + (place.word + 1) = omega (arith, d.1) in omega (arith, e, lt)))
       (next_at z (trace p) k n place (ltb place.bucket z.buckets) lt passed.chain.at.1) (omega arith)
-          (subst (λ t. (n + 1) / 8 ≡ n / 8 + bool_byte t)
-          (sym (ne_eqb (place.word + 1) 1 (λ e. omega (arith, e, t.1)))) (omega (arith, d.1, lt)))
-          (λ m le less here'. omega (arith, le, less))
+      (subst (λ t. (n + 1) / 8 ≡ n / 8 + bool_byte t)
+      (sym (ne_eqb (place.word + 1) 1 (λ e. omega (arith, e, t.1)))) (omega (arith, d.1, lt)))
+      (λ m le less here'. omega (arith, le, less))
 
   leads : (after : Place) → LeadsTo z word after → IsOn after
   leads after to =
       let on = leads_to z (trace p) k n word to.0 (u.items n) is.lawful ((chain_of z (trace p) is.lawful k).contents n) reads to.1 to.2 in
       let in_table = home_in z (trace p) to.0 (home k (on.0 + 1)) is.lawful on.3 in
-      subst IsOn (sym to.3) (on_to (first_word z to.0) (8 * on.0 + 9) (omega (arith, in_table), omega arith,
-          omega arith) (omega (arith, on.1), omega arith) (first_at z (trace p) k on.0 to.0 on.3)
-          (omega (arith, on.2)) (omega (arith, on.2))
+      subst IsOn (sym to.3) (on_to (first_word z to.0) (8 * on.0 + 9) (
+        omega (arith, in_table),
+        omega arith,
+        omega arith,
+      ) (omega (arith, on.1), omega arith) (first_at z (trace p) k on.0 to.0 on.3)
+      (omega (arith, on.2)) (omega (arith, on.2))
       (λ m le less here'. let x = here'.1 in omega (arith, on.2, le, less, x)))
 
   pub onward : (following : Option Place) (after : Place) → IsNext z place word following → following ≡ Some after → IsOn after
@@ -157,8 +160,8 @@ module _ (b : Board) (key : List ℕ) (first p : Pass) (place : Place) (word : �
   last_item none ends =
       let lt : last u < n + 1 = omega (arith, ends) in
       item_of (u.items (last u)) refl (subst (λ m. IsWordOfContent (u.items m) word) ends reads)
-          ((chain_of z (trace p) is.lawful k).contents (last u))
-          (none (last u) lt (subst (IsPosition u) ends passed.chain.at.0))
+      ((chain_of z (trace p) is.lawful k).contents (last u))
+      (none (last u) lt (subst (IsPosition u) ends passed.chain.at.0))
     where
       item_of : (x : Content) → u.items (last u) ≡ x → IsWordOfContent x word → IsContent (trace p) k u (last u) x
           → x ≢ nothing → (named : Slot) × (u.items (last u) ≡ item named) × IsWordOf named word

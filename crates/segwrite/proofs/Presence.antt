@@ -173,10 +173,16 @@ pub peeks_for_none : (b : Board) (request : Request) (p : Pass) → IsPassOf b p
 peeks_for_none b request p is = let i = idles b p is in record { peeks = record { into = None; moved = i.moved; came = tt; plain = i.plain; memo = i.memo }; none = λ set. refl }
 
 pub peeks_then : (b : Board) (key : List ℕ) (p q r : Pass) → Peeks b key p q → Idles b q r → Peeks b key p r
-peeks_then b key p q r x i = record { into = x.into;
-    moved = moved_then b (peek (number p) x.into) [] p q r x.moved i.moved;
-    came = came_wider b.shape key (number p) (number p) x.into (trace p) (trace p) (trace q) (trace r) refl ([],
-    refl) (moved_on b [] q r i.moved) x.came; plain = i.plain ∙ x.plain; memo = i.memo ∙ x.memo }
+peeks_then b key p q r x i = record {
+  into = x.into;
+  moved = moved_then b (peek (number p) x.into) [] p q r x.moved i.moved;
+  came = came_wider b.shape key (number p) (number p) x.into (trace p) (trace p) (trace q) (trace r) refl (
+    [],
+    refl,
+  ) (moved_on b [] q r i.moved) x.came;
+  plain = i.plain ∙ x.plain;
+  memo = i.memo ∙ x.memo;
+}
 
 -- they are of no bucket
 pub peek_nowhere : (z : Shape) (bucket n : ℕ) (into : Option ℕ) → NoneAt z bucket (peek n into)
@@ -217,8 +223,8 @@ module _ (b : Board) (bucket : ℕ) (p q f : Pass) (quiet : IsQuiet b p) (took :
       let at_most : (held : Bool) → (let n : ℕ = cond held 1 0 in n) < 2 = λ held. elim held as (λ h. (let n : ℕ = cond h 1 0 in n) < 2) [ true ↦ omega arith | false ↦ omega arith ] in
       subst (λ n. inside (trace f) n segment < 2) (sym taken_moved.same)
       (subst (λ n. n < 2) (sym (moved_inside b taking p f segment taken_moved
-          ∙ (still_inside taking (trace p) (number p) segment (tt, bounces_still (number p) bucket took.takes.0)
-          ∙ quiet.inside segment)))
+      ∙ (still_inside taking (trace p) (number p) segment (tt, bounces_still (number p) bucket took.takes.0)
+      ∙ quiet.inside segment)))
       (at_most (is_held_in (holding p) segment)))
 
   -- the write goes on from there
@@ -246,6 +252,8 @@ unread_if into p q none x = unread p q (subst (λ o. PeeksInto o p q) none x)
 
 -- a call that reads nothing comes into none
 pub enters_none : (shape : Shape) (key : List ℕ) (p q : Pass) → ReadsNothing p q → EntersForKey shape key p q
-enters_none shape key p q none = record { raises_nothing = ap (λ (x : ℕ × ℕ × (ℕ → ℕ)). x.0) none;
-    glanced = λ bucket. ap (λ (x : ℕ × ℕ × (ℕ → ℕ)). x.2 bucket) none;
-    entered = inl (ap (λ (x : ℕ × ℕ × (ℕ → ℕ)). x.1) none) }
+enters_none shape key p q none = record {
+  raises_nothing = ap (λ (x : ℕ × ℕ × (ℕ → ℕ)). x.0) none;
+  glanced = λ bucket. ap (λ (x : ℕ × ℕ × (ℕ → ℕ)). x.2 bucket) none;
+  entered = inl (ap (λ (x : ℕ × ℕ × (ℕ → ℕ)). x.1) none);
+}

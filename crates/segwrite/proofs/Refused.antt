@@ -92,8 +92,8 @@ told_by_look b request expected now version bucket p q few is clean home there a
     let z = b.shape in let k = bucket_of z (key_of request) in
     let same = moved_at b [] p q (key_of request) idles.moved (subst (λ n. HasBit z (trace p) (number p) n) home clean.bit) tt in
     let read_now : (after z (seen q)).version k ≡ version = same.version
-        ∙ (ap (after z (seen p)).version (sym home)
-        ∙ (sym (unwritten_is z (trace p) bucket few is.lawful clean.unwritten) ∙ sym read)) in
+    ∙ (ap (after z (seen p)).version (sym home)
+    ∙ (sym (unwritten_is z (trace p) bucket few is.lawful clean.unwritten) ∙ sym read)) in
     subst (λ n. IsToldBy (reply_now b q request) (then_some (not (eqb n expected)) write.Exists)) read_now
     (told_by_version request expected now ((after z (seen q)).version k) (is_some (present (after z (seen q)) (moment_of request) (key_of request))) asked
     (ap is_some (same.finds (moment_of request)) ∙ (ap (λ m. is_some (present (after z (seen p)) m (key_of request))) (ap moment_of asked) ∙ there)))

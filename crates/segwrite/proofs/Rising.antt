@@ -41,8 +41,8 @@ item_rose z h g b n cell a v l l' before after here there up =
     let two = rose (tag_of a.key) (frequency_of h a.segment a.row) (frequency_of g a.segment a.row) a.segment a.row (some_tag a.key)
     (low_frequency z h a.segment a.row l) (low_frequency z g a.segment a.row l') (low_segment z a.segment v stands.within.0) (low_row z a.row v stands.within.1) up in
     subst (λ x. IsSameItem x (word z g cell) × (x ≤ word z g cell)) (sym was)
-        (subst (λ y. IsSameItem (packed (tag_of a.key) (frequency_of h a.segment a.row) a.segment a.row) y
-        × (packed (tag_of a.key) (frequency_of h a.segment a.row) a.segment a.row ≤ y)) (sym now) two)
+    (subst (λ y. IsSameItem (packed (tag_of a.key) (frequency_of h a.segment a.row) a.segment a.row) y
+    × (packed (tag_of a.key) (frequency_of h a.segment a.row) a.segment a.row ≤ y)) (sym now) two)
 
 -- an earlier word of an item is one that it had also where its word rose since
 pub earlier_yet : (old before now : ℕ) → IsSameItem old before → old ≤ before → IsSameItem before now × (before ≤ now) → IsSameItem old now × (old ≤ now)

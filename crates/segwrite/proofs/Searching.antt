@@ -50,9 +50,12 @@ pub begins_at : (b : Board) (p : Pass) (bucket : ℕ) → bucket < b.shape.bucke
 begins_at b p bucket lt =
     let z = b.shape in let place : Place = record { bucket = bucket; word = 1 } in
     let at : IsAt (trace p) bucket 1 (cell_at z place) =
-        subst (IsAt (trace p) bucket 1) (sym (cond-true (ltb bucket z.buckets) (OfBucket bucket 1)
-        (OfOverflow (bucket - z.buckets) 1) (lt-ltb bucket z.buckets lt))) (refl, refl,
-        (let s : 1 < 8 = omega arith in s)) in record {
+    subst (IsAt (trace p) bucket 1) (sym (cond-true (ltb bucket z.buckets) (OfBucket bucket 1)
+    (OfOverflow (bucket - z.buckets) 1) (lt-ltb bucket z.buckets lt))) (
+      refl,
+      refl,
+      (let s : 1 < 8 = omega arith in s),
+    ) in record {
       in_table = (omega (arith, lt), omega arith, omega arith);
       at = subst (λ n. IsItemAt z (trace p) bucket n (cell_at z place)) (sym (position_at z (trace p) bucket 1 place at)) ((omega arith, omega arith), at);
     }

@@ -71,8 +71,8 @@ module _ (b : Board) (key : List ℕ) (p q f s : Pass) (quiet : IsQuiet b p) {in
     (took : HasBegun b (bucket_of b.shape key) into p q) (idles : Idles b q f) (none : HasFullChain b key f)
     (why : CannotGrow b (bucket_of b.shape key) f)
     (freed : AddsAtOnce b (Freed (number f) (bucket_of b.shape key) false ∷ []) f s)
-        (free : (bucket_after b.shape (trace s) (bucket_of b.shape key)).holder ≡ None) (plain : s.plain ≡ f.plain)
-        (same : memo s ≡ memo f) where
+    (free : (bucket_after b.shape (trace s) (bucket_of b.shape key)).holder ≡ None) (plain : s.plain ≡ f.plain)
+    (same : memo s ≡ memo f) where
   abbrev k : ℕ
   k = bucket_of b.shape key
 
@@ -130,8 +130,8 @@ module _ (b : Board) (request : Request) (segment row : ℕ) (p q f r s : Pass) 
     (ready : IsReady b (bucket_of b.shape (key_of request)) before q f)
     (done : StoresUnderBit b request segment row f r) (keeps : KeepsSegments b r) (uses : UsesRow segment f r)
     (freed : AddsAtOnce b (Freed (number r) (bucket_of b.shape (key_of request)) true ∷ []) r s)
-        (free : (bucket_after b.shape (trace s) (bucket_of b.shape (key_of request))).holder ≡ None)
-        (plain : s.plain ≡ r.plain) (same : memo s ≡ memo r) where
+    (free : (bucket_after b.shape (trace s) (bucket_of b.shape (key_of request))).holder ≡ None)
+    (plain : s.plain ≡ r.plain) (same : memo s ≡ memo r) where
   abbrev home : ℕ
   home = bucket_of b.shape (key_of request)
 
@@ -148,9 +148,11 @@ module _ (b : Board) (request : Request) (segment row : ℕ) (p q f r s : Pass) 
   moved = moved_then b before (stores (number f) request segment row done.0 done.1) q f r ready.moved done.2
 
   elsewhere : (other : ℕ) → home ≢ other → NoneAt b.shape other own
-  elsewhere other apart = (ne_eqb home other apart,
-      none_at_both b.shape other (fills (number f) segment row words done.1) before
-      (fills_nowhere b.shape other (number f) segment row words done.1) (ready.elsewhere other apart))
+  elsewhere other apart = (
+    ne_eqb home other apart,
+    none_at_both b.shape other (fills (number f) segment row words done.1) before
+        (fills_nowhere b.shape other (number f) segment row words done.1) (ready.elsewhere other apart),
+  )
 
   still : AreStill own
   still = (tt, still_both (fills (number f) segment row words done.1) before (fills_still (number f) segment row words done.1) ready.still)
@@ -164,8 +166,8 @@ module _ (b : Board) (request : Request) (segment row : ℕ) (p q f r s : Pass) 
   pub stored_goes_on : GoesOn b p s
   stored_goes_on = write_goes_on b home p q quiet took r s own (entry ∷ []) true moved elsewhere still adds freed free
       uses_all.memo (ap (λ (x : PlainPart). x.locked) uses_all.plain)
-          (ap (λ (x : PlainPart). x.is_holding) uses_all.plain)
-          (keeps_plain b (Freed (number r) home true ∷ []) r s freed.moved (tt, tt) plain keeps)
+      (ap (λ (x : PlainPart). x.is_holding) uses_all.plain)
+      (keeps_plain b (Freed (number r) home true ∷ []) r s freed.moved (tt, tt) plain keeps)
 
   pub stored_answer : AddsEntry (Wrote (number p) request Stored (Some segment)) p s × UsesRow segment p s
   stored_answer =
@@ -180,8 +182,8 @@ module _ (b : Board) (request : Request) (segment row : ℕ) (p q f r s : Pass) 
       (first_wider b.shape request (number f) (number p) (trace f) (trace r) (trace p) (trace s) (ready.moved.same
       ∙ (took_moved b home p q quiet took).same)
       (begins_on (trace p) (trace q) (trace f) (moved_on b (tries b home p q quiet took) p q
-          (took_moved b home p q quiet took)) (moved_on b before q f ready.moved))
-          (moved_on b (Freed (number r) home true ∷ []) r s freed.moved) done.3)
+      (took_moved b home p q quiet took)) (moved_on b before q f ready.moved))
+      (moved_on b (Freed (number r) home true ∷ []) r s freed.moved) done.3)
 
   pub stored_peeking : PeeksInto into p s
   stored_peeking = write_peeking b home p q quiet took r s own (entry ∷ []) true moved elsewhere still adds freed free

@@ -109,7 +109,7 @@ one_used segment row x used = own_alike x segment (counted (row + 1)) one_more (
 
 module _ (b : Board) (request : Request) (target : Target) (segment row : ℕ) (p q r : Pass) (next : IsNextRow b request segment row p)
     (places : List ℕ) (m : AddsEvents b (fills (number p) segment row (row_of (key_of request) (value_of request))
-        places) p q) (d : AddsAtOnce b (linked_by b request segment row target.place q ∷ []) q r) where
+    places) p q) (d : AddsAtOnce b (linked_by b request segment row target.place q ∷ []) q r) where
   abbrev at : ℕ
   at = position b.shape (trace q) target.place
 
@@ -121,17 +121,20 @@ module _ (b : Board) (request : Request) (target : Target) (segment row : ℕ) (
   stores_all clean found =
       let own = fills (number p) segment row (row_of (key_of request) (value_of request)) places in
       let both : AddsEvents b (stores (number p) request segment row at places) p r =
-          subst (λ n. AddsEvents b (Linked n request segment row at ∷ own) p r) m.same
-          (moved_then b own (linked_by b request segment row target.place q ∷ []) p q r m d.moved) in
-      (at, places, moved_still b (stores (number p) request segment row at places) p r after_all.plain both
-          (owner_counted r.plain segment (row + 1)),
-          took_first b request target segment row own p q r after_all m m.pass clean.bit found d refl)
+      subst (λ n. AddsEvents b (Linked n request segment row at ∷ own) p r) m.same
+      (moved_then b own (linked_by b request segment row target.place q ∷ []) p q r m d.moved) in (
+        at,
+        places,
+        moved_still b (stores (number p) request segment row at places) p r after_all.plain both
+            (owner_counted r.plain segment (row + 1)),
+        took_first b request target segment row own p q r after_all m m.pass clean.bit found d refl,
+      )
 
   module _ (first : q.plain ≡ p.plain) (second : r.plain ≡ q.plain) where
     pub keeps_all : KeepsSegments b p → KeepsSegments b after_all
     keeps_all k =
         let kq = keeps_plain b (fills (number p) segment row (row_of (key_of request) (value_of request)) places) p
-            q m (fills_calm (number p) segment row (row_of (key_of request) (value_of request)) places) first k in
+        q m (fills_calm (number p) segment row (row_of (key_of request) (value_of request)) places) first k in
         keeps_named b _ q r segment row (refl, refl) d second (ap (λ (x : PlainPart). x.current) first ∙ next.current) (same_used p q segment first ∙ next.used) next.fits m.pass kq
 
     pub uses_all : memo q ≡ memo p → memo r ≡ memo q → UsesRow segment p after_all

@@ -46,8 +46,8 @@ pub told_at : (b : Board) (request : Request) (said : Reply) (segment : Option �
 told_at b request said segment p q on adds =
     let z = b.shape in let entry = Wrote (number p) request said segment in
     let one : mine (number p) (on.seen.0 ++ seen p) ≡ entry ∷ mine (number p) (seen p) =
-        ap (mine (number p)) (sym on.seen.1) ∙ subst (λ n. mine n (seen q) ≡ entry ∷ mine (number p) (seen p))
-        on.same adds in
+    ap (mine (number p)) (sym on.seen.1) ∙ subst (λ n. mine n (seen q) ≡ entry ∷ mine (number p) (seen p))
+    on.same adds in
     let came = came_in (number p) entry on.seen.0 (seen p) one in
     let now = subst (Begins (entry ∷ came.0)) (sym on.seen.1) came.2 in
     let lawful = legal z (trace q) on.quiet.pass.lawful in

@@ -44,9 +44,9 @@ use Rattle.segstore.proofs.UnderWrite.{HasBegun, begun, took_keeps}
 writes_with : (b : Board) (request : Request) (told : WriteAnswer) (p s : Pass) → ¬ (has_room b.shape p ≡ false)
     → locked_of p ≢ Some (bucket_of b.shape (key_of request)) → told ≢ write.NoRoom → told ≢ write.Busy
     → GoesOn b p s → IsWriteAnswer b.shape request told p s → CostsOfAnswer b.shape request told p s
-        → WritesInSteps b.shape request told p s → GrowsFor b.shape request p s
-        → EntersForKey b.shape (key_of request) p s → (depends_on_key request ≡ false → ReadsNothing p s)
-        → Writes b request told p s
+    → WritesInSteps b.shape request told p s → GrowsFor b.shape request p s
+    → EntersForKey b.shape (key_of request) p s → (depends_on_key request ≡ false → ReadsNothing p s)
+    → Writes b request told p s
 writes_with b request told p s room unlocked some free on answer of_answer steps grows enters unread = record {
   on = on;
   answer = answer;
@@ -108,9 +108,9 @@ module _ (b : Board) (w : When) (request : Request) (key value words : List ℕ)
   -- what the refusal is told from
   pub may_refuse : b.shape.first_version < 2 ^ 32
       → IsPassOf b f × (b.shape.first_version < 2 ^ 32
-          × (HasCleanBit b f bucket × (bucket ≡ k × (MayEnterAny f
-          × (Finds b (key_of request) (target_of found) f
-          × request ≡ request_of w (key_of request) (value_of request) now)))))
+      × (HasCleanBit b f bucket × (bucket ≡ k × (MayEnterAny f
+      × (Finds b (key_of request) (target_of found) f
+      × request ≡ request_of w (key_of request) (value_of request) now)))))
   may_refuse few = (search.moved.pass, (few, (clean, (at_home, (may_enter b bucket p q f quiet took search, (finds_of b (key_of request) found f found_it, (asks w key value now request asked).2))))))
 
   module _ (g : Pass) (refusal : Option WriteAnswer) (looks : PeeksFor b request f g) (told : IsToldBy (reply_now b g request) refusal) where
@@ -201,8 +201,8 @@ module _ (b : Board) (w : When) (request : Request) (key value words : List ℕ)
             let undrawn = full_undrawn b (key_of request) p g r s quiet had_it none.0 none.2 none.1 freed' free' plain same in
             let peeks = full_peeking b (key_of request) p g r s quiet had_it none.0 none.2 none.1 freed' free' plain same in
             writes_with b request write.BucketFull p s rows took_it.unlocked (λ e. cc) (λ e. cc)
-                (full_goes_on b (key_of request) p g r s quiet had_it none.0 none.2 none.1 freed' free' plain same)
-                (answer.0, adds, answer.1)
+            (full_goes_on b (key_of request) p g r s quiet had_it none.0 none.2 none.1 freed' free' plain same)
+            (answer.0, adds, answer.1)
             (full_takes b (key_of request) p g r s quiet had_it none.0 none.2 none.1 freed' free' plain same, undrawn)
             (steps (unroomed_steps b (key_of request) g g r still looks.peeks.moved.pass clean_there found room unmade made drawn))
             (grows_none b.shape request p s undrawn)
@@ -222,24 +222,27 @@ module _ (b : Board) (w : When) (request : Request) (key value words : List ℕ)
         -- what storing asks for
         pub may_store : (segment row tag : ℕ) → refusal ≡ None → (current_of p ≡ Some segment) × (used_of p segment ≡ Some row) × (row < b.shape.rows) → IsKey words → tag ≡ tag_of words
             → IsPassOf b r × (KeepsSegments b r × (IsNextRow b request segment row r
-                × (Requests b request words value r × (IsKey words
-                × (tag ≡ tag_of words × (HasCleanBit b r k × IsTarget b (key_of request) target r))))))
+            × (Requests b request words value r × (IsKey words
+            × (tag ≡ tag_of words × (HasCleanBit b r k × IsTarget b (key_of request) target r))))))
         may_store segment row tag unrefused next key_of_words tagged =
             let same = there.ready.plain ∙ had.plain in let a = asks w key value now request asked in
             let stored = sym (subst (IsToldBy (reply_now b g request)) unrefused told) in
             let row_is : IsNextRow b request segment row r = record { current = ap (λ (x : PlainPart). x.current) same ∙ next.0; used = same_used p r segment same ∙ next.1; fits = next.2 } in
-            let requests : Requests b request words value r = record { of = (a.0 ∙ sym copied, a.1); stored = stored
-                ∙ (λ i. reply_to request (is_some ((sym (there.same.finds (moment_of request))) i))
-                ((sym there.same.version) i)) } in
+            let requests : Requests b request words value r = record {
+              of = (a.0 ∙ sym copied, a.1);
+              stored = stored
+                  ∙ (λ i. reply_to request (is_some ((sym (there.same.finds (moment_of request))) i))
+                  ((sym there.same.version) i));
+            } in
             (there.ready.moved.pass, (keeps, (row_is, (requests, (key_of_words, (tagged, (there.ready.clean, there.target_is)))))))
 
         pub ends_stored : ¬ (has_room b.shape p ≡ false) → refusal ≡ None → (segment row : ℕ) (t s : Pass) → StoresUnderBit b request segment row r t → KeepsSegments b t → UsesRow segment r t
             → AddsAtOnce b (Freed (number t) bucket true ∷ []) t s
-                → (bucket_after b.shape (trace s) bucket).holder ≡ None → s.plain ≡ t.plain → memo s ≡ memo t
-                → (TakesAtMost 0 g r → TakesAtMost (most_steps_of_write request) p s)
-                → (TakesAtMost (most_steps_of_growth b.shape) g r
-                → TakesAtMost (most_steps_of_write request + most_steps_of_growth b.shape) p s)
-                → Writes b request write.Stored p s
+            → (bucket_after b.shape (trace s) bucket).holder ≡ None → s.plain ≡ t.plain → memo s ≡ memo t
+            → (TakesAtMost 0 g r → TakesAtMost (most_steps_of_write request) p s)
+            → (TakesAtMost (most_steps_of_growth b.shape) g r
+            → TakesAtMost (most_steps_of_write request + most_steps_of_growth b.shape) p s)
+            → Writes b request write.Stored p s
         ends_stored rows unrefused segment row t s done kept uses freed free plain same steps grown =
             let freed' = subst (λ n. AddsAtOnce b (Freed (number t) n true ∷ []) t s) at_home freed in
             let free' = subst (λ n. (bucket_after b.shape (trace s) n).holder ≡ None) at_home free in
@@ -247,8 +250,8 @@ module _ (b : Board) (w : When) (request : Request) (key value words : List ℕ)
             let version = (after b.shape (seen g)).version k in
             let adds : standing (after b.shape (seen g)) (key_of request) ≡ None → adds_key request false ≡ true = λ absent.
             adds_absent request version (ap (λ o. reply_to request (is_some o) version)
-                (sym (none_present b (key_of request) (moment_of request) g absent))
-                ∙ subst (IsToldBy (reply_now b g request)) unrefused told) in
+            (sym (none_present b (key_of request) (moment_of request) g absent))
+            ∙ subst (IsToldBy (reply_now b g request)) unrefused told) in
             let peeks = stored_peeking b request segment row p g r t s quiet had_it there.own there.ready done kept uses freed' free' plain same in
             writes_with b request write.Stored p s rows took_it.unlocked (λ e. cc) (λ e. cc)
             (stored_goes_on b request segment row p g r t s quiet had_it there.own there.ready done kept uses freed' free' plain same) (segment, answer.0, answer.1) (
@@ -257,12 +260,15 @@ module _ (b : Board) (w : When) (request : Request) (key value words : List ℕ)
             )
             (⊎_elim
             (λ none. inl (steps none))
-            (λ more. inr (grown more.0, in_need_wider b.shape (key_of request) (number p) (trace g) (trace r)
-                (trace p) (trace s) (moved_on b _ p g had_it.moved)
-                (begins_on (trace r) (trace t) (trace s) (moved_on b _ r t done.2) (moved_on b _ t s freed.moved))
-                (subst (λ n. DrewInNeed b.shape (key_of request) n (trace g) (trace r)) had.moved.same more.1)))
+            (λ more. inr (
+              grown more.0,
+              in_need_wider b.shape (key_of request) (number p) (trace g) (trace r)
+                  (trace p) (trace s) (moved_on b _ p g had_it.moved)
+                  (begins_on (trace r) (trace t) (trace s) (moved_on b _ r t done.2) (moved_on b _ t s freed.moved))
+                  (subst (λ n. DrewInNeed b.shape (key_of request) n (trace g) (trace r)) had.moved.same more.1),
+            ))
             (room_steps b (key_of request) g g r still looks.peeks.moved.pass clean_there found room target given found_now made drawn))
             (stored_grows b request segment row p g r t s quiet had_it there.own there.ready done kept uses freed' free' plain same (seen g) draws adds)
             (enters_once s (begins_on (trace g) (trace r) (trace s) (moved_on b _ g r there.ready.moved)
-                (begins_on (trace r) (trace t) (trace s) (moved_on b _ r t done.2) (moved_on b _ t s freed.moved)))
-                peeks) (unread_set s peeks)
+            (begins_on (trace r) (trace t) (trace s) (moved_on b _ r t done.2) (moved_on b _ t s freed.moved)))
+            peeks) (unread_set s peeks)

@@ -100,8 +100,11 @@ module _ (z : Shape) (w : World) (l : IsLawfulWorld z w) where
 longest : (z : Shape) (ss : List (ℕ × Step)) (w : World) → Reaches z ss w → 0 < length w.views → (p : ℕ) × (v : View) × (get_elem? w.views p ≡ some v) × (v.trace ≡ w.trace)
 longest z [] w o lt = let v = in_list w.views 0 lt in (0, v.0, v.1, (o.new 0 v.0 v.1).unseen ∙ sym o.untouched)
 longest z (s ∷ ss) w r lt = let b = r.0 in
-    let v : View = record r.1 { trace = adds s.1 s.0 (get_or b.words (address z (cell s.1)) 0) ++ b.trace;
-    looks = b.trace ∷ r.1.looks; turn = suc (steps_of b.views) } in
+    let v : View = record r.1 {
+      trace = adds s.1 s.0 (get_or b.words (address z (cell s.1)) 0) ++ b.trace;
+      looks = b.trace ∷ r.1.looks;
+      turn = suc (steps_of b.views);
+    } in
     (s.0, v, ap (λ x. get_elem? x.views s.0) r.5 ∙ set_here b.views s.0 v (inside_list b.views s.0 r.1 r.3), sym (ap (λ (x : World). x.trace) r.5))
 
 pub says_of_passes : (z : Shape) (ss : List (ℕ × Step)) (w : World) → Reaches z ss w → IsLawfulWorld z w → PassesFacts z w

@@ -46,8 +46,8 @@ names z h b n t s r f v l i q lf e = by_content ((bucket_after z h b).items n) r
     by_content (copy w) is' k e = let a = i.0 in let x = k.0 in absurd (omega arith)
     by_content (item a) is' k e = let st = (coherent z h l).items b n a is' in
         let parts = same_parts (tag_of a.key) (frequency_of h a.segment a.row) a.segment a.row t f s r
-            (low_frequency z h a.segment a.row l) lf (low_segment z a.segment v st.within.0) q.2
-            (low_row z a.row v st.within.1) q.3 e in
+        (low_frequency z h a.segment a.row l) lf (low_segment z a.segment v st.within.0) q.2
+        (low_row z a.row v st.within.1) q.3 e in
         record {
           slot = a;
           here = is';
@@ -74,8 +74,8 @@ bump_at z p b n c t s r f g h v lb i q lt lg l =
     let old = packed t f s r in
     ⊎_elim
     (λ y. let x = names z h b n t s r f v l i.0 q (omega arith)
-        (sym (word_content z h (bucket_after z h b) n (above (bucket_after z h b) n i.0))
-        ∙ (sym (at_word z h b n c i.1) ∙ eqb-true found old y)) in
+    (sym (word_content z h (bucket_after z h b) n (above (bucket_after z h b) n i.0))
+    ∙ (sym (at_word z h b n c i.1) ∙ eqb-true found old y)) in
     let fq = x.frequency in
     made z (bump b n c t s r f g) p h (e ∷ []) (packed t g s r) (cond-true (eqb found old) (e ∷ []) [] y) (either_hit found old (packed t g s r) y) inside' (refl, tt)
     (l, record { guarded = tt; follows = tt; suits = (omega arith, lg) })

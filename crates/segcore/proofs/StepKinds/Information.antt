@@ -67,8 +67,12 @@ take_at z p b false h (Some q) held knows lt l =
     (lt, omega arith)
     (refl, tt)
     (l, record { guarded = tt; follows = tt; suits = (q, held, others_bit (Some q) p q refl knows) })
-    (λ c i. still z h (Bounced p b) (record { homes = λ m. refl; drawn = refl; rows = λ s r j. refl;
-        segments = λ s. refl }) (λ a n. refl) c ∙ unchanged z h (OfBucket b 0) (v * 2 ^ 32 + 1) (rw held refl) c)
+    (λ c i. still z h (Bounced p b) (record {
+      homes = λ m. refl;
+      drawn = refl;
+      rows = λ s r j. refl;
+      segments = λ s. refl;
+    }) (λ a n. refl) c ∙ unchanged z h (OfBucket b 0) (v * 2 ^ 32 + 1) (rw held refl) c)
 
 pub glance_at : (z : Shape) (p b : ℕ) (own : Bool) (h : List Event) (o : Option ℕ)
     → (bucket_after z h b).holder ≡ o → is o p ≡ own → b < z.buckets → IsLawful z h
@@ -81,8 +85,12 @@ glance_at z p b false h (Some q) held knows lt l = let v = (z.first_version + (b
     made z (glance b false) p h (Glanced p b ∷ []) (word z h (OfBucket b 0))
     (rw held (let e : (v * 2 ^ 32 + 1) % 2 ≡ 1 = omega arith in rw e refl)) refl (lt, omega arith) (refl, tt)
     (l, record { guarded = tt; follows = tt; suits = (q, held, others_bit (Some q) p q refl knows) })
-    (λ c i. still z h (Glanced p b) (record { homes = λ m. refl; drawn = refl; rows = λ s r j. refl;
-        segments = λ s. refl }) (λ a n. refl) c ∙ unchanged z h (OfBucket b 0) (word z h (OfBucket b 0)) refl c)
+    (λ c i. still z h (Glanced p b) (record {
+      homes = λ m. refl;
+      drawn = refl;
+      rows = λ s r j. refl;
+      segments = λ s. refl;
+    }) (λ a n. refl) c ∙ unchanged z h (OfBucket b 0) (word z h (OfBucket b 0)) refl c)
 
 -- whether a pass has the bit stays so
 pub bit_known : (z : Shape) (more h : List Event) (p b : ℕ) (own : Bool) → IsLawful z (more ++ h)
@@ -128,7 +136,7 @@ release_at z p b c said h held w spared l =
     (λ d i. touch z then e b 0 x (OfBucket b 0) l (refl, refl, omega arith) (record { homes = λ m. refl; drawn = refl; rows = λ s r j. refl; segments = λ s. refl })
     (change_at z then e b 0 x (λ k. refl)
     (λ m. subst (λ u. word_in z (e ∷ then) (acts e u) m ≡ cond (eqb 0 m) x (word_in z then u m)) (sym same_b)
-        (info_only z then e (bucket_after z h b) (acts e (bucket_after z h b)) refl (λ c. refl) m))
+    (info_only z then e (bucket_after z h b) (acts e (bucket_after z h b)) refl (λ c. refl) m))
     (λ a n f. refl)) d i
     ∙ ap (cond (same_cell (OfBucket b 0) d) x) (told_same z p said h d))
 

@@ -66,8 +66,8 @@ unnamed : (z : Shape) (h : List Event) (s r b m : ℕ) → IsLawful z h → (row
     → (a : Slot) → (bucket_after z h b).items m ≡ item a → (eqb s a.segment && eqb r a.row) ≡ false
 unnamed z h s r b m l none a is' = false_from_ne_true (eqb s a.segment && eqb r a.row) (λ t. let q = and_parts (eqb s a.segment) (eqb r a.row) t in
     none-some a.key (sym none ∙ subst (λ y. (row_after h s y).linked ≡ Some a.key) (sym (eqb-true r a.row q.1))
-        (subst (λ y. (row_after h y a.row).linked ≡ Some a.key) (sym (eqb-true s a.segment q.0))
-        ((coherent z h l).items b m a is').linked)))
+    (subst (λ y. (row_after h y a.row).linked ≡ Some a.key) (sym (eqb-true s a.segment q.0))
+    ((coherent z h l).items b m a is').linked)))
 
 pub above : (u : Bucket) (n : ℕ) → IsPosition u n → 0 < n
 above u n i = let e = i.1 in omega arith
@@ -83,12 +83,12 @@ link_at z p q s r n c old h f i l =
     let x = packed (tag_of (key_of q)) 1 s r in
     let inside' = cell_in z h b n c l f.guarded.0 i in
     let kept : (a m : ℕ) → content_word (e ∷ h) ((bucket_after z h a).items m) ≡ content_word h
-        ((bucket_after z h a).items m) = (λ a m. linked_kept h p q s r n ((bucket_after z h a).items m)
-        (unnamed z h s r a m l f.suits.0.3)) in
+    ((bucket_after z h a).items m) = (λ a m. linked_kept h p q s r n ((bucket_after z h a).items m)
+    (unnamed z h s r a m l f.suits.0.3)) in
     let new : content_word (e ∷ h) (item (slot (key_of q) s r)) ≡ x =
-        ap (λ y. packed (tag_of (key_of q)) y s r)
-        (cond-true (eqb s s && eqb r r) 1 (frequency_of h s r)
-        (and_from (eqb s s) (eqb r r) (eq-eqb s s refl) (eq-eqb r r refl))) in
+    ap (λ y. packed (tag_of (key_of q)) y s r)
+    (cond-true (eqb s s && eqb r r) 1 (frequency_of h s r)
+    (and_from (eqb s s) (eqb r r) (eq-eqb s s refl) (eq-eqb r r refl))) in
     ⊎_elim
     (λ t. made z (link q s r n c old) p h (e ∷ []) x (cond-true (eqb found old) (e ∷ []) [] t) (either_hit found old x t) inside' (refl, tt) (l, f)
     (λ d i'. touch z h e b n x c l i (record { homes = λ m. refl; drawn = refl; rows = λ s' r' j. linked_words (row_at e s' r') (row_after h s' r') (key_of q) j; segments = λ s'. refl })
@@ -119,14 +119,14 @@ relink_at z p k x i f s r n c h g at l =
     let lt = above u n ((coherent z h l).items b n (slot k x i) g.suits.2).position in
     let inside' = cell_in z h b n c l g.guarded.0 at in
     let kept : (a m : ℕ) → content_word (e ∷ h) ((bucket_after z h a).items m) ≡ content_word h
-        ((bucket_after z h a).items m) = (λ a m. moved_kept h p k x i s r n ((bucket_after z h a).items m)
-        (unnamed z h s r a m l g.suits.0.3)) in
+    ((bucket_after z h a).items m) = (λ a m. moved_kept h p k x i s r n ((bucket_after z h a).items m)
+    (unnamed z h s r a m l g.suits.0.3)) in
     let was : found ≡ packed (tag_of k) (frequency_of h x i) x i = at_word z h b n c at ∙ (word_content z h u n lt ∙ ap (content_word h) g.suits.2) in
     ⊎_elim
     (λ t. let ef : frequency_of h x i ≡ f = same_frequency (tag_of k) (frequency_of h x i) f x i (sym was ∙ eqb-true found old t) in
     let new : content_word (e ∷ h) (item (slot k s r)) ≡ y =
-        ap (λ q. packed (tag_of k) q s r) (cond-true (eqb s s && eqb r r) (frequency_of h x i) (frequency_of h s r)
-        (and_from (eqb s s) (eqb r r) (eq-eqb s s refl) (eq-eqb r r refl)) ∙ ef) in
+    ap (λ q. packed (tag_of k) q s r) (cond-true (eqb s s && eqb r r) (frequency_of h x i) (frequency_of h s r)
+    (and_from (eqb s s) (eqb r r) (eq-eqb s s refl) (eq-eqb r r refl)) ∙ ef) in
     made z (relink k x i f s r n c) p h (e ∷ []) y (cond-true (eqb found old) (e ∷ []) [] t) (either_hit found old y t) inside' (refl, tt) (l, g)
     (λ d i'. touch z h e b n y c l at (record { homes = λ m. refl; drawn = refl; rows = λ s' r' j. linked_words (row_at e s' r') (row_after h s' r') k j; segments = λ s'. refl })
     (change_at z h e b n y (λ k. refl)

@@ -99,8 +99,8 @@ draw_at z p b d from h has sp ed lt few l =
         ∙ (same_in b (8 * d + w) ∙ (word_content z h (bucket_after z h b) (8 * d + w) (omega arith)
         ∙ (beyond h b (bucket_after z h b) (8 * d + w) ((bucket_after z h b).items (8 * d + w)) sp (omega arith) ((chain_of z h l b).contents (8 * d + w)) ∙ ap (overflow_word z h w) (sym old)))))
         (λ f. ap (overflow_word z (Drew p b d from ∷ h) w)
-            (cond-false (eqb from m) (Some (record { bucket = b; depth = d })) (home_of h m) f)
-            ∙ over_still z h (Drew p b d from) same_in w (home_of h m))
+        (cond-false (eqb from m) (Some (record { bucket = b; depth = d })) (home_of h m) f)
+        ∙ over_still z h (Drew p b d from) same_in w (home_of h m))
         (cases_Bool (eqb from m))
       where
         unhomed : (m : ℕ) (o : Option Home) → home_of h m ≡ o → drawn_in h ≤ m → o ≡ None

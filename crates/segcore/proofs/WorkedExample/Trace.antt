@@ -41,8 +41,8 @@ past_stored : (header key value n : ℕ) → cond (eqb 4 (suc (suc (suc (suc (su
 past_stored header key value n =
     let m : ℕ = suc (suc (suc (suc (suc n)))) in
     cond-false (eqb 4 m) value _ (ne_eqb 4 m (λ e. omega (arith, e)))
-        ∙ cond-false (eqb 1 m) key _ (ne_eqb 1 m (λ e. omega (arith, e)))
-        ∙ cond-false (eqb 0 m) header 0 (ne_eqb 0 m (λ e. omega (arith, e)))
+    ∙ cond-false (eqb 1 m) key _ (ne_eqb 1 m (λ e. omega (arith, e)))
+    ∙ cond-false (eqb 0 m) header 0 (ne_eqb 0 m (λ e. omega (arith, e)))
 
 -- a row of one byte of key and one of value
 holds : (u : Row) (k v : ℕ) → u.words 0 ≡ 257 → u.words 1 ≡ k → u.words 2 ≡ 0 → u.words 3 ≡ 0 → u.words 4 ≡ v → ((n : ℕ) → u.words (suc (suc (suc (suc (suc n))))) ≡ 0) → Holds u (k ∷ []) (v ∷ [])

@@ -6,9 +6,12 @@ use Rattle.segcache.proofs.Closed.{closed, empty, not_closed, nothing_closed}
 use Rattle.segcache.proofs.closing.segcache_raw_close.Goals as goal
 
 pub returns-then-not-is_empty : goal.returns-then-not-is_empty
-returns-then-not-is_empty c =
-    (status.NoHandle, c.number.ensures, not_closed c.args.cache.now.value c.args.cursor.now.value
-        c.is_empty.new.self.value (sym c.is_empty.ensures.empty ∙ c.if-not-is_empty.true) c.is_empty.ensures.same)
+returns-then-not-is_empty c = (
+  status.NoHandle,
+  c.number.ensures,
+  not_closed c.args.cache.now.value c.args.cursor.now.value
+      c.is_empty.new.self.value (sym c.is_empty.ensures.empty ∙ c.if-not-is_empty.true) c.is_empty.ensures.same,
+)
 
 pub returns-in_default : goal.returns-in_default
 returns-in_default c = (

@@ -27,6 +27,9 @@ returns-then-not-has_all_back c =
 
 pub returns : goal.returns
 returns c =
-    let all : c.has_all_back.result ≡ true = search rules in
-    (status.Ok, search rules, freed_cache _ _ c.in-Some.kept.value status.Ok c.in-Some.ensures.taken
-        (subst (λ (k : Kept). AreAllBack k) c.deref-2.ensures (c.has_all_back.ensures.0 all), c.take.ensures.none))
+    let all : c.has_all_back.result ≡ true = search rules in (
+      status.Ok,
+      search rules,
+      freed_cache _ _ c.in-Some.kept.value status.Ok c.in-Some.ensures.taken
+          (subst (λ (k : Kept). AreAllBack k) c.deref-2.ensures (c.has_all_back.ensures.0 all), c.take.ensures.none),
+    )

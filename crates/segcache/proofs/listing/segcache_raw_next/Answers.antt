@@ -11,8 +11,10 @@ use Rattle.segcache.proofs.listing.segcache_raw_next.Goals as goal
 pub returns-in_default : goal.returns-in_default
 returns-in_default c =
     unanswered (λ (b a : Option Kept) (returned : Status). Listed b a (c.args.key.now, c.args.key_len.now)
-        (c.args.key.now, c.args.key_len.now) (c.args.value.now, c.args.value_len.now) (c.args.value.now,
-        c.args.value_len.now) returned) _ _ _
+    (c.args.key.now, c.args.key_len.now) (c.args.value.now, c.args.value_len.now) (
+      c.args.value.now,
+      c.args.value_len.now,
+    ) returned) _ _ _
     c.in_default.ensures.taken c.take.ensures.none c.number.ensures ((refl, refl, refl), refl)
 
 pub returns-then-ne : goal.returns-then-ne
@@ -25,8 +27,8 @@ returns-then-ne c =
     let other : ¬ (why ≡ status.Ok) = search rules in
     let sought = subst (λ (k : Kept). SeeksIn k mid why) c.deref_mut.ensures.value c.seek-sought.ensures in
     answered (λ (b a : Option Kept) (returned : Status). Listed b a key key value value returned) _ _ was mid _ why
-        c.in-Some.ensures.taken c.fill.ensures c.number-then-ne.ensures
-        (unlisted was mid why key value other sought)
+    c.in-Some.ensures.taken c.fill.ensures c.number-then-ne.ensures
+    (unlisted was mid why key value other sought)
 
 pub returns : goal.returns
 returns c =
@@ -41,5 +43,5 @@ returns c =
     let sought = subst (λ (s : Status). SeeksIn was mid s) ok (subst (λ (k : Kept). SeeksIn k mid c.seek-sought.result) c.deref_mut.ensures.value c.seek-sought.ensures) in
     let next = subst (λ (k : Kept). ReturnsIn k is key key' value value' c.next-status.result) c.deref_mut-2.ensures.value c.next-status.ensures in
     answered (λ (b a : Option Kept) (returned : Status). Listed b a key key' value value' returned) _ _ was is _
-        c.next-status.result c.in-Some.ensures.taken c.fill-2.ensures c.number-2.ensures
-        (listed was mid is key key' value value' c.next-status.result sought next)
+    c.next-status.result c.in-Some.ensures.taken c.fill-2.ensures c.number-2.ensures
+    (listed was mid is key key' value value' c.next-status.result sought next)

@@ -20,8 +20,8 @@ returns c =
     let out : Out = (c.args.value.now, c.args.value_len.now) in
     let next : Out = (c.copy_get.new.value, c.copy_get.new.value_len) in
     good_key (WritesNothing out next c.copy_get.result) c.args.key.now
-        (MakesGet c.args.key.now c.args.now out next c.copy_get.result) c.args.client.now c.get.new.self
-        (c.in-Some.ensures.variant.0 refl)
+    (MakesGet c.args.key.now c.args.now out next c.copy_get.result) c.args.client.now c.get.new.self
+    (c.in-Some.ensures.variant.0 refl)
     (record {
       answer = c.get.result;
       calls = subst (λ (k : List ℕ). MakesCall k (At c.args.now (Gets k c.get.result)) c.args.client.now c.get.new.self) c.in-Some.ensures.some c.get.ensures;

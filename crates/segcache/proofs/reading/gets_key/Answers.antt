@@ -23,8 +23,8 @@ returns c =
     let version : ℕ = c.args.version.now in
     let next_version : ℕ = c.copy_gets.new.version in
     good_key (WritesNoVersion out next version next_version c.copy_gets.result) c.args.key.now
-        (MakesGets c.args.key.now c.args.now out next version next_version c.copy_gets.result) c.args.client.now
-        c.gets.new.self (c.in-Some.ensures.variant.0 refl)
+    (MakesGets c.args.key.now c.args.now out next version next_version c.copy_gets.result) c.args.client.now
+    c.gets.new.self (c.in-Some.ensures.variant.0 refl)
     (record {
       answer = c.gets.result;
       calls = subst (λ (k : List ℕ). MakesCall k (At c.args.now (GetsVersion k c.gets.result)) c.args.client.now c.gets.new.self) c.in-Some.ensures.some c.gets.ensures;

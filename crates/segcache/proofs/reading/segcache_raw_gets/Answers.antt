@@ -9,6 +9,6 @@ use Rattle.segcache.proofs.reading.segcache_raw_gets.Goals as goal
 pub returns-in_default : goal.returns-in_default
 returns-in_default c =
     unanswered (λ (b a : Option Kept) (returned : Status). GotVersion c.args.key.now c.args.now b a
-        (c.args.value.now, c.args.value_len.now) (c.args.value.now, c.args.value_len.now) c.args.version.now
-        c.args.version.now returned) _ _ _
+    (c.args.value.now, c.args.value_len.now) (c.args.value.now, c.args.value_len.now) c.args.version.now
+    c.args.version.now returned) _ _ _
     c.in_default.ensures.taken c.take.ensures.none c.number.ensures (((refl, refl), refl), refl)

@@ -14,7 +14,7 @@ pub returns : goal.returns
 returns c =
     let R : Status → Type 0 = λ (why : Status). Returns status.Ok why × (table_of c.index_stats-stats.result ≡ c.args.counts.now) in
     let Does : SharedClient → SharedClient → Type 0 = λ (old new : SharedClient). (stats : IndexStats)
-        × ReturnsTables stats old new × (table_of c.index_stats-stats.result ≡ table_of stats)
-        × (status.Ok ≡ status.Ok) in
+    × ReturnsTables stats old new × (table_of c.index_stats-stats.result ≡ table_of stats)
+    × (status.Ok ≡ status.Ok) in
     by_client R Does c.args.kept.now (kept.Client c.index_stats-stats.new.self) c.in-Client.client c.index_stats-stats.new.self c.in-Client.is refl
     (c.index_stats-stats.result, c.index_stats-stats.ensures, refl, refl)

@@ -46,8 +46,8 @@ returns c =
       answer = c.write.result;
       calls = subst (λ (k : List ℕ). CallsKey k (At c.args.now (WritesWhen c.args.when k c.args.value.now c.write.result)) c.in-Client.client c.write.new.self) c.in-Some.ensures.some
           (subst (λ (v : List ℕ). CallsKey c.in-Some.key
-              (At c.args.now (WritesWhen c.args.when c.in-Some.key v c.write.result)) c.in-Client.client
-              c.write.new.self) c.in-Some-new.ensures.some c.write.ensures.calls);
+          (At c.args.now (WritesWhen c.args.when c.in-Some.key v c.write.result)) c.in-Client.client
+          c.write.new.self) c.in-Some-new.ensures.some c.write.ensures.calls);
       wants = subst (λ (k : List ℕ). c.write.new.self.wants ≡ write_wants c.write.result (shard_of (length c.in-Client.client.guests.items) k)) c.in-Some.ensures.some c.write.ensures.wants;
       returns = c.of_write.ensures;
     })))

@@ -30,7 +30,7 @@ returns-then-turn-clause-clears c = λ deadline.
     let tried = c.loop-tried.tried in
     let below = c.loop-tried-test.true in
     clears_then (board_of c.args.index.now) (Some c.args.terms.least) deadline (2 * tried) 2 16 c.loop-tried.effort
-        turn.result.effort c.plus-effort.result c.args.pass.now c.loop-tried.pass turn.new.pass
+    turn.result.effort c.plus-effort.result c.args.pass.now c.loop-tried.pass turn.new.pass
     (omega (arith, below)) c.plus-effort.ensures (c.loop-tried.invariant.clears deadline) (turn.ensures.clears deadline)
 
 pub loop-tried-preserved : goal.loop-tried-preserved

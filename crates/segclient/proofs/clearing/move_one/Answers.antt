@@ -10,7 +10,7 @@ pub evict_one-requires-clause-clearing : goal.evict_one-requires-clause-clearing
 evict_one-requires-clause-clearing c =
     let told = c.keep_row_into-told in
     left_stays (board_of c.args.index.now) c.args.source c.args.pass.now told.new.pass c.requires.quiet
-        c.requires.clearing told.result c.cutoff_of-cutoff.result c.args.to.into c.in-Left.is told.ensures.keeps
+    c.requires.clearing told.result c.cutoff_of-cutoff.result c.args.to.into c.in-Left.is told.ensures.keeps
 
 pub returns-in-Moved-clause-cleared : goal.returns-in-Moved-clause-cleared
 returns-in-Moved-clause-cleared c =
@@ -25,7 +25,7 @@ returns-in-Moved-clause-clears c = λ deadline.
     let from = c.args.source in
     let by = c.cutoff_of-cutoff.result in
     kept_clears (board_of c.args.index.now) from c.args.pass.now told.new.pass c.requires.quiet c.requires.clearing
-        c.args.to.least deadline c.from.result by c.args.to.into told.result c.next_row.result.effort
+    c.args.to.least deadline c.from.result by c.args.to.into told.result c.next_row.result.effort
     (ap (λ (t : Turn). t.effort) c.next_row.ensures) (c.from.ensures ∙ c.row_moved_by.ensures.value from.segment from.row by c.args.to.into) c.cutoff_of-cutoff.ensures.enough told.ensures.keeps
 
 pub returns-in-Left-clause-on : goal.returns-in-Left-clause-on
@@ -40,7 +40,7 @@ returns-in-Left-clause-clears c = λ deadline.
     let least = c.args.to.least in
     clears_after b (Some least) deadline 1 1 2 c.evict_one.result.effort p q c.evict_one.new.pass (omega arith)
     (left_clears b c.args.source p q c.requires.quiet c.requires.clearing least deadline c.cutoff_of-cutoff.result
-        c.args.to.into told.result c.in-Left.is c.cutoff_of-cutoff.ensures.enough told.ensures.keeps)
+    c.args.to.into told.result c.in-Left.is c.cutoff_of-cutoff.ensures.enough told.ensures.keeps)
     (c.evict_one.ensures.clears (Some least) deadline)
 
 pub returns-in-NoRoom : goal.returns-in-NoRoom

@@ -54,5 +54,5 @@ returns-clause-puts c =
     let b = board_of c.args.index.now in
     let last = c.put_at_last in
     whole_put b (plan_of c.args.order) (most_for_put b.shape) (most_calls b.shape) last.result.0 last.result.1
-        c.args.pass.now last.new.pass (put_few b.shape)
-        (last.ensures.puts c.args.pass.now c.set_if_timely-first.ensures.sets)
+    c.args.pass.now last.new.pass (put_few b.shape)
+    (last.ensures.puts c.args.pass.now c.set_if_timely-first.ensures.sets)

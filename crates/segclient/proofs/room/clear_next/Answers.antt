@@ -35,8 +35,8 @@ returns-clause-clears c = λ deadline.
     let own : owner b.shape segment ≡ number kept.new.pass = own_in_ring b (number p) c.args.ring.now segment c.requires.own range.0 range.1 ∙ sym kept.ensures.on.same in
     let out = effort_from 0 0 c.from-2.result in
     arranges_as b (Some c.args.cutoff) deadline (b.shape.rows + 1) (b.shape.rows + 1)
-        (effort_from (0 + 0) (kept.result + 0) (0 + c.from-2.result)) (effort_from 0 c.from.result c.from-2.result)
-        p c.evict.new.pass (omega arith)
+    (effort_from (0 + 0) (kept.result + 0) (0 + c.from-2.result)) (effort_from 0 c.from.result c.from-2.result)
+    p c.evict.new.pass (omega arith)
     refl (let same = c.from.ensures in omega (arith, same)) (omega arith)
     (arranges_then b (Some c.args.cutoff) deadline b.shape.rows 1 (effort_from 0 kept.result 0) out p kept.new.pass c.evict.new.pass (kept.ensures.keeps deadline)
     (evict_arranges b (Some c.args.cutoff) deadline segment c.evict.result out kept.new.pass c.evict.new.pass refl refl (c.from-2.ensures ∙ c.evicted_by-keys.ensures) own c.evict.ensures.evicts))

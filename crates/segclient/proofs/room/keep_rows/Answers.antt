@@ -62,6 +62,6 @@ returns-in-NoRoom c =
       few = let few = was.few in let one = moved.ensures.few in omega (arith, few, one, below, rows);
       keeps = λ deadline. arranges_as b (Some cutoff) deadline (row + 1) b.shape.rows effort effort p r (omega (arith, below, rows)) refl refl refl
           (row_more b (Some cutoff) deadline cutoff segment row cutoff row moved.result c.loop-row.kept told p q r
-              refl (omega arith) c.requires.own was.on.same (moved.ensures.value segment row cutoff)
-              (was.keeps deadline) stayed);
+          refl (omega arith) c.requires.own was.on.same (moved.ensures.value segment row cutoff)
+          (was.keeps deadline) stayed);
     }

@@ -65,8 +65,8 @@ loop-tried-preserved c =
     let below : tried < b.shape.segments_each = subst (λ s. tried < s.segments_each) c.shape-tried-end.ensures c.loop-tried-test.true in
     let own = subst (λ n. IsOwnRing b.shape n ring) was.on.same was.own in
     let over : Tried b c.args.deadline current ring (left + 1) (2 * tried) c.loop-tried.keys p q =
-        subst (λ n. Tried b c.args.deadline current ring n (2 * tried) c.loop-tried.keys p q)
-        (let e : b.shape.segments_each - tried ≡ left + 1 = omega arith in e) was.over in
+    subst (λ n. Tried b c.args.deadline current ring n (2 * tried) c.loop-tried.keys p q)
+    (let e : b.shape.segments_each - tried ≡ left + 1 = omega arith in e) was.over in
     record {
       on = elim c.if-ne.branch [
         | then-ne+else-is_refilled w ↦ subst (GoesOn b p) (sym w.pass-is) (goes_then b p q w.give_up-is_refilled.new.pass was.on w.give_up-is_refilled.ensures.on)
@@ -75,8 +75,8 @@ loop-tried-preserved c =
       own = elim c.if-ne.branch [
         | then-ne+else-is_refilled w ↦ subst (λ r. IsOwnRing b.shape (number r) c.next-segment.new.self) (sym w.pass-is)
             (subst (IsOwnRing b.shape (number w.give_up-is_refilled.new.pass)) (sym next.turned)
-                (subst (λ n. IsOwnRing b.shape n (turned ring)) (sym w.give_up-is_refilled.ensures.on.same)
-                (own_turned b.shape (number q) ring some was.own)))
+            (subst (λ n. IsOwnRing b.shape n (turned ring)) (sym w.give_up-is_refilled.ensures.on.same)
+            (own_turned b.shape (number q) ring some was.own)))
         | else-ne w ↦ subst (λ r. IsOwnRing b.shape (number r) c.next-segment.new.self) (sym w.pass-is)
             (subst (IsOwnRing b.shape (number q)) (sym next.turned)
             (own_turned b.shape (number q) ring some was.own))
@@ -85,8 +85,8 @@ loop-tried-preserved c =
         | then-ne+else-is_refilled w ↦
             let r = w.give_up-is_refilled.new.pass in
             let apart : current ≢ Some segment = λ same. false≢true
-                (sym (c.ne.ensures ∙ (ap (λ o. not (option_eq eqb o (Some segment))) same
-                ∙ ap not (eq-eqb segment segment refl))) ∙ w.if-ne.true) in
+            (sym (c.ne.ensures ∙ (ap (λ o. not (option_eq eqb o (Some segment))) same
+            ∙ ap not (eq-eqb segment segment refl))) ∙ w.if-ne.true) in
             let gives = subst (λ made. GivesUp b segment c.args.deadline made w.give_up-is_refilled.result.1 q r) w.if-is_refilled.false w.give_up-is_refilled.ensures.gives_up in
             ap current_of w.pass-is ∙ refused_apart b segment c.args.deadline w.give_up-is_refilled.result.1 q r gives (λ now. absurd (apart (sym was.current ∙ now))) ∙ was.current
         | else-ne w ↦ ap current_of w.pass-is ∙ was.current
@@ -96,14 +96,14 @@ loop-tried-preserved c =
             let r = w.give_up-is_refilled.new.pass in
             let more = w.give_up-is_refilled.result.1 in
             let apart : current ≢ Some segment = λ same. false≢true
-                (sym (c.ne.ensures ∙ (ap (λ o. not (option_eq eqb o (Some segment))) same
-                ∙ ap not (eq-eqb segment segment refl))) ∙ w.if-ne.true) in
+            (sym (c.ne.ensures ∙ (ap (λ o. not (option_eq eqb o (Some segment))) same
+            ∙ ap not (eq-eqb segment segment refl))) ∙ w.if-ne.true) in
             let gives = subst (λ made. GivesUp b segment c.args.deadline made more q r) w.if-is_refilled.false w.give_up-is_refilled.ensures.gives_up in
             let mine = own_in_ring b (number q) ring segment was.own next.in_range.0 next.in_range.1 in
             let sum = c.loop-tried.keys + w.from-keys.result in
             let to = refused_next b c.args.deadline current ring p some own left (2 * tried) c.loop-tried.keys q
-                over r segment more (2 * (tried + 1)) sum next.value mine was.current apart (omega arith)
-                (ap (λ n. c.loop-tried.keys + n) w.from-keys.ensures) gives in
+            over r segment more (2 * (tried + 1)) sum next.value mine was.current apart (omega arith)
+            (ap (λ n. c.loop-tried.keys + n) w.from-keys.ensures) gives in
             subst (λ k. Tried b c.args.deadline current c.next-segment.new.self left (2 * (tried + 1)) k p c.if-ne.pass) (sym w.keys-is)
             (subst (λ s. Tried b c.args.deadline current c.next-segment.new.self left (2 * (tried + 1)) sum p s) (sym w.pass-is)
             (subst (λ t. Tried b c.args.deadline current t left (2 * (tried + 1)) sum p r) (sym next.turned) to))
@@ -139,14 +139,14 @@ returns-clause-room c =
     let own = subst (λ n. IsOwnRing b.shape n ring) was.on.same was.own in
     let ends = ap (λ s. s.segments_each) c.shape-tried-end.ensures in
     let over : Tried b c.args.deadline current ring 0 (2 * tried) c.loop-tried.keys p q =
-        subst (λ n. Tried b c.args.deadline current ring n (2 * tried) c.loop-tried.keys p q)
-        (let e : b.shape.segments_each - tried ≡ 0 = omega (arith, ends) in e) was.over in
+    subst (λ n. Tried b c.args.deadline current ring n (2 * tried) c.loop-tried.keys p q)
+    (let e : b.shape.segments_each - tried ≡ 0 = omega (arith, ends) in e) was.over in
     at_last b c.args.deadline current ring p some own (2 * tried) c.loop-tried.keys q over c.in-Some.last
-        c.in-Some.is was.current was.on c.give_up-is_made.new.pass c.give_up-is_made.result.0
-        c.give_up-is_made.result.1
+    c.in-Some.is was.current was.on c.give_up-is_made.new.pass c.give_up-is_made.result.0
+    c.give_up-is_made.result.1
     (2 * b.shape.segments_each + 2) c.from.result (c.loop-tried.keys + c.from-2.result)
-        (current_own b q c.in-Some.last was.on.quiet (was.current ∙ c.in-Some.is)) (omega (arith, ends))
-        (ap (λ n. c.loop-tried.keys + n) c.from-2.ensures) c.from.ensures c.give_up-is_made.ensures.gives_up
+    (current_own b q c.in-Some.last was.on.quiet (was.current ∙ c.in-Some.is)) (omega (arith, ends))
+    (ap (λ n. c.loop-tried.keys + n) c.from-2.ensures) c.from.ensures c.give_up-is_made.ensures.gives_up
 
 pub returns-in_default-clause-room : goal.returns-in_default-clause-room
 returns-in_default-clause-room c =
@@ -161,6 +161,6 @@ returns-in_default-clause-room c =
     let own = subst (λ n. IsOwnRing b.shape n ring) was.on.same was.own in
     let ends = ap (λ s. s.segments_each) c.shape-tried-end.ensures in
     let over : Tried b c.args.deadline current ring 0 (2 * tried) c.loop-tried.keys p q =
-        subst (λ n. Tried b c.args.deadline current ring n (2 * tried) c.loop-tried.keys p q)
-        (let e : b.shape.segments_each - tried ≡ 0 = omega (arith, ends) in e) was.over in
+    subst (λ n. Tried b c.args.deadline current ring n (2 * tried) c.loop-tried.keys p q)
+    (let e : b.shape.segments_each - tried ≡ 0 = omega (arith, ends) in e) was.over in
     none_left b c.args.deadline current ring p some own (2 * tried) c.loop-tried.keys q over (2 * b.shape.segments_each + 2) (omega (arith, ends)) c.in_default.is was.current

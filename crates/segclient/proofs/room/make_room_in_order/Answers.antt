@@ -80,7 +80,7 @@ returns-in_default-clause-arranges c =
     let p = c.args.pass.now in
     let below : c.loop-tried.tried < b.shape.segments_each = subst (λ s. c.loop-tried.tried < s.segments_each) c.shape-tried-end.ensures c.loop-tried-test.true in
     passed_over b c.args.policy.deadline (2 * c.loop-tried.tried) (most_in_turn b.shape) c.loop-tried.keys
-        c.evicting.result p c.loop-tried.pass (omega arith) c.evicting.ensures c.loop-tried.invariant.over
+    c.evicting.result p c.loop-tried.pass (omega arith) c.evicting.ensures c.loop-tried.invariant.over
 
 pub returns-clause-arranges : goal.returns-clause-arranges
 returns-clause-arranges c =
@@ -88,5 +88,5 @@ returns-clause-arranges c =
     let p = c.args.pass.now in
     let ends = ap (λ s. s.segments_each) c.shape-tried-end.ensures in
     passed_over b c.args.policy.deadline (2 * c.loop-tried.tried) (most_in_turn b.shape) c.loop-tried.keys
-        c.evicting-2.result p c.loop-tried.pass (omega (arith, ends)) c.evicting-2.ensures
-        c.loop-tried.invariant.over
+    c.evicting-2.result p c.loop-tried.pass (omega (arith, ends)) c.evicting-2.ensures
+    c.loop-tried.invariant.over

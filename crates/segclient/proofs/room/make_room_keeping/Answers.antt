@@ -29,8 +29,8 @@ returns-then-has_room-clause-room c =
     let wide = arranges_wider b least deadline turn first.result.1 p first.new.pass first.ensures.room.arranges in
     room_left b least deadline most (most_at_last b.shape) c.plus-effort.result p cleared.new.pass (omega arith)
     (arranges_plus b least deadline turn (b.shape.rows + 1) most first.result.1 cleared.result c.plus-effort.result
-        p first.new.pass cleared.new.pass (omega arith) c.plus-effort.ensures wide.0
-        (cleared.ensures.clears deadline))
+    p first.new.pass cleared.new.pass (omega arith) c.plus-effort.ensures wide.0
+    (cleared.ensures.clears deadline))
     (sym c.has_room.ensures ∙ c.if-has_room.true)
     (cleared.ensures.until deadline (first.ensures.room.until c.if-not-is_made.false))
 
@@ -39,8 +39,8 @@ returns-clause-on c =
     let b = board_of c.args.index.now in
     let p = c.args.pass.now in
     goes_then b p c.clear_next.new.pass c.make_room-is_made-2.new.pass
-        (goes_then b p c.make_room-is_made.new.pass c.clear_next.new.pass c.make_room-is_made.ensures.on
-        c.clear_next.ensures.on) c.make_room-is_made-2.ensures.on
+    (goes_then b p c.make_room-is_made.new.pass c.clear_next.new.pass c.make_room-is_made.ensures.on
+    c.clear_next.ensures.on) c.make_room-is_made-2.ensures.on
 
 pub returns-clause-room : goal.returns-clause-room
 returns-clause-room c =
@@ -55,9 +55,9 @@ returns-clause-room c =
     let most = turn + (b.shape.rows + 1) in
     let wide = arranges_wider b least deadline turn first.result.1 p first.new.pass first.ensures.room.arranges in
     room_again b least deadline most turn (most_at_last b.shape) last.result.0 c.plus-effort.result last.result.1
-        c.plus.result p cleared.new.pass last.new.pass (omega arith) c.plus.ensures (cleared.ensures.on.same
-        ∙ first.ensures.on.same)
+    c.plus.result p cleared.new.pass last.new.pass (omega arith) c.plus.ensures (cleared.ensures.on.same
+    ∙ first.ensures.on.same)
     (arranges_plus b least deadline turn (b.shape.rows + 1) most first.result.1 cleared.result c.plus-effort.result
-        p first.new.pass cleared.new.pass (omega arith) c.plus-effort.ensures wide.0
-        (cleared.ensures.clears deadline))
+    p first.new.pass cleared.new.pass (omega arith) c.plus-effort.ensures wide.0
+    (cleared.ensures.clears deadline))
     last.ensures.room

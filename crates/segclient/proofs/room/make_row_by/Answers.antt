@@ -26,5 +26,5 @@ returns-clause-room c =
     let none = effort_from 0 0 0 in
     let wide = arranges_wider b cutoff deadline 1 none p first.new.pass c.if-take_free.ensures.takes in
     room_later b cutoff deadline 1 (most_at_last b.shape) (most_for_room b.shape) last.result.0 none last.result.1
-        last.result.1 p first.new.pass last.new.pass (omega arith) (sym (none_more last.result.1))
-        first.ensures.on.same wide.0 last.ensures.room
+    last.result.1 p first.new.pass last.new.pass (omega arith) (sym (none_more last.result.1))
+    first.ensures.on.same wide.0 last.ensures.room

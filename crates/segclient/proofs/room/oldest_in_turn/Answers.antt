@@ -26,8 +26,8 @@ loop-tried-preserved c =
     let mine : owner b.shape segment ≡ n = own_in_ring b n ring segment was.ring next.in_range.0 next.in_range.1 in
     let on : (other : ℕ) → owner b.shape other ≡ n → other ≢ segment → IsAhead ring (b.shape.segments_each - tried) other → IsAhead c.next-segment.new.self left other =
     λ other its ne ahead. subst (λ t. IsAhead t left other) (sym next.turned)
-        (still_ahead b.shape n ring some was.ring other its left (λ e. ne (e ∙ sym next.value))
-        (subst (λ m. IsAhead ring m other) long ahead)) in
+    (still_ahead b.shape n ring some was.ring other its left (λ e. ne (e ∙ sym next.value))
+    (subst (λ m. IsAhead ring m other) long ahead)) in
     record {
       ring = subst (IsOwnRing b.shape n) (sym next.turned) (own_turned b.shape n ring some was.ring);
       own = elim c.if-not-is_found.branch [

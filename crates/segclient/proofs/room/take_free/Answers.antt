@@ -32,8 +32,8 @@ returns-in_default-refill c =
 pub returns-clause-cleared : goal.returns-clause-cleared
 returns-clause-cleared c =
     refill_stays (board_of c.args.index.now) c.args.pass.now c.refill.new.pass c.requires.quiet
-        c.in-Some-oldest_in.segment c.args.deadline c.refill.result c.args.segments.now.source
-        (c.is_source.ensures c.if-is_source.false) c.refill.ensures.refills c.requires.cleared
+    c.in-Some-oldest_in.segment c.args.deadline c.refill.result c.args.segments.now.source
+    (c.is_source.ensures c.if-is_source.false) c.refill.ensures.refills c.requires.cleared
 
 pub returns-clause-takes : goal.returns-clause-takes
 returns-clause-takes c = took_free (board_of c.args.index.now) c.args.deadline c.in-Some-oldest_in.segment

@@ -22,7 +22,7 @@ pub loop-row-preserved : goal.loop-row-preserved
 loop-row-preserved c = let b = c.args.board.now in let l = c.loop-row in
     let used : used_of c.args.pass.now c.args.segment ≡ Some c.unwrap-used.result = sym c.used.ensures ∙ c.unwrap-used.ensures in
     let has = row_there b c.args.segment c.args.from l.row l.evicted c.unwrap-used.result c.args.pass.now l.pass
-        l.invariant c.requires.in_use used c.loop-row-test.true in elim c.match-evict_used_row.branch [
+    l.invariant c.requires.in_use used c.loop-row-test.true in elim c.match-evict_used_row.branch [
       | in-Evicted w ↦ subst (λ n. Evicting b c.args.segment c.args.from (l.row + 1) n c.args.pass.now
           c.evict_used_row.new.pass) (sym w.evicted-is)
           (evicting_one b c.args.segment c.args.from l.row l.evicted c.args.pass.now l.pass
@@ -46,8 +46,8 @@ returns-clause-answer c = let l = c.loop-row in let r = c.requires in let done =
     let low = unnamed_few c.args.board.now.shape c.args.segment c.args.from c.unwrap-used.result c.args.pass.now r.unnamed (sym c.used.ensures ∙ c.unwrap-used.ensures) in
     let all : used_of c.args.pass.now c.args.segment ≡ Some l.row = sym c.used.ensures ∙ (c.unwrap-used.ensures ∙ ap Some (let e : c.unwrap-used.result ≡ l.row = omega arith in e)) in
     subst (IsEvictAnswer c.args.board.now.shape c.args.segment (evict.Evicted l.evicted) c.args.pass.now) done
-        (emptied_answer c.args.board.now c.args.segment c.args.from l.row l.evicted c.args.pass.now l.pass r.in_use
-        r.ended l.invariant all)
+    (emptied_answer c.args.board.now c.args.segment c.args.from l.row l.evicted c.args.pass.now l.pass r.in_use
+    r.ended l.invariant all)
 
 pub returns-in-Busy-clause-costs : goal.returns-in-Busy-clause-costs
 returns-in-Busy-clause-costs c = let l = c.loop-row in let r = c.requires in
@@ -60,5 +60,5 @@ returns-clause-costs c = let l = c.loop-row in let r = c.requires in let done = 
     let low = unnamed_few c.args.board.now.shape c.args.segment c.args.from c.unwrap-used.result c.args.pass.now r.unnamed (sym c.used.ensures ∙ c.unwrap-used.ensures) in
     let all : used_of c.args.pass.now c.args.segment ≡ Some l.row = sym c.used.ensures ∙ (c.unwrap-used.ensures ∙ ap Some (let e : c.unwrap-used.result ≡ l.row = omega arith in e)) in
     subst (CostsOfEvict c.args.board.now c.args.segment c.args.from (evict.Evicted l.evicted) c.args.pass.now) done
-        (emptied_costs c.args.board.now c.args.segment c.args.from l.row l.evicted c.args.pass.now l.pass r.in_use
-        r.ended l.invariant all)
+    (emptied_costs c.args.board.now c.args.segment c.args.from l.row l.evicted c.args.pass.now l.pass r.in_use
+    r.ended l.invariant all)

@@ -12,9 +12,11 @@ returns-then-is_none c = let b = c.args.board.now in let r = c.item_of_row-bucke
     let first = has_later c.args.pass.now r.new.pass f.new.pass r.ensures.idles.moved.same r.ensures.idles.moved.steps f.ensures.looks in
     let stored = stored_over b r.result.0 r.result.1 _ r.new.pass f.new.pass f.ensures.idles.moved tt r.ensures.stored in
     let gone = found_none b r.result.0 r.result.1 f.result f.new.pass f.ensures.finds (c.is_none.ensures ∙ ap not c.if-is_none.true) in
-    record { evicts = of_place b r.result.1 c.args.segment c.args.row _ _ _ r.ensures.place
-        (row_is_gone b r.result.0 r.result.1 c.args.pass.now f.new.pass c.requires.quiet i first stored gone);
-        steps = (let read = r.ensures.steps in let looked = f.ensures.steps in omega (arith, read, looked)) }
+    record {
+      evicts = of_place b r.result.1 c.args.segment c.args.row _ _ _ r.ensures.place
+          (row_is_gone b r.result.0 r.result.1 c.args.pass.now f.new.pass c.requires.quiet i first stored gone);
+      steps = (let read = r.ensures.steps in let looked = f.ensures.steps in omega (arith, read, looked));
+    }
 
 pub take_to_write-requires-clause-pass : goal.take_to_write-requires-clause-pass
 take_to_write-requires-clause-pass c = let b = c.args.board.now in let r = c.item_of_row-bucket in let f = c.find_row in

@@ -20,7 +20,7 @@ loop-row-preserved c = let b = c.args.board.now in let s = c.args.segment in let
     let own = owns_used b p s c.args.used c.requires.quiet.pass c.requires.used ∙ sym l.invariant.idles.moved.same in elim c.if-is_named.branch [
       | then-is_named w ↦ subst (λ k. Counting b s (l.row + 1) k p n.new.pass) (sym w.named-is)
           (counting_one b s l.row l.named p l.pass n.new.pass own l.invariant n.ensures.idles n.ensures.looks
-              (subst (λ t. ReturnsNamed b.shape s l.row t n.new.pass) w.if-is_named.true n.ensures.told))
+          (subst (λ t. ReturnsNamed b.shape s l.row t n.new.pass) w.if-is_named.true n.ensures.told))
       | else-is_named w ↦ subst (λ k. Counting b s (l.row + 1) k p n.new.pass) (sym w.named-is)
           (counting_none b s l.row l.named p l.pass n.new.pass own l.invariant n.ensures.idles (subst (λ t. ReturnsNamed b.shape s l.row t n.new.pass) w.if-is_named.false n.ensures.told))
     ]

@@ -14,8 +14,8 @@ loop-row-preserved c = let b = c.args.board.now in let s = c.args.segment in let
     let used : used_of p s ≡ Some c.unwrap-used.result = sym c.used.ensures ∙ c.unwrap-used.ensures in
     let own = owns_used b p s c.unwrap-used.result c.requires.quiet.pass used in
     let item = item_of b s i c.args.cutoff l.row l.kept p l.pass c.requires.quiet c.requires.in_use
-        c.requires.target l.invariant c.unwrap-used.result used c.keep_used_row.new.pass c.loop-row-test.true in
-        elim c.match-keep_used_row.branch [
+    c.requires.target l.invariant c.unwrap-used.result used c.keep_used_row.new.pass c.loop-row-test.true in
+    elim c.match-keep_used_row.branch [
       | in-Moved w ↦ subst (λ n. Keeping b s i c.args.cutoff (l.row + 1) n p c.keep_used_row.new.pass)
           (sym w.kept-is) (keeping_moved b s i c.args.cutoff l.row l.kept p l.pass c.keep_used_row.new.pass own
           l.invariant c.requires.target.other w.in-Moved.ensures.keeps

@@ -26,7 +26,7 @@ returns-then-unwrap-cutoff c = let b = c.args.board.now in let r = c.item_of_row
     let word = unpacked c.unpack.result c.unwrap.result c.in-Some.seen.word c.unpack.ensures.some c.unwrap.ensures in record {
       keeps = kept_place b r.result.1 c.args.row.segment c.args.row.row c.args.into c.args.cutoff _ _ _ r.ensures.place
           (row_seldom b r.result.0 r.result.1 c.args.into c.args.cutoff c.args.pass.now f.new.pass c.requires.quiet
-              i first stored c.in-Some.seen c.in-Some.ensures.finds c.unwrap.result word c.if-unwrap-cutoff.true);
+          i first stored c.in-Some.seen c.in-Some.ensures.finds c.unwrap.result word c.if-unwrap-cutoff.true);
       steps = (let read = r.ensures.steps in let looked = f.ensures.steps in omega (arith, read, looked));
     }
 
@@ -38,7 +38,7 @@ returns-in_default-next_row_in c = let b = c.args.board.now in let r = c.item_of
     let word = unpacked c.unpack.result c.unwrap.result c.in-Some.seen.word c.unpack.ensures.some c.unwrap.ensures in record {
       keeps = kept_place b r.result.1 c.args.row.segment c.args.row.row c.args.into c.args.cutoff _ _ _ r.ensures.place
           (row_no_room b r.result.0 r.result.1 c.args.into c.args.cutoff c.args.pass.now f.new.pass c.requires.quiet
-              i first stored c.in-Some.seen c.in-Some.ensures.finds c.unwrap.result word c.if-unwrap-cutoff.false
+          i first stored c.in-Some.seen c.in-Some.ensures.finds c.unwrap.result word c.if-unwrap-cutoff.false
           c.in_default-next_row_in.ensures.next);
       steps = (let read = r.ensures.steps in let looked = f.ensures.steps in omega (arith, read, looked));
     }
@@ -58,7 +58,7 @@ returns-then-not-take_to_write c = let b = c.args.board.now in let r = c.item_of
     let word = unpacked c.unpack.result c.unwrap.result c.in-Some.seen.word c.unpack.ensures.some c.unwrap.ensures in record {
       keeps = kept_place b r.result.1 c.args.row.segment c.args.row.row c.args.into c.args.cutoff _ _ _ r.ensures.place
           (row_busy b r.result.0 r.result.1 c.args.into c.args.cutoff c.args.pass.now f.new.pass c.requires.quiet i
-              first stored c.in-Some.seen c.in-Some.ensures.finds c.unwrap.result word c.if-unwrap-cutoff.false
+          first stored c.in-Some.seen c.in-Some.ensures.finds c.unwrap.result word c.if-unwrap-cutoff.false
           c.take_to_write.new.pass (room_there b c.args.into c.in-Some-next_row_in.next f.new.pass c.in-Some-next_row_in.ensures.next) c.if-not-take_to_write.ensures.takes);
       steps = (let read = r.ensures.steps in let looked = f.ensures.steps in let tried = c.take_to_write.ensures.steps in omega (arith, read, looked, tried));
     }
@@ -70,8 +70,8 @@ move_row-is_moved-requires-clause-segments c = let b = c.args.board.now in let r
     let stored = stored_over b r.result.0 r.result.1 _ r.new.pass f.new.pass f.ensures.idles.moved tt r.ensures.stored in
     let word = unpacked c.unpack.result c.unwrap.result c.in-Some.seen.word c.unpack.ensures.some c.unwrap.ensures in
     segments_q b r.result.0 r.result.1 c.args.into c.args.cutoff c.args.pass.now f.new.pass c.requires.quiet i first
-        stored c.in-Some.seen c.in-Some.ensures.finds c.unwrap.result word c.if-unwrap-cutoff.false
-        c.take_to_write.new.pass c.if-not-take_to_write.ensures.takes
+    stored c.in-Some.seen c.in-Some.ensures.finds c.unwrap.result word c.if-unwrap-cutoff.false
+    c.take_to_write.new.pass c.if-not-take_to_write.ensures.takes
 
 pub move_row-is_moved-requires-clause-stored : goal.move_row-is_moved-requires-clause-stored
 move_row-is_moved-requires-clause-stored c = let b = c.args.board.now in let r = c.item_of_row-bucket in let f = c.find_row in
@@ -80,8 +80,8 @@ move_row-is_moved-requires-clause-stored c = let b = c.args.board.now in let r =
     let stored = stored_over b r.result.0 r.result.1 _ r.new.pass f.new.pass f.ensures.idles.moved tt r.ensures.stored in
     let word = unpacked c.unpack.result c.unwrap.result c.in-Some.seen.word c.unpack.ensures.some c.unwrap.ensures in
     stored_q b r.result.0 r.result.1 c.args.into c.args.cutoff c.args.pass.now f.new.pass c.requires.quiet i first
-        stored c.in-Some.seen c.in-Some.ensures.finds c.unwrap.result word c.if-unwrap-cutoff.false
-        c.take_to_write.new.pass c.if-not-take_to_write.ensures.takes
+    stored c.in-Some.seen c.in-Some.ensures.finds c.unwrap.result word c.if-unwrap-cutoff.false
+    c.take_to_write.new.pass c.if-not-take_to_write.ensures.takes
 
 pub move_row-is_moved-requires-clause-target : goal.move_row-is_moved-requires-clause-target
 move_row-is_moved-requires-clause-target c = let b = c.args.board.now in let r = c.item_of_row-bucket in let f = c.find_row in
@@ -90,8 +90,8 @@ move_row-is_moved-requires-clause-target c = let b = c.args.board.now in let r =
     let stored = stored_over b r.result.0 r.result.1 _ r.new.pass f.new.pass f.ensures.idles.moved tt r.ensures.stored in
     let word = unpacked c.unpack.result c.unwrap.result c.in-Some.seen.word c.unpack.ensures.some c.unwrap.ensures in
     target_q b r.result.0 r.result.1 c.args.into c.args.cutoff c.args.pass.now f.new.pass c.requires.quiet i first
-        stored c.in-Some.seen c.in-Some.ensures.finds c.unwrap.result word c.if-unwrap-cutoff.false
-        c.take_to_write.new.pass c.if-not-take_to_write.ensures.takes
+    stored c.in-Some.seen c.in-Some.ensures.finds c.unwrap.result word c.if-unwrap-cutoff.false
+    c.take_to_write.new.pass c.if-not-take_to_write.ensures.takes
     (target_place r.result.1 c.args.row.segment c.args.into c.args.pass.now r.ensures.place.0 c.requires.target)
 
 pub move_row-is_moved-requires-clause-next : goal.move_row-is_moved-requires-clause-next
@@ -101,15 +101,17 @@ move_row-is_moved-requires-clause-next c = let b = c.args.board.now in let r = c
     let stored = stored_over b r.result.0 r.result.1 _ r.new.pass f.new.pass f.ensures.idles.moved tt r.ensures.stored in
     let word = unpacked c.unpack.result c.unwrap.result c.in-Some.seen.word c.unpack.ensures.some c.unwrap.ensures in
     next_q b r.result.0 r.result.1 c.args.into c.args.cutoff c.args.pass.now f.new.pass c.requires.quiet i first
-        stored c.in-Some.seen c.in-Some.ensures.finds c.unwrap.result word c.if-unwrap-cutoff.false
-        c.take_to_write.new.pass c.if-not-take_to_write.ensures.takes
+    stored c.in-Some.seen c.in-Some.ensures.finds c.unwrap.result word c.if-unwrap-cutoff.false
+    c.take_to_write.new.pass c.if-not-take_to_write.ensures.takes
     c.in-Some-next_row_in.next c.in-Some-next_row_in.ensures.next
 
 pub release-requires : goal.release-requires
-release-requires c = let t = c.move_row-is_moved.ensures.moves in
-    (may_release c.args.board.now c.item_of_row-bucket.result.0 c.item_of_row-bucket.result.1 c.args.into
-        c.in-Some-next_row_in.next c.move_row-is_moved.result c.take_to_write.new.pass c.move_row-is_moved.new.pass
-        t, (t.bit.bit, t.bit.unwritten, t.bit.undrawn, tt))
+release-requires c = let t = c.move_row-is_moved.ensures.moves in (
+  may_release c.args.board.now c.item_of_row-bucket.result.0 c.item_of_row-bucket.result.1 c.args.into
+      c.in-Some-next_row_in.next c.move_row-is_moved.result c.take_to_write.new.pass c.move_row-is_moved.new.pass
+      t,
+  (t.bit.bit, t.bit.unwritten, t.bit.undrawn, tt),
+)
 
 pub returns-then-is_moved : goal.returns-then-is_moved
 returns-then-is_moved c = let b = c.args.board.now in let r = c.item_of_row-bucket in let f = c.find_row in
@@ -121,10 +123,10 @@ returns-then-is_moved c = let b = c.args.board.now in let r = c.item_of_row-buck
     let step = c.release.ensures.step.1 in record {
       keeps = kept_place b r.result.1 c.args.row.segment c.args.row.row c.args.into c.args.cutoff _ _ _ r.ensures.place
           (row_moved b r.result.0 r.result.1 c.args.into c.args.cutoff c.args.pass.now f.new.pass c.requires.quiet i
-              first stored c.in-Some.seen c.in-Some.ensures.finds c.unwrap.result word c.if-unwrap-cutoff.false
+          first stored c.in-Some.seen c.in-Some.ensures.finds c.unwrap.result word c.if-unwrap-cutoff.false
           c.take_to_write.new.pass c.if-not-take_to_write.ensures.takes c.in-Some-next_row_in.next next
-              c.move_row-is_moved.new.pass c.release.new.pass c.if-is_moved.ensures.moves c.release.ensures.did
-              c.release.ensures.free step.plain step.memo);
+          c.move_row-is_moved.new.pass c.release.new.pass c.if-is_moved.ensures.moves c.release.ensures.did
+          c.release.ensures.free step.plain step.memo);
       steps = (let read = r.ensures.steps in let looked = f.ensures.steps in let tried = c.take_to_write.ensures.steps in let under = c.if-is_moved.ensures.steps in
           let gives = one_step b c.move_row-is_moved.new.pass c.release.new.pass _ _ step in omega (arith, read, looked, tried, under, gives));
     }
@@ -138,11 +140,11 @@ returns-else-is_moved c = let b = c.args.board.now in let r = c.item_of_row-buck
     let step = c.release.ensures.step.1 in record {
       keeps = kept_place b r.result.1 c.args.row.segment c.args.row.row c.args.into c.args.cutoff _ _ _ r.ensures.place
           (row_went b r.result.0 r.result.1 c.args.into c.args.cutoff c.args.pass.now f.new.pass c.requires.quiet i
-              first stored c.in-Some.seen c.in-Some.ensures.finds c.unwrap.result word c.if-unwrap-cutoff.false
+          first stored c.in-Some.seen c.in-Some.ensures.finds c.unwrap.result word c.if-unwrap-cutoff.false
           c.take_to_write.new.pass c.if-not-take_to_write.ensures.takes
-              (room_there b c.args.into c.in-Some-next_row_in.next f.new.pass c.in-Some-next_row_in.ensures.next)
-              c.in-Some-next_row_in.next c.move_row-is_moved.new.pass c.release.new.pass c.if-is_moved.ensures.moves
-              c.release.ensures.did c.release.ensures.free step.plain step.memo);
+          (room_there b c.args.into c.in-Some-next_row_in.next f.new.pass c.in-Some-next_row_in.ensures.next)
+          c.in-Some-next_row_in.next c.move_row-is_moved.new.pass c.release.new.pass c.if-is_moved.ensures.moves
+          c.release.ensures.did c.release.ensures.free step.plain step.memo);
       steps = (let read = r.ensures.steps in let looked = f.ensures.steps in let tried = c.take_to_write.ensures.steps in let under = c.if-is_moved.ensures.steps in
           let gives = one_step b c.move_row-is_moved.new.pass c.release.new.pass _ _ step in omega (arith, read, looked, tried, under, gives));
     }

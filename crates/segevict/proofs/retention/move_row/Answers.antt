@@ -16,7 +16,7 @@ returns-in_default c = let r = c.requires in let f = c.find_row in record {
 pub copy_row-requires-clause-readable : goal.copy_row-requires-clause-readable
 copy_row-requires-clause-readable c = let r = c.requires in let f = c.find_row in
     readable c.args.board.now c.args.bucket c.args.item c.args.to.segment c.args.to.row c.args.pass.now f.new.pass
-        r.segments r.stored r.bit r.target r.next f.ensures.idles c.in-Some.target c.in-Some.ensures.finds
+    r.segments r.stored r.bit r.target r.next f.ensures.idles c.in-Some.target c.in-Some.ensures.finds
 
 pub copy_row-requires-clause-own : goal.copy_row-requires-clause-own
 copy_row-requires-clause-own c = let r = c.requires in let f = c.find_row in
@@ -27,24 +27,24 @@ relink-requires c = let r = c.requires in let f = c.find_row in let copy = c.cop
   e.moved.1.1.pass,
   subst (λ named. Relinks b named c.args.to.segment c.args.to.row t.place t.word copy.new.pass)
       (sym (slot_is b c.args.bucket c.args.item c.args.to.segment c.args.to.row c.args.pass.now f.new.pass
-          r.segments r.stored r.bit r.target r.next f.ensures.idles t c.in-Some.ensures.finds copy.new.pass
-          e.moved.0 e.moved.1.0 e.moved.1.1 e.own e.holds e.plain e.memo))
+      r.segments r.stored r.bit r.target r.next f.ensures.idles t c.in-Some.ensures.finds copy.new.pass
+      e.moved.0 e.moved.1.0 e.moved.1.1 e.own e.holds e.plain e.memo))
       (may_move b c.args.bucket c.args.item c.args.to.segment c.args.to.row c.args.pass.now f.new.pass r.segments
-          r.stored r.bit r.target r.next f.ensures.idles t c.in-Some.ensures.finds copy.new.pass e.moved.0
-          e.moved.1.0 e.moved.1.1 e.own e.holds e.plain e.memo),
+      r.stored r.bit r.target r.next f.ensures.idles t c.in-Some.ensures.finds copy.new.pass e.moved.0
+      e.moved.1.0 e.moved.1.1 e.own e.holds e.plain e.memo),
 )
 
 pub returns : goal.returns
 returns c = let r = c.requires in let f = c.find_row in let copy = c.copy_row in let e = copy.ensures in let b = c.args.board.now in let t = c.in-Some.target in
     let done = subst (λ named. HasRelinked b named c.args.to.segment c.args.to.row t.place copy.new.pass c.relink.new.pass)
     (slot_is b c.args.bucket c.args.item c.args.to.segment c.args.to.row c.args.pass.now f.new.pass r.segments
-        r.stored r.bit r.target r.next f.ensures.idles t c.in-Some.ensures.finds copy.new.pass e.moved.0 e.moved.1.0
-        e.moved.1.1 e.own e.holds e.plain e.memo)
+    r.stored r.bit r.target r.next f.ensures.idles t c.in-Some.ensures.finds copy.new.pass e.moved.0 e.moved.1.0
+    e.moved.1.1 e.own e.holds e.plain e.memo)
     c.relink.ensures.relinks in record {
       moves = subst (λ q. MovesRow b c.args.bucket c.args.item c.args.to.segment c.args.to.row true c.args.pass.now q) (sym c.set_used.ensures)
           (moves_one b c.args.bucket c.args.item c.args.to.segment c.args.to.row c.args.pass.now f.new.pass
-              r.segments r.stored r.bit r.target r.next f.ensures.idles t c.in-Some.ensures.finds copy.new.pass
-              e.moved.0 e.moved.1.0 e.moved.1.1 e.own e.holds e.plain e.memo c.relink.new.pass done);
+          r.segments r.stored r.bit r.target r.next f.ensures.idles t c.in-Some.ensures.finds copy.new.pass
+          e.moved.0 e.moved.1.0 e.moved.1.1 e.own e.holds e.plain e.memo c.relink.new.pass done);
       steps = subst (TakesAtMost (most_steps_to_move true) c.args.pass.now) (sym c.set_used.ensures)
           (let looked = f.ensures.steps in let copied = e.steps in let relinked = c.relink.ensures.steps in omega (arith, looked, copied, relinked));
     }

@@ -6,10 +6,15 @@ use Rattle.segevict.proofs.retention.try_to_relink.Goals as goal
 
 pub move_item-requires : goal.move_item-requires
 move_item-requires g c = let b = c.args.board.now in let p = c.args.pass.now in let r = c.requires in let x = c.unwrap-seen.result in
-    let word = unpacked c.unpack.result x c.args.target.word c.unpack.ensures.some c.unwrap-seen.ensures in
-    (r.0, (parts_of b g.named c.args.to.segment c.args.to.row c.args.target.place c.args.target.word p r.0 r.1 x
-        word, may_relink b g.named c.args.to.segment c.args.to.row c.args.target.place c.args.target.word p r.0 r.1
-        x.freq))
+    let word = unpacked c.unpack.result x c.args.target.word c.unpack.ensures.some c.unwrap-seen.ensures in (
+      r.0,
+      (
+        parts_of b g.named c.args.to.segment c.args.to.row c.args.target.place c.args.target.word p r.0 r.1 x
+            word,
+        may_relink b g.named c.args.to.segment c.args.to.row c.args.target.place c.args.target.word p r.0 r.1
+            x.freq,
+      ),
+    )
 
 pub returns : goal.returns
 returns g c = let r = c.requires in let m = c.move_item.ensures in let step = m.step.1 in record {

@@ -72,12 +72,12 @@ pub returns-then-same_item-clause-steps : goal.returns-then-same_item-clause-ste
 returns-then-same_item-clause-steps c = let l = c.look-word in let b = c.args.board.now in
     let one = one_step b c.loop-place.pass l.new.pass _ _ l.ensures.step in let before = c.loop-place.invariant.steps in
     let short = place_left b c.args.bucket c.loop-place.place c.loop-place.pass
-        c.loop-place.invariant.seeking.idles.moved.pass c.loop-place.invariant.seeking.chain in
-        omega (arith, one, before, short)
+    c.loop-place.invariant.seeking.idles.moved.pass c.loop-place.invariant.seeking.chain in
+    omega (arith, one, before, short)
 
 pub returns-in-None-clause-steps : goal.returns-in-None-clause-steps
 returns-in-None-clause-steps c = let l = c.look-word in let b = c.args.board.now in
     let one = one_step b c.loop-place.pass l.new.pass _ _ l.ensures.step in let before = c.loop-place.invariant.steps in
     let short = place_left b c.args.bucket c.loop-place.place c.loop-place.pass
-        c.loop-place.invariant.seeking.idles.moved.pass c.loop-place.invariant.seeking.chain in
-        omega (arith, one, before, short)
+    c.loop-place.invariant.seeking.idles.moved.pass c.loop-place.invariant.seeking.chain in
+    omega (arith, one, before, short)

@@ -23,11 +23,11 @@ loop-word-preserved c = record {
             ∙ ap (λ o. c.loop-word.pairs.items ++ option_to_list o) (sym x.in_default.is))
       ] in
       let more = lists_word (shape_of words) trace rest.lawful home (8 * depth + w) c.pair_at.result
-          c.loop-word.pairs.items (c.pair_at.ensures trace home (8 * depth + w) rest (is w (omega arith) high))
-          (c.loop-word.invariant.lists trace home depth rest is lists) in
+      c.loop-word.pairs.items (c.pair_at.ensures trace home (8 * depth + w) rest (is w (omega arith) high))
+      (c.loop-word.invariant.lists trace home depth rest is lists) in
       subst (λ n. IsListed words trace home n c.match-pair_at.pairs.items)
-          (let e : 8 * depth + w + 1 ≡ 8 * depth + (w + 1) = omega arith in
-          e) (subst (λ ps. IsListed words trace home (8 * depth + w + 1) ps) (sym items) more);
+      (let e : 8 * depth + w + 1 ≡ 8 * depth + (w + 1) = omega arith in
+      e) (subst (λ ps. IsListed words trace home (8 * depth + w + 1) ps) (sym items) more);
   few = let few = c.loop-word.invariant.few in elim c.match-pair_at.branch [
     | in-Some+in_ok-push x ↦ omega (arith, few, x.in_ok-push.ensures.len, ap (λ (ps : Vec (List ℕ × List ℕ) Global). ps.len) x.pairs-is)
     | in_default x ↦ omega (arith, few, ap (λ (ps : Vec (List ℕ × List ℕ) Global). ps.len) x.pairs-is)
@@ -38,8 +38,8 @@ pub returns-in_err-push-clause-wanted : goal.returns-in_err-push-clause-wanted
 returns-in_err-push-clause-wanted c = on_err c.from_residual.result (λ trace home depth rest is.
     let words = c.args.words.now in let w = c.loop-word.word in let low = c.loop-word.auto.word in let high = c.loop-word-test.true in
     let at = subst (IsPairAt (shape_of words) trace home (8 * depth + w)) c.in-Some.is
-        (c.pair_at.ensures trace home (8 * depth + w) rest (is w (omega arith) high)) in
-        (c.in-Some.pair.0, c.in-Some.pair.1, at.2))
+    (c.pair_at.ensures trace home (8 * depth + w) rest (is w (omega arith) high)) in
+    (c.in-Some.pair.0, c.in-Some.pair.1, at.2))
 
 pub returns : goal.returns
 returns c = record {

@@ -49,7 +49,7 @@ pub returns : goal.returns
 returns c = record {
   lists = λ trace rest lists.
       let deep = not_deeper c.args.words.now trace c.args.home c.loop-depth.depth c.loop-depth.bucket rest
-          (c.loop-depth.invariant.lists trace rest).0 in let over = c.loop-depth-test.false in absurd (omega arith);
+      (c.loop-depth.invariant.lists trace rest).0 in let over = c.loop-depth-test.false in absurd (omega arith);
   few = let up = c.loop-depth.auto.depth-end in let few = c.loop-depth.invariant.few in omega (arith, few, up);
   wanted = tt;
 }

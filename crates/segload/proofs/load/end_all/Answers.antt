@@ -39,8 +39,8 @@ loop-worker-preserved c =
     let commands = c.args.commands in
     let ended = c.end-ended.result in
     let here : slice_get workers (length totals.items) ≡ Some c.in-Some.worker =
-        subst (λ m. slice_get workers m ≡ Some c.in-Some.worker) (omega (arith, totals.ok.0))
-        (was.rest 0 c.in-Some.worker (ap (λ l. slice_get l 0) steps.0)) in
+    subst (λ m. slice_get workers m ≡ Some c.in-Some.worker) (omega (arith, totals.ok.0))
+    (was.rest 0 c.in-Some.worker (ap (λ l. slice_get l 0) steps.0)) in
     let same : length passes.items ≡ length totals.items = omega (arith, totals.ok.0, passes.ok.0, long) in
     let ends = one_more_ended b commands workers totals.items passes.items c.in-Some.worker ended.totals ended.pass same here c.end-ended.ensures was.ends in
     record {

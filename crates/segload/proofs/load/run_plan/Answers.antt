@@ -31,7 +31,7 @@ count_keys-requires g c =
     let ended = c.in-Ok-end_all.ended in
     let long : length workers.items ≡ b.shape.passes = sym workers.ok.0 ∙ (c.in-Ok-work_at_once.ensures.long ∙ c.in-Ok-begin_all.ensures.long) in
     are_all b (g.G.Gate.may_answer c.args.gate.now) (g.G.Gate.told c.args.gate.now) plan workers.items
-        ended.totals.items ended.passes.items long c.in-Ok-work_at_once.ensures.each c.in-Ok-end_all.ensures
+    ended.totals.items ended.passes.items long c.in-Ok-work_at_once.ensures.each c.in-Ok-end_all.ensures
 
 pub returns : goal.returns
 returns g c =

@@ -60,12 +60,15 @@ returns-then-hit-now c = let b = c.args.board.now in let p = c.args.pass.now in 
     let left = leaves b hit.item.seg q r c.leave_segment.ensures.moved in let reads = leave_then b m q r hit.item.seg x.reads c.leave_segment.ensures in record {
       holds = holds_none b c.args.key.now c.args.now Miss p m r c.requires.pass s.1 reads
           (let most = paced_from b c.args.key.now p m q 1 s.1 x.tries f.ensures.steps in
-              let away = c.leave_segment.ensures.steps in omega (arith, most, away)) (few_out m q r x.tries left)
-              (left.1 ∙ x.only_scans)
-          (λ keeps. (keeps, since_look b p m r (λ start. ReadsBetween b.shape c.args.key.now c.args.now
-              (event.seen start) (seen r) None) s.1 reads
-              (expired_reads b c.args.key.now hit m q r c.args.now x.answer c.leave_segment.ensures (let past =
-              c.if-hit-now.true in omega arith)))) (search rules);
+          let away = c.leave_segment.ensures.steps in omega (arith, most, away)) (few_out m q r x.tries left)
+          (left.1 ∙ x.only_scans)
+          (λ keeps. (
+            keeps,
+            since_look b p m r (λ start. ReadsBetween b.shape c.args.key.now c.args.now
+                (event.seen start) (seen r) None) s.1 reads
+                (expired_reads b c.args.key.now hit m q r c.args.now x.answer c.leave_segment.ensures (let past =
+                c.if-hit-now.true in omega arith)),
+          )) (search rules);
     }
 
 pub returns-else-hit-now : goal.returns-else-hit-now
@@ -78,8 +81,8 @@ returns-else-hit-now c =
     let found = found_from b.shape hit.place (item_word hit.item) key v.result (trace m) (trace t) (trace p) (up b key p m s.1) later in
     let starts = starts_on p m r (trace m) (look_starts b p m s.1) (steps_to m t r set.view late.reads.moved.steps) in
     let holds = takes_hold b p t r hit.place hit.item key v.result
-        (record { segment = hit.item.seg; row = hit.item.row }) c.requires.pass c.if-is_holding.ensures read found
-        refl refl set.pass set.view set.sets c.args.now hit.deadline
+    (record { segment = hit.item.seg; row = hit.item.row }) c.requires.pass c.if-is_holding.ensures read found
+    refl refl set.pass set.view set.sets c.args.now hit.deadline
     (deadline_lasts b q t hit.item.seg hit.deadline v.ensures.reads.looked.did.moved (is_inside b m q hit.item.seg x.reads.reads) x.answer.1) c.if-hit-now.false (trace m) starts later.saw.between.0 in
     let held = Some (held_at b.shape (trace t) key v.result hit.item.seg) in
     let still = out_then q t r (looked b q t v.ensures.reads.looked.did.moved) (same_view t r set.view) in
@@ -106,9 +109,12 @@ returns-in-Passed c = let b = c.args.board.now in let p = c.args.pass.now in let
   holds = holds_none b c.args.key.now c.args.now Miss p m q c.requires.pass s.1 x.reads (let most =
       paced_from b c.args.key.now p m q 0 s.1 x.tries c.in-Passed.ensures.steps in
       omega (arith, most)) x.tries x.only_scans
-      (λ keeps. (keeps, since_look b p m q (λ start. ReadsBetween b.shape c.args.key.now c.args.now
-          (event.seen start) (seen q) None) s.1 x.reads
-          (gone_reads b.shape c.args.key.now c.args.now (trace m) (trace q) x.answer))) (search rules);
+      (λ keeps. (
+        keeps,
+        since_look b p m q (λ start. ReadsBetween b.shape c.args.key.now c.args.now
+            (event.seen start) (seen q) None) s.1 x.reads
+            (gone_reads b.shape c.args.key.now c.args.now (trace m) (trace q) x.answer),
+      )) (search rules);
 }
 
 pub returns-in-Busy : goal.returns-in-Busy

@@ -12,8 +12,8 @@ use Rattle.segread.proofs.held.release_row.Goals as goal
 pub returns : goal.returns
 returns c =
     let b = c.args.board.now in let p = c.args.pass.now in let r = c.leave.new.pass in
-        let q = c.set_hold.new.pass in let left = c.leave.ensures in let st = left.step.1 in
-        let set = c.set_hold.ensures in
+    let q = c.set_hold.new.pass in let left = c.leave.ensures in let st = left.step.1 in
+    let set = c.set_hold.ensures in
     let own = Left (number p) c.args.row.segment ∷ [] in
     let ends = releases b p r q c.args.row c.requires.pass c.requires.row left.did st.plain st.memo set.pass set.view set.sets in
     let m = moved_to b own None p r q c.requires.pass left.did.moved (tt, tt) st.plain st.memo set.pass set.view set.sets in record {

@@ -21,12 +21,16 @@ returns-then-hit-item-clause-glances c = glances_none c.args.board.now c.args.pa
 pub returns-then-hit-item-clause-raises : goal.returns-then-hit-item-clause-raises
 returns-then-hit-item-clause-raises c key value before there saw = let e = c.bump.ensures in
     raised_by c.args.board.now c.args.pass.now c.bump.new.pass c.args.place c.args.item c.next_frequency.result
-        c.args.draw e.step.0 key value before c.bump.result c.requires.pass c.requires.place there saw e.step.1
-        e.step.2 e.did e.raises c.next_frequency.ensures.value c.if-hit-item.true
+    c.args.draw e.step.0 key value before c.bump.result c.requires.pass c.requires.place there saw e.step.1
+    e.step.2 e.did e.raises c.next_frequency.ensures.value c.if-hit-item.true
 
 pub returns-else-hit-item : goal.returns-else-hit-item
-returns-else-hit-item c = record { reads = stays c.args.board.now c.args.pass.now c.requires.pass;
-    steps = omega arith; stays_out = refl; glances = λ bucket. refl;
-    raises = λ key value before there saw. raised_none c.args.board.now c.args.pass.now c.args.place c.args.item
-    c.next_frequency.result c.args.draw key value before c.requires.pass saw c.next_frequency.ensures.value
-    c.if-hit-item.false }
+returns-else-hit-item c = record {
+  reads = stays c.args.board.now c.args.pass.now c.requires.pass;
+  steps = omega arith;
+  stays_out = refl;
+  glances = λ bucket. refl;
+  raises = λ key value before there saw. raised_none c.args.board.now c.args.pass.now c.args.place c.args.item
+      c.next_frequency.result c.args.draw key value before c.requires.pass saw c.next_frequency.ensures.value
+      c.if-hit-item.false;
+}

@@ -47,8 +47,8 @@ returns-then-hit-now c =
 pub returns-else-hit-now : goal.returns-else-hit-now
 returns-else-hit-now c =
     let b = c.args.board.now in let p = c.args.pass.now in let q = c.scan_for.new.pass in
-        let v = c.value_of_pair-value in let t = c.count_hit.new.pass in let l = c.leave_segment-in-Found in
-        let r = l.new.pass in
+    let v = c.value_of_pair-value in let t = c.count_hit.new.pass in let l = c.leave_segment-in-Found in
+    let r = l.new.pass in
     let f = c.in-Found in let hit = f.hit in let key = c.args.key.now in let m = f.ensures.scan.0 in let x = f.ensures.scan.2 in
     let read = read_in b m q v.new.pass hit.item.seg hit.item.row x.reads v.ensures.reads in
     let found = read_value b m q v.new.pass hit.place hit.item hit.header key v.result x.reads x.answer.0 v.ensures.reads v.ensures.value in
@@ -58,15 +58,15 @@ returns-else-hit-now c =
       reads = reads_key b key p m r f.ensures.scan.1 (read_and_left b m q v.new.pass t r hit.item.seg hit.item.row x.reads v.ensures.reads c.count_hit.ensures.reads l.ensures)
           c.args.draw c.args.now (get.Found v.result) c.requires.pass
           (let most = paced_from b key p m q 1 f.ensures.scan.1 x.tries f.ensures.steps in
-              let read = v.ensures.steps in let one = c.count_hit.ensures.steps in let away = l.ensures.steps in
-              omega (arith, most, read, one, away))
+          let read = v.ensures.steps in let one = c.count_hit.ensures.steps in let away = l.ensures.steps in
+          omega (arith, most, read, one, away))
           (let few = x.tries in let before = still.0 in let same = c.count_hit.ensures.stays_out in let away = gone.0 in omega (arith, few, before, same, away))
           (λ bucket. glances_none t r gone.1 bucket ∙ (c.count_hit.ensures.glances bucket ∙ glances_none m v.new.pass (still.1 ∙ x.only_scans) bucket))
           (hit_raises b key v.result c.args.draw m v.new.pass t r read.reads.moved.same (moved_on b _ m v.new.pass read.reads.moved) left (raises_none m v.new.pass (still.1 ∙ x.only_scans))
           (c.count_hit.ensures.raises key v.result (trace m) (is_inside b m v.new.pass hit.item.seg read.reads) found) (raises_none t r gone.1))
           (found_reads b.shape hit.place (item_word hit.item) key v.result (trace m) (trace v.new.pass) found
-              hit.deadline (read_deadline b m q v.new.pass hit.item hit.deadline x.reads v.ensures.reads x.answer.1)
-              (trace r)
+          hit.deadline (read_deadline b m q v.new.pass hit.item hit.deadline x.reads v.ensures.reads x.answer.1)
+          (trace r)
           (begins_on (trace v.new.pass) (trace t) (trace r) (moved_on b _ v.new.pass t c.count_hit.ensures.reads.reads.moved) left) c.args.now c.if-hit-now.false);
     }
 

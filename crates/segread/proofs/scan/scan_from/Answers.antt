@@ -21,12 +21,12 @@ returns-in_default-next_place-clause-reads c = reader_then c.args.board.now c.ar
 pub returns-in_default-next_place-clause-scan : goal.returns-in_default-next_place-clause-scan
 returns-in_default-next_place-clause-scan c =
     let b = c.args.board.now in let z = b.shape in let key = c.args.sought.now.key in let p = c.args.pass.now in
-        let q = c.loop-word.pass in let r = c.visit_bucket.new.pass in let x = c.in-Passed in
-        let i = c.loop-word.invariant in let place = c.loop-word.place in
+    let q = c.loop-word.pass in let r = c.visit_bucket.new.pass in let x = c.in-Passed in
+    let i = c.loop-word.invariant in let place = c.loop-word.place in
     let last = place_of place.bucket 7 in let from = position z (trace p) c.args.place in let end = last_now b key place q (stays b q i.begun.reads.reads.moved.pass) i.place in
     let w = went b key from c.args.tries c.loop-word.tries place p q _ i.begun i.place
-        (λ m l. along_from b key q m l place last c.loop-word.tries (scan.Passed x.word x.counted) r i.place end)
-        x.ensures.way in
+    (λ m l. along_from b key q m l place last c.loop-word.tries (scan.Passed x.word x.counted) r i.place end)
+    x.ensures.way in
     let mid = position z (trace w.middle) place in
     let of = (last_of b key place w.middle r w.is.0 w.place).0 in
     let within = (in_chain z (trace w.middle) last w.scanned.reads.reads.moved.pass.lawful of.0).1 in
@@ -50,12 +50,12 @@ returns-in_default-clause-scan c = let b = c.args.board.now in let z = b.shape i
 pub loop-word-preserved : goal.loop-word-preserved
 loop-word-preserved c =
     let b = c.args.board.now in let z = b.shape in let key = c.args.sought.now.key in let p = c.args.pass.now in
-        let q = c.loop-word.pass in let r = c.visit_bucket.new.pass in let x = c.in-Passed in
-        let i = c.loop-word.invariant in let place = c.loop-word.place in
+    let q = c.loop-word.pass in let r = c.visit_bucket.new.pass in let x = c.in-Passed in
+    let i = c.loop-word.invariant in let place = c.loop-word.place in
     let last = place_of place.bucket 7 in let from = position z (trace p) c.args.place in let end = last_now b key place q (stays b q i.begun.reads.reads.moved.pass) i.place in
     let w = went b key from c.args.tries c.loop-word.tries place p q _ i.begun i.place
-        (λ m l. along_from b key q m l place last c.loop-word.tries (scan.Passed x.word x.counted) r i.place end)
-        x.ensures.way in
+    (λ m l. along_from b key q m l place last c.loop-word.tries (scan.Passed x.word x.counted) r i.place end)
+    x.ensures.way in
     let mid = position z (trace w.middle) place in
     let of = (last_of b key place w.middle r w.is.0 w.place).0 in
     let next = next_of z key last mid x.word (trace w.middle) (trace r) c.requires.pass.valid x.ensures.reads.reads.moved.pass.lawful of w.is.1.passed c.in-Some.next c.in-Some.ensures in record {
@@ -64,19 +64,19 @@ loop-word-preserved c =
       place = next.place;
       paced = bucket_paced b from (position z (trace q) place) (position z (trace q) last) (position z (trace w.middle) last) c.in-Some.next p q r i.paced x.ensures.steps next.words
           (let same = w.at in let is = at_depth z (trace w.middle) last in
-              let was = at_depth z (trace w.middle) place in let is_now = at_depth z (trace q) last in
-              let was_now = at_depth z (trace q) place in omega (arith, same, is, was, is_now, was_now));
+          let was = at_depth z (trace w.middle) place in let is_now = at_depth z (trace q) last in
+          let was_now = at_depth z (trace q) place in omega (arith, same, is, was, is_now, was_now));
     }
 
 pub loop-word-smaller : goal.loop-word-smaller
 loop-word-smaller c =
     let b = c.args.board.now in let z = b.shape in let key = c.args.sought.now.key in let p = c.args.pass.now in
-        let q = c.loop-word.pass in let r = c.visit_bucket.new.pass in let x = c.in-Passed in
-        let i = c.loop-word.invariant in let place = c.loop-word.place in
+    let q = c.loop-word.pass in let r = c.visit_bucket.new.pass in let x = c.in-Passed in
+    let i = c.loop-word.invariant in let place = c.loop-word.place in
     let last = place_of place.bucket 7 in let from = position z (trace p) c.args.place in let end = last_now b key place q (stays b q i.begun.reads.reads.moved.pass) i.place in
     let w = went b key from c.args.tries c.loop-word.tries place p q _ i.begun i.place
-        (λ m l. along_from b key q m l place last c.loop-word.tries (scan.Passed x.word x.counted) r i.place end)
-        x.ensures.way in
+    (λ m l. along_from b key q m l place last c.loop-word.tries (scan.Passed x.word x.counted) r i.place end)
+    x.ensures.way in
     let mid = position z (trace w.middle) place in
     let of = (last_of b key place w.middle r w.is.0 w.place).0 in
     let next = next_of z key last mid x.word (trace w.middle) (trace r) c.requires.pass.valid x.ensures.reads.reads.moved.pass.lawful of w.is.1.passed c.in-Some.next c.in-Some.ensures in

@@ -17,8 +17,8 @@ use Rattle.segread.proofs.scan.try_item.Goals as goal
 pub read_keyed-keyed-requires-clause-place : goal.read_keyed-keyed-requires-clause-place
 read_keyed-keyed-requires-clause-place c = let m = c.enter_segment-deadline.ensures.enters.did.moved in
     chained_later c.args.board.now.shape (trace c.args.pass.now) (trace c.enter_segment-deadline.new.pass)
-        c.args.place m.pass.lawful (moved_on c.args.board.now _ c.args.pass.now c.enter_segment-deadline.new.pass m)
-        c.requires.place
+    c.args.place m.pass.lawful (moved_on c.args.board.now _ c.args.pass.now c.enter_segment-deadline.new.pass m)
+    c.requires.place
 
 pub read_keyed-keyed-requires-clause-inside : goal.read_keyed-keyed-requires-clause-inside
 read_keyed-keyed-requires-clause-inside c = let b = c.args.board.now in let q = c.enter_segment-deadline.new.pass in
@@ -28,8 +28,8 @@ read_keyed-keyed-requires-clause-inside c = let b = c.args.board.now in let q = 
 pub leave_segment-requires : goal.leave_segment-requires
 leave_segment-requires c = let b = c.args.board.now in let e = c.enter_segment-deadline in let r = c.read_keyed-keyed in
     let i = then_reader b c.args.pass.now e.new.pass r.new.pass c.args.item.seg
-        (enters b c.args.pass.now e.new.pass c.args.item.seg e.ensures.enters)
-        (looks b e.new.pass r.new.pass r.ensures.looked) in
+    (enters b c.args.pass.now e.new.pass c.args.item.seg e.ensures.enters)
+    (looks b e.new.pass r.new.pass r.ensures.looked) in
     record { pass = i.reads.moved.pass; segment = c.requires.may.suits.1; inside = is_inside b c.args.pass.now r.new.pass c.args.item.seg i.reads }
 
 pub returns-in-Same : goal.returns-in-Same

@@ -32,16 +32,16 @@ returns-in_default-clause-way c =
 pub loop-word-preserved : goal.loop-word-preserved
 loop-word-preserved c =
     let b = c.args.board.now in let z = b.shape in let key = c.args.sought.now.key in let p = c.args.pass.now in
-        let q = c.loop-word.pass in let v = c.visit_word in let r = v.new.pass in let i = c.loop-word.invariant in
-        let x = c.in-Passed in
+    let q = c.loop-word.pass in let v = c.visit_word in let r = v.new.pass in let i = c.loop-word.invariant in
+    let x = c.in-Passed in
     let here = place_of c.args.start.bucket c.loop-word.word in let next = place_of c.args.start.bucket (c.loop-word.word + 1) in let from = position z (trace p) c.args.start in
     let w = went b key from c.args.tries c.loop-word.tries here p q _ i.begun i.place
-        (λ m l. along_from b key q m l here here c.loop-word.tries (Passed x.word x.counted) r i.place i.place)
-        x.ensures.way in
+    (λ m l. along_from b key q m l here here c.loop-word.tries (Passed x.word x.counted) r i.place i.place)
+    x.ensures.way in
     let mid = position z (trace w.middle) here in
     let n = next_of z key here mid x.word (trace w.middle) (trace r) c.requires.pass.valid
-        x.ensures.reads.reads.moved.pass.lawful w.place w.is.1.passed next
-        (inner_next z here x.word c.loop-word-test.true) in record {
+    x.ensures.reads.reads.moved.pass.lawful w.place w.is.1.passed next
+    (inner_next z here x.word c.loop-word-test.true) in record {
       begun = begun_by b key from (position z (trace r) next) c.args.tries x.counted p w.first r w.look
           (scanned_next b key from mid c.args.tries c.loop-word.tries w.first w.middle r w.scanned (mid + 1)
           x.counted here next x.word w.is.0 w.is.1 n);

@@ -115,9 +115,12 @@ returns-in-Same-clause-way c = let b = c.args.board.now in let i = c.loop-count.
     let reads = enter_then b p q r c.in-Same.item.seg i.reads x.reads in (
       p,
       i.look,
-      (reads, hit_here b c.args.sought.now.key c.args.place c.loop-count.item c.in-Same.item c.in-Same.header
-          c.try_item-keyed.result.1 c.args.tries c.loop-count.count p q r i.place i.reads reads
-          c.loop-count-test.true i.tried i.trying x.once x.keyed.1 x.deadline),
+      (
+        reads,
+        hit_here b c.args.sought.now.key c.args.place c.loop-count.item c.in-Same.item c.in-Same.header
+            c.try_item-keyed.result.1 c.args.tries c.loop-count.count p q r i.place i.reads reads
+            c.loop-count-test.true i.tried i.trying x.once x.keyed.1 x.deadline,
+      ),
     )
 
 pub returns-in-Other-clause-way : goal.returns-in-Other-clause-way
@@ -199,8 +202,8 @@ returns-in-Same-clause-steps c = let b = c.args.board.now in let z = b.shape in 
     let p = c.args.pass.now in let q = c.loop-count.pass in let r = c.try_item-keyed.new.pass in
     let at = position z (trace p) c.args.place in
     let k = tried_as c.args.board.now c.args.place c.loop-count.item c.args.sought.now.key c.loop-count.pass
-        c.try_item-keyed.new.pass c.try_item-keyed.result.0 c.try_item-keyed.result.1 c.try_item-keyed.ensures.tries
-        _ c.in-Same.is in
+    c.try_item-keyed.new.pass c.try_item-keyed.result.0 c.try_item-keyed.result.1 c.try_item-keyed.ensures.tries
+    _ c.in-Same.is in
     let reads = (enter_then b p q r c.in-Same.item.seg i.whole k.reads).reads in
     let same = (same_place z (trace p) (trace r) c.args.place reads.moved.pass.lawful (moved_on b reads.own p r reads.moved) c.requires.place.0).1 in
     let more = word_more at (in_chain z (trace p) c.args.place c.requires.pass.lawful c.requires.place.0).0 in
@@ -212,8 +215,8 @@ returns-in-Other-clause-steps c = let z = c.args.board.now.shape in let i = c.lo
     let p = c.args.pass.now in let q = c.loop-count.pass in let r = c.try_item-keyed.new.pass in
     let at = position z (trace p) c.args.place in
     let k = tried_as c.args.board.now c.args.place c.loop-count.item c.args.sought.now.key c.loop-count.pass
-        c.try_item-keyed.new.pass c.try_item-keyed.result.0 c.try_item-keyed.result.1 c.try_item-keyed.ensures.tries
-        _ c.in-Other.is in
+    c.try_item-keyed.new.pass c.try_item-keyed.result.0 c.try_item-keyed.result.1 c.try_item-keyed.ensures.tries
+    _ c.in-Other.is in
     let more = word_more at (in_chain z (trace p) c.args.place c.requires.pass.lawful c.requires.place.0).0 in
     word_paced at (at + 1) p r (omega (arith, more)) (one_try _ p q r i.paced k.once.0 c.try_item-keyed.ensures.steps)
 
@@ -222,8 +225,8 @@ returns-in-None-clause-steps c = let z = c.args.board.now.shape in let i = c.loo
     let p = c.args.pass.now in let q = c.loop-count.pass in let r = c.try_item-keyed.new.pass in
     let at = position z (trace p) c.args.place in
     let k = tried_as c.args.board.now c.args.place c.loop-count.item c.args.sought.now.key c.loop-count.pass
-        c.try_item-keyed.new.pass c.try_item-keyed.result.0 c.try_item-keyed.result.1 c.try_item-keyed.ensures.tries
-        _ c.in-Changed.is in
+    c.try_item-keyed.new.pass c.try_item-keyed.result.0 c.try_item-keyed.result.1 c.try_item-keyed.ensures.tries
+    _ c.in-Changed.is in
     let more = word_more at (in_chain z (trace p) c.args.place c.requires.pass.lawful c.requires.place.0).0 in
     word_paced at (at + 1) p r (omega (arith, more)) (one_try _ p q r i.paced k.once.0 c.try_item-keyed.ensures.steps)
 

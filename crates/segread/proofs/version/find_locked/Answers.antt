@@ -14,36 +14,36 @@ pub returns-then-hit-now-clause-answer : goal.returns-then-hit-now-clause-answer
 returns-then-hit-now-clause-answer c = let b = c.args.board.now in let f = c.in-Found in let s = f.ensures.scan in
     let m = s.0 in let x = s.2 in let q = c.scan_for.new.pass in let r = c.leave_segment.new.pass in
     let out = leaves b f.hit.item.seg q r c.leave_segment.ensures.moved in (
-  m,
-  s.1,
-  record {
-    reads = leave_then b m q r f.hit.item.seg x.reads c.leave_segment.ensures;
-    tries = few_out m q r x.tries out;
-    only_scans = out.1 ∙ x.only_scans;
-    answer = expired_reads b c.args.key.now f.hit m q r c.args.now x.answer c.leave_segment.ensures (let past = c.if-hit-now.true in omega arith);
-  },
-)
+      m,
+      s.1,
+      record {
+        reads = leave_then b m q r f.hit.item.seg x.reads c.leave_segment.ensures;
+        tries = few_out m q r x.tries out;
+        only_scans = out.1 ∙ x.only_scans;
+        answer = expired_reads b c.args.key.now f.hit m q r c.args.now x.answer c.leave_segment.ensures (let past = c.if-hit-now.true in omega arith);
+      },
+    )
 
 pub returns-else-hit-now-clause-answer : goal.returns-else-hit-now-clause-answer
 returns-else-hit-now-clause-answer c = let b = c.args.board.now in let f = c.in-Found in let s = f.ensures.scan in
     let m = s.0 in let x = s.2 in let q = c.scan_for.new.pass in let r = c.leave_segment.new.pass in
     let out = leaves b f.hit.item.seg q r c.leave_segment.ensures.moved in (
-  m,
-  s.1,
-  record {
-    reads = leave_then b m q r f.hit.item.seg x.reads c.leave_segment.ensures;
-    tries = few_out m q r x.tries out;
-    only_scans = out.1 ∙ x.only_scans;
-    answer = inr (
-      ap (λ (y : PlainPart). y.locked) s.1.look.plain ∙ c.requires.locked,
-      (
-        x.answer.0.value,
-        found_reads b.shape f.hit.place (item_word f.hit.item) c.args.key.now x.answer.0.value (trace m) (trace q) x.answer.0.found f.hit.deadline
-            (by_word b.shape f.hit.item f.hit.deadline (trace q) x.answer.1) (trace r) (moved_on b _ q r c.leave_segment.ensures.moved) c.args.now c.if-hit-now.false,
-      ),
-    );
-  },
-)
+      m,
+      s.1,
+      record {
+        reads = leave_then b m q r f.hit.item.seg x.reads c.leave_segment.ensures;
+        tries = few_out m q r x.tries out;
+        only_scans = out.1 ∙ x.only_scans;
+        answer = inr (
+          ap (λ (y : PlainPart). y.locked) s.1.look.plain ∙ c.requires.locked,
+          (
+            x.answer.0.value,
+            found_reads b.shape f.hit.place (item_word f.hit.item) c.args.key.now x.answer.0.value (trace m) (trace q) x.answer.0.found f.hit.deadline
+                (by_word b.shape f.hit.item f.hit.deadline (trace q) x.answer.1) (trace r) (moved_on b _ q r c.leave_segment.ensures.moved) c.args.now c.if-hit-now.false,
+          ),
+        );
+      },
+    )
 
 pub returns-in-Passed-clause-answer : goal.returns-in-Passed-clause-answer
 returns-in-Passed-clause-answer c = let s = c.in-Passed.ensures.scan in let m = s.0 in let x = s.2 in (

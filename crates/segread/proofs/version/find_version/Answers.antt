@@ -26,11 +26,11 @@ try_version-requires-clause-free c = let i = c.loop-tries.invariant.begun.reads.
 pub returns-in-Answered : goal.returns-in-Answered
 returns-in-Answered c =
     let b = c.args.board.now in let key = c.args.call.now.sought.key in let now = c.args.call.now.clock in
-        let draw = c.args.call.now.draw in let l = c.loop-tries in let p = c.args.pass.now in let q = l.pass in
-        let r = c.try_version.new.pass in let x = c.in-Answered in let i = l.invariant.begun in
+    let draw = c.args.call.now.draw in let l = c.loop-tries in let p = c.args.pass.now in let q = l.pass in
+    let r = c.try_version.new.pass in let x = c.in-Answered in let i = l.invariant.begun in
     let w = scanned b key now c.args.call.now.sought.bucket l.place l.tries p q c.requires.sought.bucket i.place _ i
-        (λ m k. attempt_from b key now draw q m r k l.place l.tries (attempt.Answered x.answer) i.place)
-        x.ensures.attempt in
+    (λ m k. attempt_from b key now draw q m r k l.place l.tries (attempt.Answered x.answer) i.place)
+    x.ensures.attempt in
     let told = told_by b key now l.place l.tries w.first w.middle r w.tried w.is.0 draw x.answer c.loop-tries-test.true w.is.1 in record {
       answer = (w.first, w.look, record { reads = reads_on b key now l.place l.tries w.first w.middle r w.tried w.is.0; tries = told.0; glances = told.3; raises = told.1; answer = told.2 });
       steps = strides_then 1 (position b.shape (trace q) l.place) 32 p q r l.invariant.strode x.ensures.steps;
@@ -39,11 +39,11 @@ returns-in-Answered c =
 pub loop-tries-preserved : goal.loop-tries-preserved
 loop-tries-preserved c =
     let b = c.args.board.now in let key = c.args.call.now.sought.key in let now = c.args.call.now.clock in
-        let draw = c.args.call.now.draw in let l = c.loop-tries in let p = c.args.pass.now in let q = l.pass in
-        let r = c.try_version.new.pass in let x = c.in-GoesOn in let i = l.invariant.begun in
+    let draw = c.args.call.now.draw in let l = c.loop-tries in let p = c.args.pass.now in let q = l.pass in
+    let r = c.try_version.new.pass in let x = c.in-GoesOn in let i = l.invariant.begun in
     let w = scanned b key now c.args.call.now.sought.bucket l.place l.tries p q c.requires.sought.bucket i.place _ i
-        (λ m k. attempt_from b key now draw q m r k l.place l.tries (attempt.GoesOn x.next x.counted) i.place)
-        x.ensures.attempt in
+    (λ m k. attempt_from b key now draw q m r k l.place l.tries (attempt.GoesOn x.next x.counted) i.place)
+    x.ensures.attempt in
     record {
       begun = begun_by b key now c.args.call.now.sought.bucket x.next x.counted p w.first r w.look (tried_on b key now l.place l.tries w.first w.middle r w.tried w.is.0 x.next x.counted w.is.1);
       strode = strides_then 1 (position b.shape (trace q) l.place) (position b.shape (trace r) x.next) p q r l.invariant.strode x.ensures.steps;
@@ -52,11 +52,11 @@ loop-tries-preserved c =
 pub loop-tries-smaller : goal.loop-tries-smaller
 loop-tries-smaller c =
     let b = c.args.board.now in let key = c.args.call.now.sought.key in let now = c.args.call.now.clock in
-        let draw = c.args.call.now.draw in let l = c.loop-tries in let p = c.args.pass.now in let q = l.pass in
-        let r = c.try_version.new.pass in let x = c.in-GoesOn in let i = l.invariant.begun in
+    let draw = c.args.call.now.draw in let l = c.loop-tries in let p = c.args.pass.now in let q = l.pass in
+    let r = c.try_version.new.pass in let x = c.in-GoesOn in let i = l.invariant.begun in
     let w = scanned b key now c.args.call.now.sought.bucket l.place l.tries p q c.requires.sought.bucket i.place _ i
-        (λ m k. attempt_from b key now draw q m r k l.place l.tries (attempt.GoesOn x.next x.counted) i.place)
-        x.ensures.attempt in
+    (λ m k. attempt_from b key now draw q m r k l.place l.tries (attempt.GoesOn x.next x.counted) i.place)
+    x.ensures.attempt in
     subst (λ n. left_of b x.next x.counted r < 92 - (l.tries + words_below n)) w.at (fewer_left b key now l.place l.tries w.first w.middle r w.tried w.is.0 x.next x.counted w.is.1)
 
 pub returns : goal.returns

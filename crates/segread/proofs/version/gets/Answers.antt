@@ -12,12 +12,12 @@ pub returns-then-eq : goal.returns-then-eq
 returns-then-eq c = let b = c.args.board.now in let key = c.args.key.now in let p = c.args.pass.now in
     let f = c.find_locked in let q = f.new.pass in let none = f.ensures.none in let s = f.ensures.answer in
     let m = s.0 in let x = s.2 in record {
-  reads = reads_version b key p m q s.1 x.reads c.args.draw c.args.now f.result c.requires.pass f.ensures.steps
-      x.tries (λ bucket. let same = glances_none m q x.only_scans bucket in
-      omega arith) (unfound_raises b.shape key c.args.draw f.result m q none (raises_none m q x.only_scans))
-      x.answer
-      (λ value version told. absurd (none value version told));
-}
+      reads = reads_version b key p m q s.1 x.reads c.args.draw c.args.now f.result c.requires.pass f.ensures.steps
+          x.tries (λ bucket. let same = glances_none m q x.only_scans bucket in
+          omega arith) (unfound_raises b.shape key c.args.draw f.result m q none (raises_none m q x.only_scans))
+          x.answer
+          (λ value version told. absurd (none value version told));
+    }
 
 pub returns : goal.returns
 returns c = let b = c.args.board.now in let key = c.args.key.now in let p = c.args.pass.now in let v = c.find_version in let q = v.new.pass in

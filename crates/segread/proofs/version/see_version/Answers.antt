@@ -23,9 +23,9 @@ value_of_pair-value-requires-clause-pair c = let hit = c.in-Found.hit in let s =
 pub returns-else-hit-call : goal.returns-else-hit-call
 returns-else-hit-call c =
     let b = c.args.board.now in let z = b.shape in let p = c.args.pass.now in
-        let key = c.args.call.now.sought.key in let f = c.in-Found in let s = f.ensures.scan in let m = s.0 in
-        let v = c.value_of_pair-value in let g = c.glance-info in let l = c.look-word in
-        let step = g.ensures.step in record {
+    let key = c.args.call.now.sought.key in let f = c.in-Found in let s = f.ensures.scan in let m = s.0 in
+    let v = c.value_of_pair-value in let g = c.glance-info in let l = c.look-word in
+    let step = g.ensures.step in record {
       sight = (
         m,
         s.1,
@@ -40,14 +40,14 @@ returns-else-hit-call c =
       steps =
           let q = c.scan_from.new.pass in let read = v.ensures.reads.looked.did.moved in let glanced = step.did.moved in let looks = l.ensures.did.moved in
           let on = begins_on (trace q) (trace v.new.pass) (trace l.new.pass) (moved_on b _ q v.new.pass read)
-              (begins_on (trace v.new.pass) (trace g.new.pass) (trace l.new.pass)
-              (moved_on b _ v.new.pass g.new.pass glanced) (moved_on b _ g.new.pass l.new.pass looks)) in
+          (begins_on (trace v.new.pass) (trace g.new.pass) (trace l.new.pass)
+          (moved_on b _ v.new.pass g.new.pass glanced) (moved_on b _ g.new.pass l.new.pass looks)) in
           let once = once_between q v.new.pass g.new.pass l.new.pass (looked b q v.new.pass read)
-              (glance_once b c.args.call.now.sought.bucket g.result v.new.pass g.new.pass g.ensures.glances)
-              (looked b g.new.pass l.new.pass looks) in
+          (glance_once b c.args.call.now.sought.bucket g.result v.new.pass g.new.pass g.ensures.glances)
+          (looked b g.new.pass l.new.pass looks) in
           strides_seen b key (position z (trace p) c.args.place) (position z (trace m) c.args.place) c.args.tries
-              f.hit p m q l.new.pass s.2.0 s.2.1 on looks.pass.lawful f.ensures.steps
-              (scan_unset b key p m q s.1 s.2.1.tried.only_scans) once
+          f.hit p m q l.new.pass s.2.0 s.2.1 on looks.pass.lawful f.ensures.steps
+          (scan_unset b key p m q s.1 s.2.1.tried.only_scans) once
           (let four = v.ensures.steps in let one = one_step b v.new.pass g.new.pass _ _ step in let last = one_step b g.new.pass l.new.pass _ _ l.ensures.step in omega (arith, four, one, last));
     }
 

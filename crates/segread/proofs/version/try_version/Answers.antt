@@ -19,8 +19,8 @@ leave_segment-requires-clause-segment c = c.in-Found.ensures.sight.2.in_table
 pub returns-then-info : goal.returns-then-info
 returns-then-info c =
     let b = c.args.board.now in let key = c.args.call.now.sought.key in let s = c.in-Found.ensures.sight in
-        let m = s.0 in let l = c.see_version.new.pass in let r = c.leave_segment in let f = c.in-Found in
-        let from = position b.shape (trace m) c.args.place in
+    let m = s.0 in let l = c.see_version.new.pass in let r = c.leave_segment in let f = c.in-Found in
+    let from = position b.shape (trace m) c.args.place in
     let reads = left b key c.args.call.now.clock from c.args.tries f.hit f.value f.info f.word m l r.new.pass s.2 r.ensures in record {
       reads = reads_from b key c.args.pass.now m s.1 r.new.pass reads;
       attempt = (m, s.1, (reads, again_held b key c.args.call.now.clock from c.args.tries f.hit f.value f.info f.word m l r.new.pass s.2 r.ensures c.if-info.true));
@@ -30,18 +30,25 @@ returns-then-info c =
 pub returns-then-same_item : goal.returns-then-same_item
 returns-then-same_item c =
     let b = c.args.board.now in let key = c.args.call.now.sought.key in let s = c.in-Found.ensures.sight in
-        let m = s.0 in let l = c.see_version.new.pass in let t = c.count_hit in
-        let r = c.leave_segment-then-same_item in let f = c.in-Found in let x = s.2 in
-        let from = position b.shape (trace m) c.args.place in
+    let m = s.0 in let l = c.see_version.new.pass in let t = c.count_hit in
+    let r = c.leave_segment-then-same_item in let f = c.in-Found in let x = s.2 in
+    let from = position b.shape (trace m) c.args.place in
     let same = subst (λ w. IsSameItem w f.word) c.pack.ensures (c.if-same_item.ensures.0 refl) in
     let raised = t.ensures.raises key f.value (trace m) (is_inside b m l f.hit.item.seg x.reads.reads) (x.found c.if-info.false) in
     let reads = hit_left b key c.args.call.now.clock from c.args.tries c.args.call.now.draw f.hit f.value f.info
-        f.word m l t.new.pass r.new.pass x c.if-info.false same t.ensures.reads t.ensures.stays_out
-        t.ensures.glances raised r.ensures in record {
+    f.word m l t.new.pass r.new.pass x c.if-info.false same t.ensures.reads t.ensures.stays_out
+    t.ensures.glances raised r.ensures in record {
       reads = reads_from b key c.args.pass.now m s.1 r.new.pass reads;
-      attempt = (m, s.1, (reads, hit_told b key c.args.call.now.clock from c.args.tries c.args.call.now.draw f.hit
-          f.value f.info f.word m l t.new.pass r.new.pass x c.if-info.false same t.ensures.reads t.ensures.stays_out
-          t.ensures.glances raised r.ensures));
+      attempt = (
+        m,
+        s.1,
+        (
+          reads,
+          hit_told b key c.args.call.now.clock from c.args.tries c.args.call.now.draw f.hit
+              f.value f.info f.word m l t.new.pass r.new.pass x c.if-info.false same t.ensures.reads t.ensures.stays_out
+              t.ensures.glances raised r.ensures,
+        ),
+      );
       steps = strides_hit b (position b.shape (trace c.args.pass.now) c.args.place) (position b.shape (trace l) f.hit.place) f.hit.item.seg c.args.pass.now l t.new.pass r.new.pass
           (in_chain b.shape (trace l) f.hit.place x.reads.reads.moved.pass.lawful x.place.0).1 f.ensures.steps t.ensures.steps t.ensures.stays_out t.ensures.glances r.ensures;
     }
@@ -49,32 +56,46 @@ returns-then-same_item c =
 pub returns-in-Some : goal.returns-in-Some
 returns-in-Some c =
     let b = c.args.board.now in let key = c.args.call.now.sought.key in let s = c.in-Found.ensures.sight in
-        let m = s.0 in let l = c.see_version.new.pass in let r = c.leave_segment-in-Found in let f = c.in-Found in
-        let from = position b.shape (trace m) c.args.place in
+    let m = s.0 in let l = c.see_version.new.pass in let r = c.leave_segment-in-Found in let f = c.in-Found in
+    let from = position b.shape (trace m) c.args.place in
     let other : ¬ (IsSameItem (item_word f.hit.item) f.word) = λ same. false≢true (c.if-same_item.ensures.1 (subst (λ w. IsSameItem w f.word) (sym c.pack.ensures) same)) in
     let reads = left b key c.args.call.now.clock from c.args.tries f.hit f.value f.info f.word m l r.new.pass s.2 r.ensures in record {
       reads = reads_from b key c.args.pass.now m s.1 r.new.pass reads;
-      attempt = (m, s.1, (reads, again_changed b key c.args.call.now.clock from c.args.tries f.hit f.value f.info
-          f.word m l r.new.pass s.2 r.ensures other
-          (subst (λ w. 1 ≤ w / 2 ^ 52) c.in-Some.ensures.some.0 (has_tag c.in-Some._other))));
+      attempt = (
+        m,
+        s.1,
+        (
+          reads,
+          again_changed b key c.args.call.now.clock from c.args.tries f.hit f.value f.info
+              f.word m l r.new.pass s.2 r.ensures other
+              (subst (λ w. 1 ≤ w / 2 ^ 52) c.in-Some.ensures.some.0 (has_tag c.in-Some._other)),
+        ),
+      );
       steps = strides_again b key (position b.shape (trace c.args.pass.now) c.args.place) f.hit.item.seg f.hit.place c.args.pass.now l r.new.pass f.ensures.steps r.ensures s.2.place;
     }
 
 pub returns-in-Some-next_place : goal.returns-in-Some-next_place
 returns-in-Some-next_place c =
     let b = c.args.board.now in let key = c.args.call.now.sought.key in let s = c.in-Found.ensures.sight in
-        let m = s.0 in let l = c.see_version.new.pass in let r = c.leave_segment-in-Found in let f = c.in-Found in
-        let from = position b.shape (trace m) c.args.place in
+    let m = s.0 in let l = c.see_version.new.pass in let r = c.leave_segment-in-Found in let f = c.in-Found in
+    let from = position b.shape (trace m) c.args.place in
     let reads = left b key c.args.call.now.clock from c.args.tries f.hit f.value f.info f.word m l r.new.pass s.2 r.ensures in record {
       reads = reads_from b key c.args.pass.now m s.1 r.new.pass reads;
-      attempt = (m, s.1, (reads, goes_past b key c.args.call.now.clock from c.args.tries f.hit f.value f.info f.word
-          m l r.new.pass s.2 r.ensures c.requires.pass.valid c.args.call.now.sought.tag c.requires.sought.tag
-          (c.in_default.ensures.none refl) c.if-info.false c.in-Some-next_place.next c.in-Some-next_place.ensures));
+      attempt = (
+        m,
+        s.1,
+        (
+          reads,
+          goes_past b key c.args.call.now.clock from c.args.tries f.hit f.value f.info f.word
+              m l r.new.pass s.2 r.ensures c.requires.pass.valid c.args.call.now.sought.tag c.requires.sought.tag
+              (c.in_default.ensures.none refl) c.if-info.false c.in-Some-next_place.next c.in-Some-next_place.ensures,
+        ),
+      );
       steps =
           let start = position b.shape (trace c.args.pass.now) c.args.place in let next = c.in-Some-next_place.next in
           let words = past_words b key c.args.call.now.clock from c.args.tries f.hit f.value f.info f.word m l
-              r.new.pass s.2 r.ensures c.requires.pass.valid c.args.call.now.sought.tag c.requires.sought.tag
-              (c.in_default.ensures.none refl) c.if-info.false next c.in-Some-next_place.ensures in
+          r.new.pass s.2 r.ensures c.requires.pass.valid c.args.call.now.sought.tag c.requires.sought.tag
+          (c.in_default.ensures.none refl) c.if-info.false next c.in-Some-next_place.ensures in
           strides_to start (position b.shape (trace r.new.pass) f.hit.place) (position b.shape (trace r.new.pass) next) c.args.pass.now r.new.pass words
           (strides_again b key start f.hit.item.seg f.hit.place c.args.pass.now l r.new.pass f.ensures.steps r.ensures s.2.place);
     }
@@ -82,21 +103,28 @@ returns-in-Some-next_place c =
 pub returns-in-None : goal.returns-in-None
 returns-in-None c =
     let b = c.args.board.now in let key = c.args.call.now.sought.key in let s = c.in-Found.ensures.sight in
-        let m = s.0 in let l = c.see_version.new.pass in let r = c.leave_segment-in-Found in let f = c.in-Found in
-        let from = position b.shape (trace m) c.args.place in
+    let m = s.0 in let l = c.see_version.new.pass in let r = c.leave_segment-in-Found in let f = c.in-Found in
+    let from = position b.shape (trace m) c.args.place in
     let reads = left b key c.args.call.now.clock from c.args.tries f.hit f.value f.info f.word m l r.new.pass s.2 r.ensures in record {
       reads = reads_from b key c.args.pass.now m s.1 r.new.pass reads;
-      attempt = (m, s.1, (reads, ends_past b key c.args.call.now.clock from c.args.tries f.hit f.value f.info f.word
-          m l r.new.pass s.2 r.ensures c.requires.pass.valid c.args.call.now.sought.tag c.requires.sought.tag
-          (c.in_default.ensures.none refl) c.if-info.false c.in-None.ensures));
+      attempt = (
+        m,
+        s.1,
+        (
+          reads,
+          ends_past b key c.args.call.now.clock from c.args.tries f.hit f.value f.info f.word
+              m l r.new.pass s.2 r.ensures c.requires.pass.valid c.args.call.now.sought.tag c.requires.sought.tag
+              (c.in_default.ensures.none refl) c.if-info.false c.in-None.ensures,
+        ),
+      );
       steps =
           let start = position b.shape (trace c.args.pass.now) c.args.place in let at = position b.shape (trace r.new.pass) f.hit.place in
           let few = words_few at (in_chain b.shape (trace r.new.pass) f.hit.place reads.reads.moved.pass.lawful
-              (place_later b.shape key f.hit.place (trace l) (trace r.new.pass) reads.reads.moved.pass.lawful
-              (moved_on b _ l r.new.pass r.ensures.moved) s.2.place).0).1 in
+          (place_later b.shape key f.hit.place (trace l) (trace r.new.pass) reads.reads.moved.pass.lawful
+          (moved_on b _ l r.new.pass r.ensures.moved) s.2.place).0).1 in
           strides_to start at 32 c.args.pass.now r.new.pass (omega (arith, few))
-              (strides_again b key start f.hit.item.seg f.hit.place c.args.pass.now l r.new.pass f.ensures.steps
-              r.ensures s.2.place);
+          (strides_again b key start f.hit.item.seg f.hit.place c.args.pass.now l r.new.pass f.ensures.steps
+          r.ensures s.2.place);
     }
 
 pub returns-in-Absent : goal.returns-in-Absent
@@ -109,9 +137,19 @@ returns-in-Absent c = let b = c.args.board.now in let s = c.in-Absent.ensures.si
 pub returns-in-Busy : goal.returns-in-Busy
 returns-in-Busy c = let b = c.args.board.now in let q = c.see_version.new.pass in let s = c.in-Busy.ensures.sight in let m = s.0 in let x = s.2 in record {
   reads = reads_from b c.args.call.now.sought.key c.args.pass.now m s.1 q x.0;
-  attempt = (m, s.1, (x.0, (by_entries b c.args.call.now.sought.key c.args.call.now.clock c.args.tries 64 m q x.0
-      x.1.counts, attempts (position b.shape (trace m) c.args.place) 32 c.args.tries 63 m q x.1.tried,
-      scans_once m q x.1.tried.only_scans)));
+  attempt = (
+    m,
+    s.1,
+    (
+      x.0,
+      (
+        by_entries b c.args.call.now.sought.key c.args.call.now.clock c.args.tries 64 m q x.0
+            x.1.counts,
+        attempts (position b.shape (trace m) c.args.place) 32 c.args.tries 63 m q x.1.tried,
+        scans_once m q x.1.tried.only_scans,
+      ),
+    ),
+  );
   steps = c.in-Busy.ensures.steps;
 }
 

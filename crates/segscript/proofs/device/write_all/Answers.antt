@@ -13,8 +13,8 @@ loop-rest-preserved g c = (
 pub returns-in_default-clause-err : goal.returns-in_default-clause-err
 returns-in_default-clause-err g c =
     stops g.W.Sink.takes g.met.W.Sink.takes_more _ _ _ _ _ c.loop-rest.invariant.2
-        (nonempty _ _ c.is_empty.ensures c.loop-rest-test.true)
-        (none_taken g.W.Sink.takes g.met.W.Sink.takes_more _ _ _ _ c.if-taken-gt0.false c.in-Ok.ensures.bytes)
+    (nonempty _ _ c.is_empty.ensures c.loop-rest-test.true)
+    (none_taken g.W.Sink.takes g.met.W.Sink.takes_more _ _ _ _ c.if-taken-gt0.false c.in-Ok.ensures.bytes)
 
 pub returns-in_default-2-clause-err : goal.returns-in_default-2-clause-err
 returns-in_default-2-clause-err g c = stops g.W.Sink.takes g.met.W.Sink.takes_more _ _ _ _ _ c.loop-rest.invariant.2 (nonempty _ _ c.is_empty.ensures c.loop-rest-test.true) c.in_default.ensures.err

@@ -25,27 +25,27 @@ loop-total-init g c = record {
 pub returns-in_default-clause-outcome : goal.returns-in_default-clause-outcome
 returns-in_default-clause-outcome g c =
     ends_read _ _ _ g.R.Source.hands g.met.R.Source.hands_more g.W.Sink.takes g.met.W.Sink.takes_more
-        g.W.Sink.flushes _ _ _ _ _ _ _ _ _ (g.R.Source.is_at_end c.read_piece.new.reader)
-        c.loop-total.invariant.going c.loop-total.invariant.unflushed c.in_default.ensures.err
+    g.W.Sink.flushes _ _ _ _ _ _ _ _ _ (g.R.Source.is_at_end c.read_piece.new.reader)
+    c.loop-total.invariant.going c.loop-total.invariant.unflushed c.in_default.ensures.err
 
 pub returns-then-n-eq0-clause-outcome : goal.returns-then-n-eq0-clause-outcome
 returns-then-n-eq0-clause-outcome g c =
     let going = c.loop-total.invariant.going in
     let outcome = rw c.loop-total.invariant.shape at c.finish.ensures.outcome _ in
     ends_finish _ _ _ g.R.Source.hands g.met.R.Source.hands_more g.W.Sink.takes g.met.W.Sink.takes_more
-        g.W.Sink.flushes _ c.finish.new.engine _ _ _ _ _ _ _ _ _ _ (g.R.Source.is_at_end c.read_piece.new.reader)
-        c.finish.result going c.loop-total.invariant.unflushed
+    g.W.Sink.flushes _ c.finish.new.engine _ _ _ _ _ _ _ _ _ _ (g.R.Source.is_at_end c.read_piece.new.reader)
+    c.finish.result going c.loop-total.invariant.unflushed
     c.in-Ok.ensures.bytes (ap (λ k. take k c.read_piece.new.piece) c.if-n-eq0.true) (c.in-Ok.ensures.end c.if-n-eq0.true) (outcome _ _ going.here)
 
 pub returns-in-Err-clause-outcome : goal.returns-in-Err-clause-outcome
 returns-in-Err-clause-outcome g c =
     let going = c.loop-total.invariant.going in
     let outcome = at_passes _ _ (ap (λ (s : Shape). s.passes) c.loop-total.invariant.shape) _ c.args.engine.now
-        c.loop-total.engine c.feed_all.new.engine _ _ c.feed_all.new.self.bytes.items _ c.feed_all.new.self.number _
-        (Err c.in-Err.fault) c.in-Err.ensures.outcome in
+    c.loop-total.engine c.feed_all.new.engine _ _ c.feed_all.new.self.bytes.items _ c.feed_all.new.self.number _
+    (Err c.in-Err.fault) c.in-Err.ensures.outcome in
     ends_fed _ _ _ g.R.Source.hands g.met.R.Source.hands_more g.W.Sink.takes g.met.W.Sink.takes_more
-        g.W.Sink.flushes _ c.feed_all.new.engine _ _ _ _ _ _ _ _ c.feed_all.new.self.bytes.items _
-        c.feed_all.new.self.number _ _ (g.R.Source.is_at_end c.read_piece.new.reader) c.in-Err.fault going
+    g.W.Sink.flushes _ c.feed_all.new.engine _ _ _ _ _ _ _ _ c.feed_all.new.self.bytes.items _
+    c.feed_all.new.self.number _ _ (g.R.Source.is_at_end c.read_piece.new.reader) c.in-Err.fault going
     (c.in-Err.ensures.flushes ∙ c.loop-total.invariant.unflushed)
     c.in-Ok.ensures.bytes (take-append-le c.in-Ok.n _ _ c.in-Ok.ensures.count) (outcome _ _ going.here)
 
@@ -55,8 +55,8 @@ returns-in_default-clause-ends g c = c.in_default.ensures.unended ∙ c.loop-tot
 pub returns-then-n-eq0-clause-ends : goal.returns-then-n-eq0-clause-ends
 returns-then-n-eq0-clause-ends g c =
     ended_once _ _ _ c.finish.new.engine _ _ _ _ _ _ _ c.finish.result (c.in-Ok.ensures.ends
-        ∙ end_read _ _ c.if-n-eq0.true ∙ ap one_more c.loop-total.invariant.unended)
-        ((rw c.loop-total.invariant.shape at c.finish.ensures.outcome _) _ _ c.loop-total.invariant.going.here)
+    ∙ end_read _ _ c.if-n-eq0.true ∙ ap one_more c.loop-total.invariant.unended)
+    ((rw c.loop-total.invariant.shape at c.finish.ensures.outcome _) _ _ c.loop-total.invariant.going.here)
 
 pub returns-in-Err-clause-ends : goal.returns-in-Err-clause-ends
 returns-in-Err-clause-ends g c = unended_still _ _ c.in-Err.fault (c.in-Ok.ensures.ends ∙ more_read _ _ c.if-n-eq0.false ∙ c.loop-total.invariant.unended)
@@ -84,8 +84,8 @@ loop-total-preserved g c = record {
       let going = c.loop-total.invariant.going in
       let outcome = rw c.loop-total.invariant.shape at c.in_default-feed_all.ensures.outcome _ in
       going_on _ _ _ g.R.Source.hands g.met.R.Source.hands_more g.W.Sink.takes g.met.W.Sink.takes_more
-          g.W.Sink.flushes _ _ _ _ _ _ _ _ _ _ _ _ _ _ _ _ going c.in-Ok.ensures.bytes
-          (take-append-le c.in-Ok.n _ _ c.in-Ok.ensures.count)
+      g.W.Sink.flushes _ _ _ _ _ _ _ _ _ _ _ _ _ _ _ _ going c.in-Ok.ensures.bytes
+      (take-append-le c.in-Ok.n _ _ c.in-Ok.ensures.count)
       (length-take c.in-Ok.n c.read_piece.new.piece ∙ omega (arith, c.in-Ok.ensures.count)) (outcome _ _ going.here);
 }
 

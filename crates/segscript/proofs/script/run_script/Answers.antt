@@ -32,13 +32,13 @@ returns-clause-each_turn g c =
 pub returns-clause-bad_line : goal.returns-clause-bad_line
 returns-clause-bad_line g c = λ script text n all bad reads writes made.
     ends_at_bad c.args.shape g.R.Source.hands g.R.Source.is_at_end _ _ _ _ _ script all _ _ reads writes text n
-        c.serve_script-result.result c.serve_script-result.ensures.read c.serve_script-result.ensures.write
-        c.serve_script-result.ensures.made bad
+    c.serve_script-result.result c.serve_script-result.ensures.read c.serve_script-result.ensures.write
+    c.serve_script-result.ensures.made bad
     (returns-clause-outcome g c)
 
 pub returns-clause-no_bad_line : goal.returns-clause-no_bad_line
 returns-clause-no_bad_line g c = λ script text all good reads writes made.
     ends_well c.args.shape g.R.Source.hands g.R.Source.is_at_end _ _ _ _ _ script all _ _ reads writes text
-        c.serve_script-result.result c.serve_script-result.ensures.read c.serve_script-result.ensures.write
-        c.serve_script-result.ensures.made good
+    c.serve_script-result.result c.serve_script-result.ensures.read c.serve_script-result.ensures.write
+    c.serve_script-result.ensures.made good
     (returns-clause-outcome g c)

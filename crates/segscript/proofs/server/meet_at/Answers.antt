@@ -16,7 +16,7 @@ returns-then-first-second c =
     let some : 0 < length back = (let second = c.requires.second in let long = cut.ensures.back_len in omega arith) in
     subst₂ (λ k old. HaveMet (board_of c.args.index.now) c.args.first k old (set front c.args.first c.meet.new.first ++ set back 0 c.meet.new.second)) cut.ensures.front_len (sym cut.ensures.value)
     (met_onward (board_of c.args.index.now) front back c.args.first p q c.meet.new.first c.meet.new.second within
-        (slice_get-get_or front c.args.first _ within) (slice_get-get_or back 0 _ some) c.meet.ensures.meets)
+    (slice_get-get_or front c.args.first _ within) (slice_get-get_or back 0 _ some) c.meet.ensures.meets)
 
 pub returns-else-first-second : goal.returns-else-first-second
 returns-else-first-second c =
@@ -30,4 +30,4 @@ returns-else-first-second c =
     let some : 0 < length back = (let first = c.requires.first in let long = cut.ensures.back_len in omega arith) in
     subst₂ (λ k old. HaveMet (board_of c.args.index.now) k c.args.second old (set front c.args.second met.new.second ++ set back 0 met.new.first)) cut.ensures.front_len (sym cut.ensures.value)
     (met_back (board_of c.args.index.now) front back c.args.second p q met.new.second met.new.first within
-        (slice_get-get_or front c.args.second _ within) (slice_get-get_or back 0 _ some) met.ensures.meets)
+    (slice_get-get_or front c.args.second _ within) (slice_get-get_or back 0 _ some) met.ensures.meets)

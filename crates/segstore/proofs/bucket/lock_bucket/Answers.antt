@@ -22,8 +22,8 @@ returns-then-not-take_bucket c =
     let home : c.bucket_of-bucket.result ≡ bucket_of b.shape c.args.key.now = c.bucket_of-bucket.ensures ∙ (λ i. c.hash.ensures i % (c.shape.ensures i).buckets) in
     let within : c.bucket_of-bucket.result < b.shape.buckets = subst (λ n. n < b.shape.buckets) (sym home) (bucket_in b.shape c.args.key.now quiet.pass.valid) in
     let gave = gave_up b c.args.pass.now c.take_bucket.new.pass c.bucket_of-bucket.result quiet within
-        c.if-not-take_bucket.ensures.takes c.if-not-take_bucket.ensures.same.0 c.if-not-take_bucket.ensures.same.1
-        in
+    c.if-not-take_bucket.ensures.takes c.if-not-take_bucket.ensures.same.0 c.if-not-take_bucket.ensures.same.1
+    in
     let free = sym c.locked.ensures ∙ unlocked c.locked.result c.if-is_some.ensures in
     record {
       locks = record {

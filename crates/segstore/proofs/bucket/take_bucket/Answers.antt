@@ -9,7 +9,7 @@ loop-tries-init c = record { tried = none_tried c.args.board.now c.args.bucket c
 pub returns-then-take-clause-takes : goal.returns-then-take-clause-takes
 returns-then-take-clause-takes c =
     taken_at c.args.board.now c.args.bucket c.loop-tries.tries c.args.pass.now c.loop-tries.pass c.take.new.pass
-        c.requires.bucket c.loop-tries-test.true c.loop-tries.invariant.tried c.if-take.ensures.takes
+    c.requires.bucket c.loop-tries-test.true c.loop-tries.invariant.tried c.if-take.ensures.takes
 
 pub loop-tries-preserved : goal.loop-tries-preserved
 loop-tries-preserved c = record {

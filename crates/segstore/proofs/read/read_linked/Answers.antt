@@ -18,8 +18,11 @@ pub returns-in-Ok-clause-linked : goal.returns-in-Ok-clause-linked
 returns-in-Ok-clause-linked c = let b = c.args.board.now in let x = c.in-Ok.ensures.same in let r = c.pair_of_row in
     let p = c.args.pass.now in let q = c.look_again.new.pass in let item = c.in-Ok.item in
     let pair = r.ensures.pair x.key x.value x.was.valid.0 x.was.valid.1 (holds_item b q r.new.pass c.args.place item x.key x.value x.was r.ensures.reads) in
-    let one = same_Some _ _ (sym pair ∙ c.unwrap-key.ensures) in
-    (item_word item, x.same, found_as b.shape (trace p) (trace r.new.pass) c.args.place (item_word item) x.key
-        x.value _ _ (ap (λ y. y.0) one) (ap (λ y. y.1) (sym one))
-        (found_item b p q r.new.pass c.args.place item x.key x.value c.in-Ok.ensures.looked x.was x.entered
-        r.ensures.reads))
+    let one = same_Some _ _ (sym pair ∙ c.unwrap-key.ensures) in (
+      item_word item,
+      x.same,
+      found_as b.shape (trace p) (trace r.new.pass) c.args.place (item_word item) x.key
+          x.value _ _ (ap (λ y. y.0) one) (ap (λ y. y.1) (sym one))
+          (found_item b p q r.new.pass c.args.place item x.key x.value c.in-Ok.ensures.looked x.was x.entered
+          r.ensures.reads),
+    )

@@ -54,5 +54,5 @@ returns-clause-segments c =
     let done = set_anew s d r c.none_reading.new.pass c.set_state.new.self c.set_used.new.self asks.keeps c.set_state.ensures c.set_used.ensures in
     subst (KeepsSegments c.args.board.now) (sym done)
     (keeps_refilled c.args.board.now p r s d c.in-Some.state (adds_refilling _ p _ s d asks) asks.step.plain
-        (sym c.state.ensures ∙ c.in-Some.is) (λ e. false≢true (sym c.if-eq.false ∙ (c.eq.ensures ∙ (rw e refl))))
-        c.requires.pass c.requires.segments)
+    (sym c.state.ensures ∙ c.in-Some.is) (λ e. false≢true (sym c.if-eq.false ∙ (c.eq.ensures ∙ (rw e refl))))
+    c.requires.pass c.requires.segments)

@@ -15,7 +15,7 @@ value_in_row-requires-clause-zero c =
     let pair = c.requires.pair in
     let read = c.load_words-words.ensures in
     let holds : Holds (row_after (trace c.load_words-words.new.pass) c.args.segment c.args.row) pair.key
-        pair.value = λ place lt. ap (λ (x : Row). x.words place) read.reads.same ∙ pair.holds place lt in
+    pair.value = λ place lt. ap (λ (x : Row). x.words place) read.reads.same ∙ pair.holds place lt in
     value_row_zero pair.key pair.value c.load_words-words.result c.args.header pair.is_key pair.is_value
     (sym (c.requires.header ∙ pair.holds 0 (omega arith))) (value_words _ pair.key pair.value holds ∙ sym read.words)
 

@@ -32,7 +32,7 @@ row_store_at-requires-clause-may c =
 pub returns-clause-moved : goal.returns-clause-moved
 returns-clause-moved c =
     stores_one c.args.board.now c.args.pass.now c.row_load_at.new.pass c.row_store_at.new.pass c.args.at.segment
-        c.args.at.row c.args.place c.args.words.now c.row_load_at.ensures.did.moved c.row_store_at.ensures.did
+    c.args.at.row c.args.place c.args.words.now c.row_load_at.ensures.did.moved c.row_store_at.ensures.did
 
 pub returns-clause-own : goal.returns-clause-own
 returns-clause-own c =

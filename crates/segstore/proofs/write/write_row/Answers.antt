@@ -10,4 +10,4 @@ fill_row-requires-clause-own c = let next = c.in_ok-row.ensures.next in
 pub returns-clause-moved : goal.returns-clause-moved
 returns-clause-moved c =
     subst (λ (key : List ℕ). FillsRow c.args.board.now c.in_ok-row.row.segment c.in_ok-row.row.row key
-        c.args.value.now c.args.pass.now c.fill_row.new.pass) c.new-words.ensures.value c.fill_row.ensures.moved
+    c.args.value.now c.args.pass.now c.fill_row.new.pass) c.new-words.ensures.value c.fill_row.ensures.moved

@@ -25,11 +25,13 @@ pub returns-then-not-has_tag-clause-idles : goal.returns-then-not-has_tag-clause
 returns-then-not-has_tag-clause-idles c = idles _ _ c.requires.pass
 
 pub returns-then-not-has_tag-clause-is : goal.returns-then-not-has_tag-clause-is
-returns-then-not-has_tag-clause-is c = let b = c.args.board.now in let r = c.requires in
-    (λ t. absurd (false≢true t), λ has. absurd
-        (both_ways _ c.if-not-has_tag.true (c.has_tag.ensures.1
-        (tag_is b.shape _ _ _ c.args.target.word c.args.sought.now.key r.pass.valid r.pass.lawful r.word has
-        ∙ sym r.sought.tag))))
+returns-then-not-has_tag-clause-is c = let b = c.args.board.now in let r = c.requires in (
+  λ t. absurd (false≢true t),
+  λ has. absurd
+      (both_ways _ c.if-not-has_tag.true (c.has_tag.ensures.1
+      (tag_is b.shape _ _ _ c.args.target.word c.args.sought.now.key r.pass.valid r.pass.lawful r.word has
+      ∙ sym r.sought.tag))),
+)
 
 pub returns-in-None-clause-idles : goal.returns-in-None-clause-idles
 returns-in-None-clause-idles c = idles _ _ c.requires.pass

@@ -51,7 +51,7 @@ returns-clause-presents g c = let b = c.args.board.now in let p = c.args.pass.no
     let word : item_word c.unwrap-item.result ≡ target.word = subst (λ o. IfSome o (λ item. item_word item ≡ target.word)) c.unwrap-item.ensures c.unpack.ensures.some in
     subst (λ o. IsPresentWord b g.key c.args.now c.args.found o c.leave_segment.new.pass) (sym c.then_some.ensures)
     (tells_word b g.key target p r.0 own.0 own.1 c.unwrap-item.result word e.new.pass c.leave_segment.new.pass
-        r.1.1.0 e.ensures.enters e.result e.ensures.deadline c.leave_segment.ensures c.args.now c.args.found of)
+    r.1.1.0 e.ensures.enters e.result e.ensures.deadline c.leave_segment.ensures c.args.now c.args.found of)
 
 pub returns-clause-steps : goal.returns-clause-steps
 returns-clause-steps g c = let came = c.enter_segment-deadline.ensures.enters.steps in let left = c.leave_segment.ensures.steps in omega (arith, came, left)

@@ -49,8 +49,8 @@ pub returns-then-is_item_of-clause-searches : goal.returns-then-is_item_of-claus
 returns-then-is_item_of-clause-searches c = let l = c.look in let b = c.args.board.now in let place : Place = record { bucket = c.loop-word.bucket; word = c.loop-word-2.word } in
     let bit = subst (HasBit b.shape (trace c.args.pass.now) (number c.args.pass.now)) c.requires.sought.bucket c.requires.bit in let s = c.loop-word-2.invariant.searching in
     is_target b c.args.sought.now.key c.args.pass.now _ l.new.pass place l.result c.loop-word-2.empty s bit
-        (step_idles b _ _ _ _ l.ensures.step l.ensures.did) l.ensures.reads _ c.is_item_of.ensures.idles
-        (c.is_item_of.ensures.is.0 c.if-is_item_of.true) l.ensures.found
+    (step_idles b _ _ _ _ l.ensures.step l.ensures.did) l.ensures.reads _ c.is_item_of.ensures.idles
+    (c.is_item_of.ensures.is.0 c.if-is_item_of.true) l.ensures.found
 
 pub loop-word-2-preserved : goal.loop-word-2-preserved
 loop-word-2-preserved c = let l = c.look in let b = c.args.board.now in let place : Place = record { bucket = c.loop-word.bucket; word = c.loop-word-2.word } in
@@ -63,10 +63,10 @@ loop-word-2-preserved c = let l = c.look in let b = c.args.board.now in let plac
           c.or_earlier-empty.ensures next (next_word place) refl;
       deep = deep_inner b c.is_item_of.new.pass c.loop-word.bucket c.loop-word-2.word c.loop-word.buckets c.loop-word-2.auto.word
           (deeper b c.args.sought.now.key c.args.pass.now _ l.new.pass place l.result c.loop-word-2.empty s bit
-              (step_idles b _ _ _ _ l.ensures.step l.ensures.did) l.ensures.reads _ c.is_item_of.ensures.idles _
-              (Some (next_word place)) (λ has. both_ways _ c.if-is_item_of.false (c.is_item_of.ensures.is.1 has))
-              c.or_earlier-empty.ensures next c.loop-word.buckets (next_word place) c.loop-word-2.invariant.deep
-              refl);
+          (step_idles b _ _ _ _ l.ensures.step l.ensures.did) l.ensures.reads _ c.is_item_of.ensures.idles _
+          (Some (next_word place)) (λ has. both_ways _ c.if-is_item_of.false (c.is_item_of.ensures.is.1 has))
+          c.or_earlier-empty.ensures next c.loop-word.buckets (next_word place) c.loop-word-2.invariant.deep
+          refl);
       steps = omega (arith, before, one, key);
     }
 
@@ -112,9 +112,9 @@ returns-then-is_item_of-2-clause-searches c = let l = c.look-in-loop-word in let
     let end : c.loop-word-2.word ≡ 7 = (let over = c.loop-word-2-test.false in let within = c.loop-word-2.auto.word-end in omega (arith, over, within)) in
     let s = at_last b c.args.sought.now.key c.args.pass.now c.loop-word-2.pass c.loop-word.bucket c.loop-word-2.word c.loop-word-2.empty end c.loop-word-2.invariant.searching in
     is_target b c.args.sought.now.key c.args.pass.now _ l.new.pass place l.result c.loop-word-2.empty s bit
-        (step_idles b _ _ _ _ l.ensures.step l.ensures.did) l.ensures.reads _
-        c.is_item_of-in-loop-word.ensures.idles (c.is_item_of-in-loop-word.ensures.is.0 c.if-is_item_of-2.true)
-        l.ensures.found
+    (step_idles b _ _ _ _ l.ensures.step l.ensures.did) l.ensures.reads _
+    c.is_item_of-in-loop-word.ensures.idles (c.is_item_of-in-loop-word.ensures.is.0 c.if-is_item_of-2.true)
+    l.ensures.found
 
 pub returns-in_default-clause-idles : goal.returns-in_default-clause-idles
 returns-in_default-clause-idles c = let l = c.look-in-loop-word in let b = c.args.board.now in let place : Place = record { bucket = c.loop-word.bucket; word = 7 } in
@@ -136,12 +136,12 @@ returns-in_default-clause-searches c = let l = c.look-in-loop-word in let b = c.
     let s = at_last b c.args.sought.now.key c.args.pass.now c.loop-word-2.pass c.loop-word.bucket c.loop-word-2.word c.loop-word-2.empty end c.loop-word-2.invariant.searching in
     subst (λ found. Searches b c.args.sought.now.key found c.is_item_of-in-loop-word.new.pass) (sym c.or_empty.ensures)
     (found_end b c.args.sought.now.key c.args.pass.now _ l.new.pass place l.result c.loop-word-2.empty s bit
-        (step_idles b _ _ _ _ l.ensures.step l.ensures.did) l.ensures.reads _
-        c.is_item_of-in-loop-word.ensures.idles _ c.next_place.result
-        (λ has. both_ways _ c.if-is_item_of-2.false (c.is_item_of-in-loop-word.ensures.is.1 has))
-        c.or_earlier-empty-in-loop-word.ensures c.next_place.ensures c.loop-word.buckets c.in_default.is
-        l.ensures.found (deep_last b c.loop-word-2.pass c.loop-word.bucket c.loop-word-2.word c.loop-word.buckets
-        end c.loop-word-2.invariant.deep))
+    (step_idles b _ _ _ _ l.ensures.step l.ensures.did) l.ensures.reads _
+    c.is_item_of-in-loop-word.ensures.idles _ c.next_place.result
+    (λ has. both_ways _ c.if-is_item_of-2.false (c.is_item_of-in-loop-word.ensures.is.1 has))
+    c.or_earlier-empty-in-loop-word.ensures c.next_place.ensures c.loop-word.buckets c.in_default.is
+    l.ensures.found (deep_last b c.loop-word-2.pass c.loop-word.bucket c.loop-word-2.word c.loop-word.buckets
+    end c.loop-word-2.invariant.deep))
 
 pub overflow_add-buckets : goal.overflow_add-buckets
 overflow_add-buckets c = let few = few_buckets c.args.board.now c.args.sought.now.key c.args.pass.now

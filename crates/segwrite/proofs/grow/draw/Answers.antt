@@ -15,8 +15,8 @@ draw_overflow-requires-clause-may c = let l = c.loop-from in
 pub loop-from-preserved : goal.loop-from-preserved
 loop-from-preserved c = let l = c.loop-from in let step = c.draw_overflow.ensures.step.1 in
     drawing_later c.args.board.now c.args.bucket l.from c.args.pass.now l.pass c.draw_overflow.new.pass l.invariant
-        c.requires.clean c.in-Err.counter c.in-Err.ensures.missed
-        (one_step c.args.board.now l.pass c.draw_overflow.new.pass _ _ step) step.plain step.memo
+    c.requires.clean c.in-Err.counter c.in-Err.ensures.missed
+    (one_step c.args.board.now l.pass c.draw_overflow.new.pass _ _ step) step.plain step.memo
 
 pub returns-in-Ok : goal.returns-in-Ok
 returns-in-Ok c = let l = c.loop-from in let step = c.draw_overflow.ensures.step.1 in record {
@@ -27,6 +27,8 @@ returns-in-Ok c = let l = c.loop-from in let step = c.draw_overflow.ensures.step
 
 pub returns : goal.returns
 returns c = let b = c.args.board.now in let l = c.loop-from in
-    record { draws = none_left b c.args.bucket l.from c.args.pass.now l.pass l.invariant
-        (subst (λ (s : Shape). s.overflow ≤ l.from) c.shape.ensures c.loop-from-test.false);
-        steps = drawn_steps b l.from c.args.pass.now l.pass l.invariant }
+    record {
+      draws = none_left b c.args.bucket l.from c.args.pass.now l.pass l.invariant
+          (subst (λ (s : Shape). s.overflow ≤ l.from) c.shape.ensures c.loop-from-test.false);
+      steps = drawn_steps b l.from c.args.pass.now l.pass l.invariant;
+    }

@@ -22,8 +22,8 @@ did_put : (b : Board) (bucket overflow : ℕ) (place : Place) (item : Item) (wor
     → AddsAtOnce b (Put (number p) (home_bucket_of (trace p) overflow) (item_word item) ∷ []) p r → AddsAtOnce b (Put (number p) bucket word ∷ []) p r
 did_put b bucket overflow place item word p r is spare last same d =
     subst (λ w. AddsAtOnce b (Put (number p) bucket w ∷ []) p r) same
-        (subst (λ k. AddsAtOnce b (Put (number p) k (item_word item) ∷ []) p r)
-        (drawn_home b bucket overflow place word p is spare last) d)
+    (subst (λ k. AddsAtOnce b (Put (number p) k (item_word item) ∷ []) p r)
+    (drawn_home b bucket overflow place word p is spare last) d)
 
 pub chain-requires-clause-may : goal.chain-requires-clause-may
 chain-requires-clause-may c = let b = c.args.board.now in let r = c.requires in let p = c.args.pass.now in let filled = c.fill_overflow.new.pass in
@@ -31,8 +31,8 @@ chain-requires-clause-may c = let b = c.args.board.now in let r = c.requires in 
     let word = unpacked c.unpack.result c.unwrap-item.result w c.unpack.ensures.some c.unwrap-item.ensures in
     let d = did_put b bucket o c.args.place c.unwrap-item.result w p filled r.pass r.spare r.last word c.fill_overflow.ensures.did in
     may_chain b bucket o c.args.place w filled d.moved.pass
-        (spare_filled b bucket o c.args.place w p r.pass r.spare r.last filled d)
-        (last_filled b bucket o c.args.place w p r.pass r.spare r.last filled d)
+    (spare_filled b bucket o c.args.place w p r.pass r.spare r.last filled d)
+    (last_filled b bucket o c.args.place w p r.pass r.spare r.last filled d)
     (copy_filled b bucket o c.args.place w p r.pass r.spare r.last filled d)
 
 pub returns : goal.returns
@@ -41,8 +41,8 @@ returns c = let b = c.args.board.now in let r = c.requires in let p = c.args.pas
     let word = unpacked c.unpack.result c.unwrap-item.result w c.unpack.ensures.some c.unwrap-item.ensures in
     let d = did_put b bucket o c.args.place c.unwrap-item.result w p filled r.pass r.spare r.last word c.fill_overflow.ensures.did in
     let there = home_is b bucket o c.args.place w filled d.moved.pass
-        (spare_filled b bucket o c.args.place w p r.pass r.spare r.last filled d)
-        (last_filled b bucket o c.args.place w p r.pass r.spare r.last filled d) in
+    (spare_filled b bucket o c.args.place w p r.pass r.spare r.last filled d)
+    (last_filled b bucket o c.args.place w p r.pass r.spare r.last filled d) in
     let put = c.fill_overflow.ensures.step.1 in let step = c.chain.ensures.step.1 in record {
       tries = tried b bucket o c.args.place w p filled c.chain.new.pass r.pass r.spare r.last d put.plain put.memo c.chain.result
           (subst (λ k. OnOk c.chain.result (AddsAtOnce b (Chained (number filled) k o ∷ []) filled c.chain.new.pass)) there c.chain.ensures.chained) c.chain.ensures.missed step.plain step.memo;

@@ -27,8 +27,8 @@ loop-found-preserved g c = let i = c.loop-found.invariant in let s = c.clear.ens
 pub returns-clause-did : goal.returns-clause-did
 returns-clause-did g c =
     came_about c.args.board.now g.left.0 (unlink_event g.left.0 g.left.1) c.args.target.place c.loop-found.old 0
-        c.args.pass.now c.loop-found.pass c.clear.new.pass c.loop-found.invariant.clearing
-        c.in_default.ensures.cleared
+    c.args.pass.now c.loop-found.pass c.clear.new.pass c.loop-found.invariant.clearing
+    c.in_default.ensures.cleared
 
 pub returns-clause-steps : goal.returns-clause-steps
 returns-clause-steps g c =

@@ -11,9 +11,11 @@ use Rattle.segwrite.proofs.removal.delete.Goals as goal
 pub returns-then-not-take_to_write : goal.returns-then-not-take_to_write
 returns-then-not-take_to_write c = let b = c.args.board.now in let s = c.of-sought.ensures in
     let home = s.sought.bucket ∙ ap (bucket_of b.shape) s.key in
-    record { deletes = deletes_nothing b c.args.key.now c.args.now c.args.pass.now c.take_to_write.new.pass
-        (subst (λ k. TakesToWrite b k false c.args.pass.now c.take_to_write.new.pass) home
-        c.if-not-take_to_write.ensures.takes) c.take_to_write.ensures.steps }
+    record {
+      deletes = deletes_nothing b c.args.key.now c.args.now c.args.pass.now c.take_to_write.new.pass
+          (subst (λ k. TakesToWrite b k false c.args.pass.now c.take_to_write.new.pass) home
+          c.if-not-take_to_write.ensures.takes) c.take_to_write.ensures.steps;
+    }
 
 pub remove-requires : goal.remove-requires
 remove-requires c = let b = c.args.board.now in let s = c.of-sought in let took = c.if-not-take_to_write.ensures.takes in let q = c.take_to_write.new.pass in

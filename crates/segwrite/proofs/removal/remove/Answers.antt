@@ -6,14 +6,14 @@ use Rattle.segwrite.proofs.removal.remove.Goals as goal
 pub present_word-requires : goal.present_word-requires
 present_word-requires g c = let r = c.requires in
     may_look c.args.board.now g.request c.args.sought.now.key c.args.now c.args.sought.now.bucket r.1.1.1.1
-        r.1.1.0.bucket c.args.pass.now _ c.find-found.result r.1.0 c.find-found.ensures.idles r.1.1.1.0
-        c.find-found.ensures.finds
+    r.1.1.0.bucket c.args.pass.now _ c.find-found.result r.1.0 c.find-found.ensures.idles r.1.1.1.0
+    c.find-found.ensures.finds
 
 pub refuse-requires : goal.refuse-requires
 refuse-requires g c = let r = c.requires in let f = c.find-found in let w = c.present_word in
     may_tell c.args.board.now g.request c.args.sought.now.key c.args.now c.args.sought.now.bucket r.1.1.1.1
-        r.1.1.0.bucket c.args.pass.now _ _ f.result w.result r.1.0 f.ensures.idles f.ensures.finds w.ensures.peeks
-        w.ensures.presents c.in_default.is
+    r.1.1.0.bucket c.args.pass.now _ _ f.result w.result r.1.0 f.ensures.idles f.ensures.finds w.ensures.peeks
+    w.ensures.presents c.in_default.is
 
 pub returns-in_default : goal.returns-in_default
 returns-in_default g c = let r = c.requires in let f = c.find-found in let w = c.present_word in record {
@@ -26,14 +26,14 @@ returns-in_default g c = let r = c.requires in let f = c.find-found in let w = c
 pub clear-requires : goal.clear-requires
 clear-requires g c = let r = c.requires in let f = c.find-found in let w = c.present_word in
     may_clear c.args.board.now g.request c.args.sought.now.key c.args.now c.args.sought.now.bucket r.1.1.1.1
-        r.1.1.0.bucket c.args.pass.now _ _ f.result w.result r.1.0 f.ensures.idles f.ensures.finds w.ensures.peeks
-        w.ensures.presents c.in-Some.target c.in-Some.is
+    r.1.1.0.bucket c.args.pass.now _ _ f.result w.result r.1.0 f.ensures.idles f.ensures.finds w.ensures.peeks
+    w.ensures.presents c.in-Some.target c.in-Some.is
 
 pub release-requires : goal.release-requires
 release-requires g c = let r = c.requires in let f = c.find-found in let w = c.present_word in
     may_free c.args.board.now g.request c.args.sought.now.key c.args.now c.args.sought.now.bucket r.1.1.1.1
-        r.1.1.0.bucket c.args.pass.now _ _ f.result w.result r.1.0 f.ensures.idles f.ensures.finds w.ensures.peeks
-        w.ensures.presents c.in-Some.target c.in-Some.is _ c.clear.ensures.did
+    r.1.1.0.bucket c.args.pass.now _ _ f.result w.result r.1.0 f.ensures.idles f.ensures.finds w.ensures.peeks
+    w.ensures.presents c.in-Some.target c.in-Some.is _ c.clear.ensures.did
 
 pub returns : goal.returns
 returns g c = let r = c.requires in let f = c.find-found in let w = c.present_word in let step = c.release.ensures.step.1 in let u = c.clear.ensures in record {

@@ -4,6 +4,8 @@ use Rattle.segwrite.specs.Writes.{Writes}
 use Rattle.segwrite.proofs.write.cas.Goals as goal
 
 pub returns : goal.returns
-returns c = record { writes = subst (λ k. Writes c.args.board.now
-    (Cas k c.args.value.now c.args.expected c.args.now) c.write.result.0 c.args.pass.now c.write.new.pass)
-    c.of.ensures.key c.write.ensures.writes }
+returns c = record {
+  writes = subst (λ k. Writes c.args.board.now
+      (Cas k c.args.value.now c.args.expected c.args.now) c.write.result.0 c.args.pass.now c.write.new.pass)
+      c.of.ensures.key c.write.ensures.writes;
+}

@@ -30,8 +30,8 @@ loop-found-preserved g c = let i = c.loop-found.invariant in let s = c.replace.e
 pub returns-clause-did : goal.returns-clause-did
 returns-clause-did g c = let item = c.args.item in
     came_about c.args.board.now (key_of g.request) (link_event g.request item.seg item.row) c.args.target.place
-        c.loop-found.old 0 c.args.pass.now c.loop-found.pass c.replace.new.pass c.loop-found.invariant.linking
-        c.in_default.ensures.replaced
+    c.loop-found.old 0 c.args.pass.now c.loop-found.pass c.replace.new.pass c.loop-found.invariant.linking
+    c.in_default.ensures.replaced
 
 pub returns-then-target-eq0-clause-steps : goal.returns-then-target-eq0-clause-steps
 returns-then-target-eq0-clause-steps g c = let one = one_step c.args.board.now c.args.pass.now c.link.new.pass _ _ c.link.ensures.step.1 in omega (arith, one)

@@ -29,7 +29,7 @@ returns g c = let b = c.args.board.now in let p = c.args.pass.now in let q = c.p
   };
   steps = (let looked = c.present_word.ensures.steps in let asked = c.refusal_where.ensures.steps in
       let sees = sees_key g.request (depends c.args.write.now.when g.request (key_of g.request) (value_of g.request)
-          c.args.write.now.clock c.in_default.not-Always c.requires.1.1.1.1.1.1) in
-          omega (arith, looked, asked, sees));
+      c.args.write.now.clock c.in_default.not-Always c.requires.1.1.1.1.1.1) in
+      omega (arith, looked, asked, sees));
   told = c.refusal_where.ensures.told;
 }

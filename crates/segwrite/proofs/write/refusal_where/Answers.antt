@@ -25,10 +25,10 @@ returns-in-Unchanged-2-clause-told g c = let b = c.args.board.now in let r = c.r
     let idles : Idles b c.args.pass.now look.new.pass = record { moved = look.ensures.did.moved; plain = step.plain; memo = step.memo } in
     subst (IsToldBy (reply_now b look.new.pass g.request)) (sym c.then_some-in-Unchanged-2.ensures)
     (told_by_look b g.request c.in-Unchanged-2.version c.args.write.now.clock look.result.version
-        c.args.write.now.sought.bucket c.args.pass.now look.new.pass r.1.0 r.0 r.1.1.0 r.1.1.1.0 (sym r.1.1.1.1.0
-        ∙ c.if-not-is_present.false) (r.1.1.1.1.1
-        ∙ ap (λ w. request_of w (key_of g.request) (value_of g.request) c.args.write.now.clock) c.in-Unchanged-2.is)
-        idles look.ensures.version)
+    c.args.write.now.sought.bucket c.args.pass.now look.new.pass r.1.0 r.0 r.1.1.0 r.1.1.1.0 (sym r.1.1.1.1.0
+    ∙ c.if-not-is_present.false) (r.1.1.1.1.1
+    ∙ ap (λ w. request_of w (key_of g.request) (value_of g.request) c.args.write.now.clock) c.in-Unchanged-2.is)
+    idles look.ensures.version)
 
 pub returns-in-Unchanged-2-clause-steps : goal.returns-in-Unchanged-2-clause-steps
 returns-in-Unchanged-2-clause-steps g c = let one = one_step c.args.board.now c.args.pass.now c.info_look-info.new.pass _ _ c.info_look-info.ensures.step in

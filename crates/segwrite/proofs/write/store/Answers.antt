@@ -33,12 +33,12 @@ invariant_of-item g c = let b = c.args.board.now in let r = c.requires in
 pair_of : (b : Board) (request : Request) (key value places : List ℕ) (segment row : ℕ) (p q : Pass) → key_of request ≡ key → value_of request ≡ value
     → AddsEvents b (fills (number p) segment row (row_of key value) places) p q → Holds (row_after (trace q) segment row) key value → IsKey key → IsValue value
     → AddsEvents b (fills (number p) segment row (row_of (key_of request) (value_of request)) places) p q
-        × Holds (row_after (trace q) segment row) (key_of request) (value_of request) × IsKey (key_of request)
-        × IsValue (value_of request)
+    × Holds (row_after (trace q) segment row) (key_of request) (value_of request) × IsKey (key_of request)
+    × IsValue (value_of request)
 pair_of b request key value places segment row p q k v m holds is_key is_value =
     subst (λ x. AddsEvents b (fills (number p) segment row (row_of x (value_of request)) places) p q
-        × Holds (row_after (trace q) segment row) x (value_of request) × IsKey x
-        × IsValue (value_of request)) (sym k)
+    × Holds (row_after (trace q) segment row) x (value_of request) × IsKey x
+    × IsValue (value_of request)) (sym k)
     (subst (λ y. AddsEvents b (fills (number p) segment row (row_of key y) places) p q × Holds (row_after (trace q) segment row) key y × IsKey key × IsValue y) (sym v) (m, holds, is_key, is_value))
 
 pub link-requires : goal.link-requires

@@ -15,5 +15,5 @@ returns-else-found-old-clause-missed c =
     let z = c.args.self.now.shape in let h = trace c.args.pass.now in let home = home_bucket z h c.args.place in
     let may = c.requires.may in let named = may.0.suits.1 in
     missed c.args.self.now c.args.pass.now _ _ _ c.args.place c.put_chain-found.result c.args.old home _ named.0
-        c.requires.pass may.0.guarded refl (last_at z h home (cell_at z c.args.place) may.1) named.2 refl
-        c.if-found-old.false c.put_chain-found.ensures
+    c.requires.pass may.0.guarded refl (last_at z h home (cell_at z c.args.place) may.1) named.2 refl
+    c.if-found-old.false c.put_chain-found.ensures

@@ -9,10 +9,13 @@ split_seat-seat-requires c =
     let b = c.args.self.now in let x = c.index_mut.result.now in let inv = c.loop-number.invariant in
     let first = get_first c.loop-number.passes.items x (let l = inv.0.long in let a = c.loop-number.auto.number in omega arith) c.index_mut.ensures.value in
     let new = inv.0.each 0 x first in
-    let some : 0 < b.table.shared.table_id.words = let l = b.long in omega arith in
-    (new.pass.table, some, deals (Unit {0}) b.table.shared.key x.seat.id x.seat.me.0 new.pass.is_pass new.number
-        (subst (λ (z : Shape). x.seat.me.0.view.dealt < z.passes) (sym b.same) (let dealt = inv.1 x first in
-        let below = c.loop-number-test.true in omega arith)))
+    let some : 0 < b.table.shared.table_id.words = let l = b.long in omega arith in (
+      new.pass.table,
+      some,
+      deals (Unit {0}) b.table.shared.key x.seat.id x.seat.me.0 new.pass.is_pass new.number
+          (subst (λ (z : Shape). x.seat.me.0.view.dealt < z.passes) (sym b.same) (let dealt = inv.1 x first in
+          let below = c.loop-number-test.true in omega arith)),
+    )
 
 pub loop-number-preserved : goal.loop-number-preserved
 loop-number-preserved c =

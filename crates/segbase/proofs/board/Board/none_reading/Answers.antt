@@ -17,9 +17,13 @@ module _ (b : Board) (p : Pass) (s old d w v : ℕ) (is_old : w ≡ old * 2 ^ 32
   new_back = omega arith
 
   can_ask : IsPassOf b p → MayTake b p (none_reading s old d) → CanStep b p (none_reading s (w / 2 ^ 32) (v / 2 ^ 32)) (Segment s) (λ n. either (eqb n w) v n)
-  can_ask is may = record { pass = is; at = refl; by = rw (old_back, new_back, is_old, is_new) refl;
-      may = subst (λ m. MayTake b p (none_reading s m (v / 2 ^ 32))) (sym old_back)
-      (subst (λ n. MayTake b p (none_reading s old n)) (sym new_back) may) }
+  can_ask is may = record {
+    pass = is;
+    at = refl;
+    by = rw (old_back, new_back, is_old, is_new) refl;
+    may = subst (λ m. MayTake b p (none_reading s m (v / 2 ^ 32))) (sym old_back)
+        (subst (λ n. MayTake b p (none_reading s old n)) (sym new_back) may);
+  }
 
   asked : (found : ℕ) (q : Pass) → Stepped b (none_reading s (w / 2 ^ 32) (v / 2 ^ 32)) found p q → Stepped b (none_reading s old d) found p q
   asked found q step = subst (λ n. Stepped b (none_reading s old n) found p q) new_back (subst (λ m. Stepped b (none_reading s m (v / 2 ^ 32)) found p q) old_back step)

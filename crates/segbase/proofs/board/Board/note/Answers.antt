@@ -10,6 +10,9 @@ split_seat-requires c =
     (c.requires.pass.table, words, carries (Unit {0}) b.table.shared.key x.id x.me.0 x.me.0 c.requires.pass.is_pass refl refl c.requires.pass.is_pass refl)
 
 pub returns-clause-pass : goal.returns-clause-pass
-returns-clause-pass c = let split = c.split_seat.ensures in
-    (as_was c.args.self.now c.args.pass.now (record { seat = c.split_seat.new.seat; plain = c.args.pass.now.plain })
-        c.requires.pass split.0 split.2 refl, ap (λ (m : Me (Unit {0}) Sight). m.0) split.2, refl)
+returns-clause-pass c = let split = c.split_seat.ensures in (
+  as_was c.args.self.now c.args.pass.now (record { seat = c.split_seat.new.seat; plain = c.args.pass.now.plain })
+      c.requires.pass split.0 split.2 refl,
+  ap (λ (m : Me (Unit {0}) Sight). m.0) split.2,
+  refl,
+)

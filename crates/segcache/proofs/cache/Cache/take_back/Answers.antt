@@ -29,8 +29,8 @@ index_mut-requires c =
     let have = new.ok.0 in
     let split = was.all ∙ ap (λ l. c.loop-guest.yielded ++ l) c.in-Some.ensures.steps.0 in
     let below = within ShareIndex c.args.self.now.homes.items new.items c.args.client.guests.items
-        c.loop-guest.yielded c.in-Some.guest (into_iter_items c.next.new.self) c.loop-guest.place was.at was.long
-        split c.requires.same in
+    c.loop-guest.yielded c.in-Some.guest (into_iter_items c.next.new.self) c.loop-guest.place was.at was.long
+    split c.requires.same in
     omega (arith, below, have)
 
 pub take_back-requires-clause-same : goal.take_back-requires-clause-same
@@ -38,16 +38,16 @@ take_back-requires-clause-same c =
     let was = c.loop-guest.invariant in
     let split = was.all ∙ ap (λ l. c.loop-guest.yielded ++ l) c.in-Some.ensures.steps.0 in
     there ShareIndex c.args.self.now.homes.items c.loop-guest.self.homes.items c.args.client.guests.items
-        c.loop-guest.yielded c.in-Some.guest (into_iter_items c.next.new.self) c.loop-guest.place
-        c.index_mut.result.now was.at was.rest split c.requires.same c.index_mut.ensures.value
+    c.loop-guest.yielded c.in-Some.guest (into_iter_items c.next.new.self) c.loop-guest.place
+    c.index_mut.result.now was.at was.rest split c.requires.same c.index_mut.ensures.value
 
 pub take_back-requires-clause-place : goal.take_back-requires-clause-place
 take_back-requires-clause-place c =
     let was = c.loop-guest.invariant in
     let split = was.all ∙ ap (λ l. c.loop-guest.yielded ++ l) c.in-Some.ensures.steps.0 in
     there HasPlaceFor c.args.self.now.homes.items c.loop-guest.self.homes.items c.args.client.guests.items
-        c.loop-guest.yielded c.in-Some.guest (into_iter_items c.next.new.self) c.loop-guest.place
-        c.index_mut.result.now was.at was.rest split c.requires.places c.index_mut.ensures.value
+    c.loop-guest.yielded c.in-Some.guest (into_iter_items c.next.new.self) c.loop-guest.place
+    c.index_mut.result.now was.at was.rest split c.requires.places c.index_mut.ensures.value
 
 pub loop-guest-preserved : goal.loop-guest-preserved
 loop-guest-preserved c =

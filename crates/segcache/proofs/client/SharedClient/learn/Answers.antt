@@ -38,7 +38,7 @@ index_mut-requires c =
     let have = new.ok.0 in
     let split = was.all ∙ ap (λ l. c.loop-note.yielded ++ l) c.in-Some.ensures.steps.0 in
     let below = within IsFor c.args.self.now.guests.items new.items c.args.notes.items c.loop-note.yielded
-        c.in-Some.note (into_iter_items c.next.new.self) c.loop-note.place was.at was.long split c.requires.notes in
+    c.in-Some.note (into_iter_items c.next.new.self) c.loop-note.place was.at was.long split c.requires.notes in
     omega (arith, below, have)
 
 pub learn-requires : goal.learn-requires

@@ -17,8 +17,8 @@ returns-then-made c =
     let below : place < length self.guests.items = omega (arith, wanted, have) in
     let is : c.make_room-made.result ≡ true = search rules in
     makes_room_in c.args.now c.make_room-made.result self _ place c.index_mut-guest.result.now
-        c.make_room-made.new.self c.in-Some.is below c.index_mut-guest.ensures.value c.make_room-made.ensures refl
-        refl
+    c.make_room-made.new.self c.in-Some.is below c.index_mut-guest.ensures.value c.make_room-made.ensures refl
+    refl
     (ap (λ made. wants_after made self.wants) (sym is))
 
 pub returns-else-made : goal.returns-else-made
@@ -30,6 +30,6 @@ returns-else-made c =
     let below : place < length self.guests.items = omega (arith, wanted, have) in
     let is : c.make_room-made.result ≡ false = search rules in
     makes_room_in c.args.now c.make_room-made.result self _ place c.index_mut-guest.result.now
-        c.make_room-made.new.self c.in-Some.is below c.index_mut-guest.ensures.value c.make_room-made.ensures refl
-        refl
+    c.make_room-made.new.self c.in-Some.is below c.index_mut-guest.ensures.value c.make_room-made.ensures refl
+    refl
     (ap (λ made. wants_after made self.wants) (sym is))

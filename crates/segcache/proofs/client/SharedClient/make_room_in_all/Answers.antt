@@ -57,8 +57,10 @@ returns c =
     let within = c.loop-place.auto.place-end in
     record {
       each = each;
-      calls = (all_three (λ a was is. of_guest.MakesCall (of_guest.At c.args.now (MakesRoomFor a)) was is) each old
-          new place (omega (arith, end, over, within)) was.long was.made,
-          record { wants = was.wants; holds = was.holds });
+      calls = (
+        all_three (λ a was is. of_guest.MakesCall (of_guest.At c.args.now (MakesRoomFor a)) was is) each old
+            new place (omega (arith, end, over, within)) was.long was.made,
+        record { wants = was.wants; holds = was.holds },
+      );
       all = was.all;
     }

@@ -47,7 +47,7 @@ loop-place-preserved c =
       made = subst (λ (l : List Note). AllThree (λ a was is. of_guest.MakesCall (Notes a) was is) l
           (take (place + 1) old) (take (place + 1) (slice_set new place is))) (sym {A = List Note} pushed.items)
           (three_next (λ a was is. of_guest.MakesCall (Notes a) was is) c.loop-place.notes.items old new place note
-              c.index_mut.result.now is below was.long was.rest c.index_mut.ensures.value was.made c.note.ensures);
+          c.index_mut.result.now is below was.long was.rest c.index_mut.ensures.value was.made c.note.ensures);
       wants = was.wants;
       holds = was.holds;
     }

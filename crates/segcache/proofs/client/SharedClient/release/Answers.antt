@@ -10,4 +10,4 @@ returns c =
     let have = self.guests.ok.0 in
     let below : place < length self.guests.items = omega (arith, held, have) in
     ends_hold c.release.result self _ place c.index_mut-guest.result.now c.release.new.self c.in-Some.is below
-        c.index_mut-guest.ensures.value (c.release.ensures.ends, c.release.ensures.was_held) refl refl refl
+    c.index_mut-guest.ensures.value (c.release.ensures.ends, c.release.ensures.was_held) refl refl refl

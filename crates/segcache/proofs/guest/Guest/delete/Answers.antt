@@ -11,8 +11,8 @@ pub invariant_of-self-clause-row : goal.invariant_of-self-clause-row
 invariant_of-self-clause-row c =
     let self = c.args.self.now in
     row_stays (shape_of self.share.index.value) self.member.pass c.delete.new.self.pass self.share.held
-        (deletes_keep _ _ _ _ _ _ c.delete.ensures.deletes.deletes ∙ ap memo c.set_now.ensures.sets.rest.pass)
-        self.row
+    (deletes_keep _ _ _ _ _ _ c.delete.ensures.deletes.deletes ∙ ap memo c.set_now.ensures.sets.rest.pass)
+    self.row
 
 pub returns : goal.returns
 returns c =

@@ -11,7 +11,7 @@ pub invariant_of-self-clause-row : goal.invariant_of-self-clause-row
 invariant_of-self-clause-row c =
     let self = c.args.self.now in
     row_stays (shape_of self.share.index.value) self.member.pass c.write_when.new.member.pass self.share.held
-        (c.write_when.ensures.writes.writes.memo ∙ ap memo c.set_now.ensures.sets.rest.pass) self.row
+    (c.write_when.ensures.writes.writes.memo ∙ ap memo c.set_now.ensures.sets.rest.pass) self.row
 
 pub returns : goal.returns
 returns c =

@@ -37,9 +37,11 @@ loose_spec 𝓤 𝓛 𝓜 𝓡 wired =
     let H = 𝓛.H in let 𝓣 = tables 𝓤 H 𝓜 𝓡 𝓡.env in let c = clauses 𝓛 𝓜.mem 𝓡.returns in let fn = code.function in
     let LZ = heap_laws.the_row_laws in let L : RattleType = Loose Kept heap LZ ghosts in
     let hs : Stays ended.signature.params ended.kept = (stay_dropped (plain (λ _. Handle)) yes, (stay_dropped (plain (λ _. heap)) yes, tt)) in
-    proved_at 𝓛 ended hs c 𝓜 𝓡 (Goes-dropped 𝓛 0 (plain (λ _. Handle)) yes (λ κs x f. refl),
-        (Goes-dropped 𝓛 0 (plain (λ _. heap)) yes (λ κs x f. refl), tt)) #self fn (code.unfolded 𝓤 H 𝓜 𝓡 wired)
-        (λ z are.
+    proved_at 𝓛 ended hs c 𝓜 𝓡 (
+      Goes-dropped 𝓛 0 (plain (λ _. Handle)) yes (λ κs x f. refl),
+      (Goes-dropped 𝓛 0 (plain (λ _. heap)) yes (λ κs x f. refl), tt),
+    ) #self fn (code.unfolded 𝓤 H 𝓜 𝓡 wired)
+    (λ z are.
     let Post : Val → SProp 𝓤 = (walk_of 𝓛 ended hs c).post z in let Run : List Val → SProp 𝓤 = λ ws. WpFn 𝓤 H 𝓣.C 𝓣.Λ fn ws Post in
     let d = z.0.3.0 in let a = z.0.3.1.0 in
     let last = tail (tail (tail (tail fn.body))) in

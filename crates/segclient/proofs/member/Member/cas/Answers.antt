@@ -9,11 +9,13 @@ end_write-requires c =
     let b = board_of c.args.index.now in
     let old = c.args.self.now in
     let call = c.cas-told in
-    record { member = member_goes c.args.index.now old call.new.pass c.requires.member call.ensures.writes.on
-        (write_stays b old.pass call.new.pass c.requires.member.0 _ call.result call.ensures.writes) }
+    record {
+      member = member_goes c.args.index.now old call.new.pass c.requires.member call.ensures.writes.on
+          (write_stays b old.pass call.new.pass c.requires.member.0 _ call.result call.ensures.writes);
+    }
 
 pub returns-clause-writes : goal.returns-clause-writes
 returns-clause-writes c =
     let call = c.cas-told in
     made_write (board_of c.args.index.now) (Cas c.args.key.now c.args.value.now c.args.expected) call.result
-        c.args.self.now call.new.pass c.end_write.new.self call.ensures.writes c.end_write.ensures.ends
+    c.args.self.now call.new.pass c.end_write.new.self call.ensures.writes c.end_write.ensures.ends

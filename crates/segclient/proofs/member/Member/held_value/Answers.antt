@@ -8,5 +8,5 @@ returns-clause-member c =
     let old = c.args.self.now in
     let call = c.held_value in
     member_goes c.args.index.now old call.new.pass c.requires.member call.ensures.reads.on
-        (nothing_stays b old.pass call.new.pass c.requires.member.0 call.ensures.reads.on
-        call.ensures.reads.keeps.entries)
+    (nothing_stays b old.pass call.new.pass c.requires.member.0 call.ensures.reads.on
+    call.ensures.reads.keeps.entries)

@@ -8,5 +8,5 @@ returns-clause-member c =
     let old = c.args.self.now in
     let call = c.hold in
     member_goes c.args.share.now.index.value old call.new.pass c.requires.member call.ensures.holds.holds.on
-        (hold_stays b old.pass call.new.pass c.requires.member.0 _ _ call.ensures.holds.answer
-        call.ensures.holds.holds)
+    (hold_stays b old.pass call.new.pass c.requires.member.0 _ _ call.ensures.holds.answer
+    call.ensures.holds.holds)

@@ -8,5 +8,5 @@ returns-clause-member c =
     let old = c.args.self.now in
     let call = c.stats in
     member_goes c.args.index.now old call.new.pass c.requires.member call.ensures.reads.only.on
-        (nothing_stays b old.pass call.new.pass c.requires.member.0 call.ensures.reads.only.on
-        call.ensures.reads.only.keeps.entries)
+    (nothing_stays b old.pass call.new.pass c.requires.member.0 call.ensures.reads.only.on
+    call.ensures.reads.only.keeps.entries)

@@ -8,5 +8,5 @@ returns-clause-member c =
     let old = c.args.self.now in
     let call = c.note in
     member_goes c.args.index.now old call.new.pass c.requires.member call.ensures.notes.only.on
-        (nothing_stays b old.pass call.new.pass c.requires.member.0 call.ensures.notes.only.on
-        call.ensures.notes.only.keeps.entries)
+    (nothing_stays b old.pass call.new.pass c.requires.member.0 call.ensures.notes.only.on
+    call.ensures.notes.only.keeps.entries)

@@ -40,12 +40,20 @@ returns-clause-puts c =
     let after = c.clear_after-cleared in
     let plan : Plan = record { request = Some (Set c.args.key.now c.args.value.now old.clock); cutoff = old.cutoff; deadline = policy.deadline; span = policy.span } in
     let whole : PutsWhole b plan (most_calls b.shape) told effort chosen q =
-    subst (λ cutoff. PutsWhole b (record { request = Some (Set c.args.key.now c.args.value.now old.clock);
-        cutoff = cutoff; deadline = policy.deadline; span = policy.span }) (most_calls b.shape) told effort chosen
-        q) is.cutoff
-    (subst (λ moment. PutsWhole b (record { request = Some (Set c.args.key.now c.args.value.now moment);
-        cutoff = policy.cutoff; deadline = policy.deadline; span = policy.span }) (most_calls b.shape) told effort
-        chosen q) is.moment put.ensures.puts) in
+    subst (λ cutoff. PutsWhole b (record {
+      request = Some (Set c.args.key.now c.args.value.now old.clock);
+      cutoff = cutoff;
+      deadline = policy.deadline;
+      span = policy.span;
+    }) (most_calls b.shape) told effort chosen
+    q) is.cutoff
+    (subst (λ moment. PutsWhole b (record {
+      request = Some (Set c.args.key.now c.args.value.now moment);
+      cutoff = policy.cutoff;
+      deadline = policy.deadline;
+      span = policy.span;
+    }) (most_calls b.shape) told effort
+    chosen q) is.moment put.ensures.puts) in
     let cleared = after.ensures.clears in
     let some = cleared.some in
     let clears = subst (λ cutoff. Clears b cutoff policy.deadline some.steps q after.new.pass) is.cutoff some.clears in

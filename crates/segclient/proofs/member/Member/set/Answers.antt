@@ -9,8 +9,10 @@ end_write-requires c =
     let b = board_of c.args.index.now in
     let old = c.args.self.now in
     let call = c.set_and_tell-told in
-    record { member = member_goes c.args.index.now old call.new.pass c.requires.member call.ensures.writes.on
-        (write_stays b old.pass call.new.pass c.requires.member.0 _ call.result.0 call.ensures.writes) }
+    record {
+      member = member_goes c.args.index.now old call.new.pass c.requires.member call.ensures.writes.on
+          (write_stays b old.pass call.new.pass c.requires.member.0 _ call.result.0 call.ensures.writes);
+    }
 
 pub returns-clause-writes : goal.returns-clause-writes
 returns-clause-writes c =

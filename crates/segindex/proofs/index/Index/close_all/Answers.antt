@@ -11,7 +11,7 @@ list_content-requires c = let closed = c.close_all.ensures in record { rest = (_
 pub returns-clause-content : goal.returns-clause-content
 returns-clause-content c =
     IfOk-weaker c.list_content.result _ _ (λ content lists. content_of_all c.args.self.board c.args.passes.items
-        c.close_all.result c.close_all.ensures content.items lists) c.list_content.ensures.lists
+    c.close_all.result c.close_all.ensures content.items lists) c.list_content.ensures.lists
 
 pub returns-clause-wanted : goal.returns-clause-wanted
 returns-clause-wanted c =

@@ -31,7 +31,7 @@ returns-then-not-make_room-clause-on c =
 pub returns-then-not-make_room-clause-serves : goal.returns-then-not-make_room-clause-serves
 returns-then-not-make_room-clause-serves c =
     let b = c.args.index.now.board in let p = c.args.self.now.pass in let q = c.ask-answer.new.self.pass in
-        let r = c.make_room.new.self.pass in let load = c.args.load in let told = c.ask-answer.result in
+    let r = c.make_room.new.self.pass in let load = c.args.load in let told = c.ask-answer.result in
     let asked = subst (λ x. AnswersCommand b x load.draw told p q) c.command_of-command.ensures c.ask-answer.ensures.answers in
     let full : told ≡ Write NoRoom = search rules in
     let room = c.if-not-make_room.ensures in
@@ -99,4 +99,4 @@ returns-clause-counts c =
 pub returns-clause-few : goal.returns-clause-few
 returns-clause-few c =
     recycles_between c.args.self.now.recycled c.ask-answer.new.self.recycled c.make_room.new.self.recycled
-        c.ask.new.self.recycled c.ask-answer.ensures.recycled c.make_room.ensures.few c.ask.ensures.recycled
+    c.ask.new.self.recycled c.ask-answer.ensures.recycled c.make_room.ensures.few c.ask.ensures.recycled

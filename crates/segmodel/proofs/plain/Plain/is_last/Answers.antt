@@ -26,6 +26,6 @@ returns-else-stands_in c =
     let was = there c.args.self.now.segments.items c.args.segment found (search rules) c.index.ensures in
     let within : c.args.row < length found.keys.items = rw (ap (λ o. (filling_of o).keys) was) at c.requires.used in
     c.if-stands_in.false ∙ sym (last_from (state_of c.args.self.now) c.args.segment c.args.row found.keys.items
-        c.index-2.result.now false (is_among (drop (c.args.row + 1) found.keys.items) c.index-2.result.now)
+    c.index-2.result.now false (is_among (drop (c.args.row + 1) found.keys.items) c.index-2.result.now)
     (ap (λ o. (filling_of o).keys) was) (get_or_default found.keys.items c.args.row [] c.index-2.result.now within ∙ sym c.index-2.ensures)
     (sym c.stands_in.ensures ∙ c.if-stands_in.false) refl)

@@ -13,7 +13,7 @@ loop-row-preserved-then-not-is_last c =
     let was = there c.loop-row.self.segments.items c.args.segment c.index.result.now (search rules) c.index.ensures in
     let within : c.loop-row.row < length (filling_in c.args.self.now c.args.segment).keys = omega (arith, c.loop-row.invariant.end, c.loop-row-test.true) in
     let has = frequency_there c.loop-row.self c.args.self.now c.args.segment c.loop-row.row c.index.result.now
-        c.index-frequency.result.now was c.loop-row.invariant.same within c.index-frequency.ensures in
+    c.index-frequency.result.now was c.loop-row.invariant.same within c.index-frequency.ensures in
     record {
       shape = c.loop-row.invariant.shape;
       current = c.loop-row.invariant.current;
@@ -29,7 +29,7 @@ returns-then-is_none-clause-serves c =
     let was = there c.loop-row.self.segments.items c.args.segment c.index.result.now (search rules) c.index.ensures in
     let within : c.loop-row.row < length (filling_in c.args.self.now c.args.segment).keys = omega (arith, c.loop-row.invariant.end, c.loop-row-test.true) in
     let has = frequency_there c.loop-row.self c.args.self.now c.args.segment c.loop-row.row c.index.result.now
-        c.index-frequency.result.now was c.loop-row.invariant.same within c.index-frequency.ensures in
+    c.index-frequency.result.now was c.loop-row.invariant.same within c.index-frequency.ensures in
     sym c.loop-row.invariant.rest
     ∙ row_ends c.args.self.now c.loop-row.self c.args.segment c.args.to c.args.cutoff c.loop-row.count c.loop-row.row c.loop-row.invariant.shape c.loop-row.invariant.current
     c.loop-row.invariant.same within c.is_last.result c.is_last.ensures c.index-frequency.result.now has (search rules) c.if-frequency-cutoff.false (search rules)
@@ -47,7 +47,7 @@ move_to-requires-clause-stands c =
     let was = there c.loop-row.self.segments.items c.args.segment c.index-in-loop-row.result.now (search rules) c.index-in-loop-row.ensures in
     let within : c.loop-row.row < length (filling_in c.args.self.now c.args.segment).keys = omega (arith, c.loop-row.invariant.end, c.loop-row-test.true) in
     let key = key_there c.loop-row.self c.args.self.now c.args.segment c.loop-row.row c.index-in-loop-row.result.now
-        c.index-in-loop-row-2.result.now was c.loop-row.invariant.same within c.index-in-loop-row-2.ensures in
+    c.index-in-loop-row-2.result.now was c.loop-row.invariant.same within c.index-in-loop-row-2.ensures in
     row_stands c.loop-row.self c.args.segment c.loop-row.row c.is_last.result c.is_last.ensures (search rules) c.copy-key.result (c.copy-key.ensures.value ∙ key)
 
 pub loop-row-preserved : goal.loop-row-preserved
@@ -56,13 +56,13 @@ loop-row-preserved c =
     let there_now = there c.loop-row.self.segments.items c.args.segment c.index-in-loop-row.result.now (search rules) c.index-in-loop-row.ensures in
     let within : c.loop-row.row < length (filling_in c.args.self.now c.args.segment).keys = omega (arith, c.loop-row.invariant.end, c.loop-row-test.true) in
     let has = frequency_there c.loop-row.self c.args.self.now c.args.segment c.loop-row.row c.index.result.now
-        c.index-frequency.result.now was c.loop-row.invariant.same within c.index-frequency.ensures in
+    c.index-frequency.result.now was c.loop-row.invariant.same within c.index-frequency.ensures in
     let key = key_there c.loop-row.self c.args.self.now c.args.segment c.loop-row.row c.index-in-loop-row.result.now
-        c.index-in-loop-row-2.result.now there_now c.loop-row.invariant.same within c.index-in-loop-row-2.ensures in
+    c.index-in-loop-row-2.result.now there_now c.loop-row.invariant.same within c.index-in-loop-row-2.ensures in
     let moves = row_moves c.args.self.now c.loop-row.self c.args.segment c.args.to c.args.cutoff c.loop-row.count c.loop-row.row c.loop-row.invariant.shape c.loop-row.invariant.current
     c.loop-row.invariant.same within c.is_last.result c.is_last.ensures c.index-frequency.result.now has
-        (search rules) c.if-frequency-cutoff.false (search rules) c.copy-key.result (c.copy-key.ensures.value
-        ∙ key) in
+    (search rules) c.if-frequency-cutoff.false (search rules) c.copy-key.result (c.copy-key.ensures.value
+    ∙ key) in
     record {
       shape = c.move_to.ensures.shape ∙ c.loop-row.invariant.shape;
       current = ap (λ (s : State). s.current) c.move_to.ensures.state ∙ c.loop-row.invariant.current;

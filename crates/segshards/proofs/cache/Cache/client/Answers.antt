@@ -24,8 +24,10 @@ keep_back-requires c =
     let shards = c.args.self.now.shards.items in
     let end : c.len-place-end.result ≡ length shards = search rules in
     let test = c.loop-place-test.true in
-    record { quiet = quiet_at shards lists c.loop-place.place c.index-index.result.now c.index_mut.result.now
-        c.loop-place.invariant.are (omega (arith, test, end)) c.index-index.ensures c.index_mut.ensures.value }
+    record {
+      quiet = quiet_at shards lists c.loop-place.place c.index-index.result.now c.index_mut.result.now
+          c.loop-place.invariant.are (omega (arith, test, end)) c.index-index.ensures c.index_mut.ensures.value;
+    }
 
 pub returns-in_default-clause-passes : goal.returns-in_default-clause-passes
 returns-in_default-clause-passes c =
@@ -33,7 +35,7 @@ returns-in_default-clause-passes c =
     let end : c.len-place-end.result ≡ length shards = search rules in
     let test = c.loop-place-test.true in
     set_at shards c.loop-place.lists.items c.loop-place.place c.index-index.result.now c.keep_back.new.passes
-        c.loop-place.invariant.are (omega (arith, test, end)) c.index-index.ensures c.keep_back.ensures.others
+    c.loop-place.invariant.are (omega (arith, test, end)) c.index-index.ensures c.keep_back.ensures.others
 
 pub returns-in_err-shard-clause-passes : goal.returns-in_err-shard-clause-passes
 returns-in_err-shard-clause-passes c =
@@ -41,7 +43,7 @@ returns-in_err-shard-clause-passes c =
     let end : c.len-place-end.result ≡ length shards = search rules in
     let test = c.loop-place-test.true in
     set_at shards c.loop-place.lists.items c.loop-place.place c.index-index.result.now c.keep_back.new.passes
-        c.loop-place.invariant.are (omega (arith, test, end)) c.index-index.ensures c.keep_back.ensures.others
+    c.loop-place.invariant.are (omega (arith, test, end)) c.index-index.ensures c.keep_back.ensures.others
 
 pub loop-place-init : goal.loop-place-init
 loop-place-init c =
@@ -77,14 +79,14 @@ loop-place-preserved c =
           c.keep_back.ensures.others;
       made = subst (λ (l : List Client). AreNewClients (take (c.loop-place.place + 1) shards) l) (sym {A = List Client} pushed.items)
           (one_client shards c.loop-place.shards.items c.loop-place.place c.index-index.result.now c.in-Some.pass
-              c.in_ok-shard.shard (omega (arith, test, end)) c.index-index.ensures was.made
-              c.in_ok-shard.ensures.starts);
+          c.in_ok-shard.shard (omega (arith, test, end)) c.index-index.ensures was.made
+          c.in_ok-shard.ensures.starts);
       still = length-set lists c.loop-place.place is ∙ was.still;
       rest = same_rest first lists c.loop-place.place is was.rest;
       taken = subst (λ (l : List Client). AreTaken l (take (c.loop-place.place + 1) first) (take (c.loop-place.place + 1) (set lists c.loop-place.place is))) (sym {A = List Client} pushed.items)
           (three_next is_taken c.loop-place.shards.items first lists c.loop-place.place c.in_ok-shard.shard
-              c.index_mut.result.now is (omega (arith, test, end, given)) was.still was.rest
-              c.index_mut.ensures.value was.taken
+          c.index_mut.result.now is (omega (arith, test, end, given)) was.still was.rest
+          c.index_mut.ensures.value was.taken
           (subst (λ p. c.index_mut.result.now.items ≡ is.items ++ p ∷ []) (sym c.in_ok-shard.ensures.starts.member.pass) c.in-Some.ensures.taken));
     }
 

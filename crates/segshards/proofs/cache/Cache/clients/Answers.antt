@@ -37,8 +37,8 @@ loop-init c =
       new = All-same New _ _ made.items (All-nil New);
       dealt = λ shape are_new.
           let all = subst (λ (l : Vec Pass). length l.items ≡ shape.passes) (sym c.index.ensures)
-              (new_long shape c.args.self.now.shards.items lists are_new 0 first (omega (arith, long, some, have)))
-              in (
+          (new_long shape c.args.self.now.shards.items lists are_new 0 first (omega (arith, long, some, have)))
+          in (
             subst (λ (l : List Client). AreDealt shape c.args.self.now.shards.items lists l 0) (sym {A = List Client} made.items) (none_dealt shape c.args.self.now.shards.items lists are_new),
             omega (arith, all, its, threads),
           );

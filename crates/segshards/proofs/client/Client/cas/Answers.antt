@@ -8,7 +8,7 @@ use Rattle.segshards.proofs.client.Client.cas.Goals as goal
 pub returns-clause-writes : goal.returns-clause-writes
 returns-clause-writes c =
     by_shard c.args.key.now (MakesWrite (Cas c.args.key.now c.args.value.now c.args.expected) c.cas.result)
-        c.args.self.now _ c.place_of-place.result c.index_mut-shard.result.now c.set_now.new.self c.cas.new.self
+    c.args.self.now _ c.place_of-place.result c.index_mut-shard.result.now c.set_now.new.self c.cas.new.self
     (c.place_of-place.ensures.shard, c.place_of-place.ensures.within) c.index_mut-shard.ensures.value c.set_now.ensures.sets c.cas.ensures.writes refl refl refl
 
 pub returns-clause-same : goal.returns-clause-same

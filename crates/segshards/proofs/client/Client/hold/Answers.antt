@@ -22,7 +22,7 @@ returns-in-Miss c =
     let none : is_some c.args.self.now.holds ≡ false = search rules in record {
       holds = takes_hold c.args.key.now _ c.hold.result c.args.self.now _ c.place_of-place.result c.index_mut-shard.result.now c.set_now.new.self c.hold.new.self none c.in-Miss.is
           (c.place_of-place.ensures.shard, c.place_of-place.ensures.within) c.index_mut-shard.ensures.value
-              c.set_now.ensures.sets c.hold.ensures.holds refl refl (none_held c.args.self.now.holds none);
+          c.set_now.ensures.sets c.hold.ensures.holds refl refl (none_held c.args.self.now.holds none);
       held = tt;
       same = called_same (HoldsKey c.args.key.now c.hold.result) c.args.self.now c.place_of-place.result c.index_mut-shard.result.now c.set_now.new.self c.hold.new.self
           (λ b old new made. made.counts.keeps.settings.number) c.index_mut-shard.ensures.value c.set_now.ensures.sets c.hold.ensures.holds;
@@ -33,7 +33,7 @@ returns-in-Busy c =
     let none : is_some c.args.self.now.holds ≡ false = search rules in record {
       holds = takes_hold c.args.key.now _ c.hold.result c.args.self.now _ c.place_of-place.result c.index_mut-shard.result.now c.set_now.new.self c.hold.new.self none c.in-Busy.is
           (c.place_of-place.ensures.shard, c.place_of-place.ensures.within) c.index_mut-shard.ensures.value
-              c.set_now.ensures.sets c.hold.ensures.holds refl refl (none_held c.args.self.now.holds none);
+          c.set_now.ensures.sets c.hold.ensures.holds refl refl (none_held c.args.self.now.holds none);
       held = tt;
       same = called_same (HoldsKey c.args.key.now c.hold.result) c.args.self.now c.place_of-place.result c.index_mut-shard.result.now c.set_now.new.self c.hold.new.self
           (λ b old new made. made.counts.keeps.settings.number) c.index_mut-shard.ensures.value c.set_now.ensures.sets c.hold.ensures.holds;
@@ -44,7 +44,7 @@ returns-in-AlreadyHolding c =
     let none : is_some c.args.self.now.holds ≡ false = search rules in record {
       holds = takes_hold c.args.key.now _ c.hold.result c.args.self.now _ c.place_of-place.result c.index_mut-shard.result.now c.set_now.new.self c.hold.new.self none c.in-AlreadyHolding.is
           (c.place_of-place.ensures.shard, c.place_of-place.ensures.within) c.index_mut-shard.ensures.value
-              c.set_now.ensures.sets c.hold.ensures.holds refl refl (none_held c.args.self.now.holds none);
+          c.set_now.ensures.sets c.hold.ensures.holds refl refl (none_held c.args.self.now.holds none);
       held = tt;
       same = called_same (HoldsKey c.args.key.now c.hold.result) c.args.self.now c.place_of-place.result c.index_mut-shard.result.now c.set_now.new.self c.hold.new.self
           (λ b old new made. made.counts.keeps.settings.number) c.index_mut-shard.ensures.value c.set_now.ensures.sets c.hold.ensures.holds;

@@ -40,8 +40,8 @@ loop-place-preserved c =
       room = omega (arith, pushed.capacity, room);
       noted = subst (λ (l : List Note). AllThree (λ a was is. of_one.MakesCall (made.Notes a) was is) l (take (place + 1) old) (take (place + 1) (set new place is))) (sym {A = List Note} pushed.items)
           (three_next (λ a was is. of_one.MakesCall (made.Notes a) was is) each old new place c.note.result
-              c.index_mut.result.now is below was.long was.rest c.index_mut.ensures.value was.noted
-              c.note.ensures.notes);
+          c.index_mut.result.now is below was.long was.rest c.index_mut.ensures.value was.noted
+          c.note.ensures.notes);
       clock = was.clock;
       holds = was.holds;
     }

@@ -9,8 +9,8 @@ returns-then-least-clause-fault c =
     let keys = c.args.keys in let threads = c.args.threads in let writers = c.args.writers in
     let are : AreWriters threads writers = (search rules, search rules) in
     let is_least : c.max-least.result ≡ max (div_ceil (keys * threads) (262144 * writers)) 1 =
-        counted keys threads writers _ _ _ _ _ c.max-least.ensures c.div_ceil.ensures c.from.ensures
-        c.from-2.ensures c.from-3.ensures in
+    counted keys threads writers _ _ _ _ _ c.max-least.ensures c.div_ceil.ensures c.from.ensures
+    c.from-2.ensures c.from-3.ensures in
     (are, too_many keys threads writers c.max-least.result are is_least (omega (arith, c.if-least.true)))
 
 pub returns-in_err-chains-clause-fault : goal.returns-in_err-chains-clause-fault
@@ -19,8 +19,8 @@ returns-in_err-chains-clause-fault c =
     let each = c.div_ceil-keys_each.result in
     let are : AreWriters threads writers = (search rules, search rules) in
     let is_least : c.max-least.result ≡ max (div_ceil (keys * threads) (262144 * writers)) 1 =
-        counted keys threads writers _ _ _ _ _ c.max-least.ensures c.div_ceil.ensures c.from.ensures
-        c.from-2.ensures c.from-3.ensures in
+    counted keys threads writers _ _ _ _ _ c.max-least.ensures c.div_ceil.ensures c.from.ensures
+    c.from-2.ensures c.from-3.ensures in
     let few = few_keys keys threads writers c.max-least.result c.shards_for-count.result each are is_least c.shards_for-count.ensures.least c.div_ceil-keys_each.ensures in
     absurd (no_fault each threads _ are.0 few c.in_err-chains.ensures.err)
 
@@ -31,8 +31,8 @@ returns-in_err-rows-clause-fault c =
     let wide = c.div_ceil-2.result in
     let are : AreWriters threads writers = (search rules, search rules) in
     let is_least : c.max-least.result ≡ max (div_ceil (keys * threads) (262144 * writers)) 1 =
-        counted keys threads writers _ _ _ _ _ c.max-least.ensures c.div_ceil.ensures c.from.ensures
-        c.from-2.ensures c.from-3.ensures in
+    counted keys threads writers _ _ _ _ _ c.max-least.ensures c.div_ceil.ensures c.from.ensures
+    c.from-2.ensures c.from-3.ensures in
     let few = wide_fits keys threads writers c.max-least.result c.shards_for-count.result each are is_least c.shards_for-count.ensures.least c.div_ceil-keys_each.ensures wide c.div_ceil-2.ensures in
     absurd (no_fault wide threads _ are.0 few c.in_err-rows.ensures.err)
 
@@ -47,8 +47,8 @@ returns-clause-plan c =
     let rows = c.in_ok-rows.rows in
     let are : AreWriters threads writers = (search rules, search rules) in
     let is_least : c.max-least.result ≡ max (div_ceil (keys * threads) (262144 * writers)) 1 =
-        counted keys threads writers _ _ _ _ _ c.max-least.ensures c.div_ceil.ensures c.from.ensures
-        c.from-2.ensures c.from-3.ensures in
+    counted keys threads writers _ _ _ _ _ c.max-least.ensures c.div_ceil.ensures c.from.ensures
+    c.from-2.ensures c.from-3.ensures in
     record {
       valid = valid keys threads writers c.max-least.result count each are is_least over
           c.div_ceil-keys_each.ensures wide c.div_ceil-2.ensures chains rows c.in_ok-chains.ensures.ok

@@ -38,8 +38,8 @@ loop-worker-init g c =
 pub spawn_with-requires-clause-runs : goal.spawn_with-requires-clause-runs
 spawn_with-requires-clause-runs g c =
     let begins = first_begins c.captures.index.now.board c.captures.plan
-        (c.len-count.result - into_iter_len c.loop-worker.worker-iterator) c.in-Some.worker
-        (into_iter_items c.next.new.self) (into_iter_items c.loop-worker.worker-iterator)
+    (c.len-count.result - into_iter_len c.loop-worker.worker-iterator) c.in-Some.worker
+    (into_iter_items c.next.new.self) (into_iter_items c.loop-worker.worker-iterator)
     c.in-Some.ensures.steps.0 c.loop-worker.invariant.rest in
     search rules
 
@@ -47,7 +47,7 @@ pub spawn_with-requires-clause-keeps : goal.spawn_with-requires-clause-keeps
 spawn_with-requires-clause-keeps g c =
     let b = c.captures.index.now.board in
     let begins = first_begins b c.captures.plan (c.len-count.result - into_iter_len c.loop-worker.worker-iterator)
-        c.in-Some.worker (into_iter_items c.next.new.self) (into_iter_items c.loop-worker.worker-iterator)
+    c.in-Some.worker (into_iter_items c.next.new.self) (into_iter_items c.loop-worker.worker-iterator)
     c.in-Some.ensures.steps.0 c.loop-worker.invariant.rest in
     let is = c.number.ensures ∙ begins.0.at_work.quiet.pass.numbered in
     let may_answer = g.G.Gate.may_answer c.captures.gate.now in
@@ -123,10 +123,10 @@ returns g c =
           let there = slice_get_read threads.items (vec_len threads) n kept.handle threads.ok.0 here kept.handle_is in
           let ours = was.ours n kept.handle there in
           worked_there b c.captures.plan kept.handle.promise.index.now.board
-              (g.G.Gate.may_answer c.captures.gate.now) (g.G.Gate.may_answer kept.handle.promise.gate.now)
-              (g.G.Gate.told c.captures.gate.now) (g.G.Gate.told kept.handle.promise.gate.now)
-              kept.handle.promise.plan n kept.handle.promise.pass worker (slice_index_or worked.items n worker)
+          (g.G.Gate.may_answer c.captures.gate.now) (g.G.Gate.may_answer kept.handle.promise.gate.now)
+          (g.G.Gate.told c.captures.gate.now) (g.G.Gate.told kept.handle.promise.gate.now)
+          kept.handle.promise.plan n kept.handle.promise.pass worker (slice_index_or worked.items n worker)
           ours.0 (ap (λ gate. g.G.Gate.may_answer gate) ours.1) (ap (λ gate. g.G.Gate.told gate) ours.1) ours.2
-              (was.in_order (omega (arith, all, over.0)) n kept.handle there)
-              (get_or_from_slice_get worked.items n worker worker at) kept.kept,
+          (was.in_order (omega (arith, all, over.0)) n kept.handle there)
+          (get_or_from_slice_get worked.items n worker worker at) kept.kept,
     )
