@@ -2,9 +2,10 @@
 use Rattle.std.proofs.Common.{◌≡◌, ◌≢◌, ℕ, eqb, List, [], ◌∷◌, ◌++◌, refl, sym, ap, ◌∙◌, subst, cond}
 use Rattle.std.proofs.lemmas.Bool.{cond-true, cond-false, eq-eqb, ne_eqb, and_from}
 use Rattle.std.specs.Prelude.{slice_index}
+use Rattle.segword.specs.Words.{place_behind, row_behind}
 use Rattle.segmodel.specs.Words.{owner, with_at}
 use Rattle.segcore.specs.declared.event.Event.TheVariants.{Filled}
-use Rattle.segcore.specs.Words.{Event, IsOwnRow, NoneBy, Row, row_after, row_at, writes_row}
+use Rattle.segcore.specs.Words.{Event, IsOwnRow, NoneBy, Row, row_after, row_alone, row_at, writes_row}
 use Rattle.segcore.proofs.Quiet.{quiet_row}
 use Rattle.segbase.specs.Words.{AddsAtOnce, AddsEvents, Board, number, Pass, trace}
 use Rattle.segbase.proofs.Moves.{moved_then}
@@ -43,6 +44,22 @@ other_word b p q s r place w other d own apart =
     let u = row_after (trace p) s r in
     ap (λ (x : Row). x.words other) (stored b p q s r place w d own) ∙ cond-false (eqb place other) w (u.words other) (ne_eqb place other (λ e. apart (sym e)))
 
+-- the words at the other places of the item that begins in the row
+pub other_place : (b : Board) (p q : Pass) (s r place w other : ℕ)
+    → AddsAtOnce b (Filled (number p) s (row_behind r place) (place_behind place) w ∷ []) p q
+    → owner b.shape s ≡ number p → other ≢ place
+    → (row_alone (trace q) s (row_behind r other)).words (place_behind other)
+    ≡ (row_alone (trace p) s (row_behind r other)).words (place_behind other)
+other_place b p q s r place w other d own apart = other_word b p q s r place w other d own apart
+
+-- a word of the pass's own, after a look
+pub looked_word : (b : Board) (p q : Pass) (s r place : ℕ) → AddsAtOnce b [] p q → owner b.shape s ≡ number p
+    → (row_alone (trace q) s r).words place ≡ (row_alone (trace p) s r).words place
+looked_word b p q s r place d own =
+    ap (λ h. (row_alone h s r).words place) d.now
+    ∙ ap (λ (u : Row). u.words place)
+        (quiet_row b.shape d.others (trace p) s r d.before (subst (λ n. NoneBy n d.others) (sym own) d.none))
+
 -- ---- the words that were stored
 
 -- a pass that did nothing stored none
@@ -50,14 +67,17 @@ pub stores_nothing : (b : Board) (p q : Pass) (segment row : ℕ) (words : List 
 unfolding fills
 stores_nothing b p q segment row words m = ([], m)
 
-pub stores_one : (b : Board) (p q r : Pass) (segment row place : ℕ) (words : List ℕ) → AddsEvents b [] p q → AddsAtOnce b (Filled (number q) segment row place (slice_index words place) ∷ []) q r
+pub stores_one : (b : Board) (p q r : Pass) (segment row place : ℕ) (words : List ℕ) → AddsEvents b [] p q
+    → AddsAtOnce b (Filled (number q) segment (row_behind row place) (place_behind place)
+    (slice_index words place) ∷ []) q r
     → StoresRow b segment row words p r
 unfolding fills
-stores_one b p q r segment row place words m d = (
-  place ∷ [],
-  moved_then b [] (Filled (number p) segment row place (slice_index words place) ∷ []) p q r m
-      (subst (λ n. AddsEvents b (Filled n segment row place (slice_index words place) ∷ []) q r) m.same d.moved),
-)
+stores_one b p q r segment row place words m d =
+    let stored : ℕ → List Event = λ n.
+    Filled n segment (row_behind row place) (place_behind place) (slice_index words place) ∷ [] in (
+      place ∷ [],
+      moved_then b [] (stored (number p)) p q r m (subst (λ n. AddsEvents b (stored n) q r) m.same d.moved),
+    )
 
 fills_both : (n segment row : ℕ) (words later first : List ℕ) → fills n segment row words (later ++ first) ≡ fills n segment row words later ++ fills n segment row words first
 unfolding fills

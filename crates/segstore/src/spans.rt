@@ -1,7 +1,8 @@
 //! The words of an item of several rows, by their places in it, and how many rows it takes.
 ghost use Rattle.std.specs.Prelude.{◌≡◌, ◌<◌};
-ghost use Rattle.segword.specs.Words.{item_width};
-ghost use Rattle.segcore.specs.Words.{row_after, span_in};
+ghost use Rattle.segword.specs.Words.{item_width, place_behind, row_behind};
+ghost use Rattle.segcore.specs.declared.cell.Cell.TheVariants.{OfRow};
+ghost use Rattle.segcore.specs.Words.{IsCell, row_after, span_in};
 ghost use Rattle.segbase.specs.Words.{IsPassOf, trace};
 ghost use Rattle.segbase.specs.Spots.{IsRowAt};
 ghost use Rattle.segstore.specs.Calls.{TakesAtMost};
@@ -48,4 +49,20 @@ pub(crate) fn load_place(board: &Board, pass: &mut Pass, at: RowPlace, place: u3
         return 0;
     }
     board.row_load_at(pass, board.row_behind(at, behind), (place % ROW) as u8)
+}
+
+// The row of a place of an item that begins in a row, and the place in that row.
+#[inline(always)]
+pub(crate) fn row_of_place(board: &Board, at: RowPlace, place: u32) -> (RowPlace, u8)
+    requires start { IsRowAt board.now.shape at }
+    requires row { IsCell board.now.shape (OfRow at.segment (row_behind at.row place) 0) }
+    requires place { place < item_width }
+    ensures row { (result.0.segment ≡ at.segment) × (result.0.row ≡ row_behind at.row place) }
+    ensures place { result.1 ≡ place_behind place }
+    ensures start { IsRowAt board.now.shape result.0 }
+{
+    if MOST_SPAN == 1 {
+        return (at, place as u8);
+    }
+    (board.row_behind(at, place / ROW), (place % ROW) as u8)
 }

@@ -1,8 +1,8 @@
 //! Rows written before an item names them.
 ghost use Rattle.std.specs.Prelude.{◌≡◌, ◌≢◌, ◌<◌, ◌*◌, ◌↔◌, ℕ, List, slice_index, Some, false};
 ghost use Rattle.std.specs.Prelude.{IfOk, IsErr};
-ghost use Rattle.segword.specs.Words.{IsValue, item_width, span_of};
-ghost use Rattle.segcore.specs.Words.{AreOwnRows, Holds, IsOwnRow, row_after, span_in};
+ghost use Rattle.segword.specs.Words.{IsValue, item_width, place_behind, row_behind, span_of};
+ghost use Rattle.segcore.specs.Words.{AreOwnRows, Holds, IsOwnRow, row_after, row_alone, span_in};
 ghost use Rattle.segbase.specs.Words.{current_of, IsPassOf, number, sight, trace, used_of};
 ghost use Rattle.segbase.specs.Spots.{IsRowAt};
 ghost use Rattle.segstore.specs.Calls.{TakesAtMost};
@@ -12,6 +12,7 @@ ghost use Rattle.segstore.specs.Segments.{KeepsSegments, has_room_for};
 
 use crate::room::{NoRoom, next_row};
 use crate::row::{RowRef, load_words};
+use crate::spans::{load_place, row_of_place};
 use segbase::{Board, Pass, RowPlace};
 use segword::{ITEM_WORDS, Key, KeyWords, MOST_SPAN, ROW_WORDS, Value, span_of_header};
 
@@ -63,9 +64,9 @@ pub fn fill_row(board: &Board, pass: &mut Pass, row: RowRef, key: &KeyWords, val
 {
     if MOST_SPAN > 1 {
         let words = key.row(value);
-        for behind in 0..key.span(value) {
-            let part = words[ROW_WORDS * behind as usize..].first_chunk().unwrap();
-            store_words(board, pass, row.segment, row.row + behind, part);
+        let at = board.row_at(row.segment, row.row);
+        for place in 0..ROW_WORDS as u32 * key.span(value) {
+            store_word(board, pass, at, place, words[place as usize]);
         }
         return;
     }
@@ -91,11 +92,13 @@ pub fn copy_row(board: &Board, pass: &mut Pass, from: RowRef, to: RowRef)
     ensures memo { (sight pass.new).memo ≡ (sight pass.old).memo }
 {
     if MOST_SPAN > 1 {
-        let first = load_words(board, pass, from.segment, from.row, 0);
-        store_words(board, pass, to.segment, to.row, &first);
-        for behind in 1..span_of_header(first[0]) {
-            let next = load_words(board, pass, from.segment, from.row + behind, 0);
-            store_words(board, pass, to.segment, to.row + behind, &next);
+        let source = board.row_at(from.segment, from.row);
+        let target = board.row_at(to.segment, to.row);
+        let header = load_place(board, pass, source, 0);
+        store_word(board, pass, target, 0, header);
+        for place in 1..ROW_WORDS as u32 * span_of_header(header) {
+            let word = load_place(board, pass, source, place);
+            store_word(board, pass, target, place, word);
         }
         return;
     }
@@ -117,31 +120,38 @@ fn store_words(board: &Board, pass: &mut Pass, segment: u32, row: u32, words: &[
     ensures memo { (sight pass.new).memo ≡ (sight pass.old).memo }
 {
     let at = board.row_at(segment, row);
-    for place in 0..ROW_WORDS as u8 {
-        store_word(board, pass, at, words, place);
+    for place in 0..ROW_WORDS as u32 {
+        store_word(board, pass, at, place, words[place as usize]);
     }
 }
 
-// Stores one of the words, unless the row has it: a load costs less than a store that others see.
+// Stores a word of an item, by its place in it, unless the row has it: a load costs less than a
+// store that others see.
 #[inline(always)]
-fn store_word(board: &Board, pass: &mut Pass, at: RowPlace, words: &[u64; ITEM_WORDS], place: u8)
+fn store_word(board: &Board, pass: &mut Pass, at: RowPlace, place: u32, word: u64)
     requires pass { IsPassOf board.now pass.old }
     requires start { IsRowAt board.now.shape at }
-    requires own { IsOwnRow board.now.shape (trace pass.old) (number pass.old) at.segment at.row }
-    requires place { place < ROW_WORDS }
-    ensures moved { StoresRow board.now at.segment at.row words.now pass.old pass.new }
+    requires own { IsOwnRow board.now.shape (trace pass.old) (number pass.old)
+        at.segment (row_behind at.row place) }
+    requires place { place < item_width }
+    ensures moved { (words : List ℕ) → slice_index words place ≡ word
+        → StoresRow board.now at.segment at.row words pass.old pass.new }
     ensures steps { TakesAtMost 2 pass.old pass.new }
-    ensures own { IsOwnRow board.now.shape (trace pass.new) (number pass.new) at.segment at.row }
-    ensures word { (row_after (trace pass.new) at.segment at.row).words place ≡ slice_index words.now place }
+    ensures own { IsOwnRow board.now.shape (trace pass.new) (number pass.new)
+        at.segment (row_behind at.row place) }
+    ensures word { (row_alone (trace pass.new) at.segment (row_behind at.row place)).words
+        (place_behind place) ≡ word }
     ensures others { (other : ℕ) → other ≢ place
-        → (row_after (trace pass.new) at.segment at.row).words other
-        ≡ (row_after (trace pass.old) at.segment at.row).words other }
+        → (row_alone (trace pass.new) at.segment (row_behind at.row other)).words
+            (place_behind other)
+        ≡ (row_alone (trace pass.old) at.segment (row_behind at.row other)).words
+            (place_behind other) }
     ensures plain { pass.new.plain ≡ pass.old.plain }
     ensures memo { (sight pass.new).memo ≡ (sight pass.old).memo }
 {
-    let word = words[place as usize];
-    if board.row_load_at(pass, at, place) == word {
+    let spot = row_of_place(board, at, place);
+    if board.row_load_at(pass, spot.0, spot.1) == word {
         return;
     }
-    board.row_store_at(pass, at, place, word);
+    board.row_store_at(pass, spot.0, spot.1, word);
 }

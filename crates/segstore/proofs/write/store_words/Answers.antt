@@ -22,7 +22,7 @@ loop-place-init c = let at = c.row_at-at.result in let is = c.row_at-at.ensures.
 
 pub loop-place-preserved : goal.loop-place-preserved
 loop-place-preserved c = let i = c.loop-place.invariant in let w = c.store_word.ensures in let at = c.row_at-at.result in record {
-  moved = stores_then c.args.board.now c.args.pass.now c.loop-place.pass c.store_word.new.pass at.segment at.row c.args.words.now i.moved w.moved;
+  moved = stores_then c.args.board.now c.args.pass.now c.loop-place.pass c.store_word.new.pass at.segment at.row c.args.words.now i.moved (w.moved c.args.words.now refl);
   steps = (let before = i.steps in let more = w.steps in omega (arith, before, more));
   own = w.own;
   holds = λ j lt. ⊎_elim
