@@ -7,6 +7,7 @@ ghost use Rattle.segword.specs.RowLayout.{key_length};
 ghost use Rattle.segword.specs.Row.{key_width};
 ghost use Rattle.segword.specs.Spans.{span_of};
 
+use crate::key::KEY_WORDS;
 use crate::row::HEAD_WORDS;
 use crate::spans::{ITEM_WORDS, MOST_SPAN, key_width, span};
 use crate::value::VALUE_WORDS;
@@ -53,7 +54,9 @@ impl KeyWords {
     pub fn begins(&self, words: &[u64; HEAD_WORDS]) -> bool
         ensures value { IsTrue result ↔ (key_part words.now ≡ key_words self.now) }
         ensures same_key { (key value : List ℕ) → IsKey key → IsValue value
-            → take HEAD_WORDS (row_of key value) ≡ words.now → IsTrue result ↔ (key ≡ self.now) }
+            → key_width (length key) ≡ KEY_WORDS
+            → take HEAD_WORDS (row_of key value) ≡ words.now
+            → IsTrue result ↔ (key ≡ self.now) }
     {
         let mut head = *words;
         head[0] &= 0xff;
@@ -69,7 +72,7 @@ impl KeyWords {
         if MOST_SPAN == 1 {
             return 1;
         }
-        span(self.words[0] as u32, value.len() as u32)
+        span(self.words[0] as u32, value.as_bytes().len() as u32)
     }
 
     /// The words of this key and a value.

@@ -26,7 +26,10 @@ pub fn key_width(key_length: u32) -> u32
     if MOST_SPAN == 1 {
         return KEY_WORDS as u32;
     }
-    key_length.div_ceil(8).max(LEAST_KEY_WORDS)
+    key_length
+        .div_ceil(8)
+        .max(LEAST_KEY_WORDS)
+        .min(KEY_WORDS as u32)
 }
 
 /// How many rows the item of a key and a value with these lengths takes.

@@ -2,8 +2,9 @@ use Rattle.std.proofs.Common.{◌≡◌, ℕ, List, drop, Some, refl, slice_inde
 use Rattle.std.proofs.lemmas.List.{get_or-take}
 use Rattle.segword.specs.declared.key.TheConstants.{KEY_ROOM}
 use Rattle.segword.specs.declared.row.TheConstants.{HEAD_WORDS}
-use Rattle.segword.specs.declared.value.TheConstants.{VALUE_BYTES}
+use Rattle.segword.specs.declared.value.TheConstants.{VALUE_BYTES, VALUE_WORDS}
 use Rattle.segword.specs.RowLayout.{key_length, value_length}
+use Rattle.segword.specs.Spans.{value_place}
 use Rattle.std.proofs.lemmas.Grind.{common_steps}
 use Rattle.segword.specs.Row.{bytes_of, row_of}
 use Rattle.segword.proofs.RowLemmas.{IsRow-row_of, key_of_row, row_of-IsRow}
@@ -25,7 +26,11 @@ returns-then-not-is_row-clause-none c = (
 pub returns-clause-packed : goal.returns-clause-packed
 returns-clause-packed c = λ key value k v e.
     let same_key = c.in_ok-key.ensures.value ∙ key_of_row key value c.head_of.result k v (ap (take HEAD_WORDS) e ∙ sym c.head_of.ensures) in
-    let same_value = c.read_value.ensures.packed key value k v (ap (λ (ws : List ℕ). slice_index ws 0) e) (ap (drop HEAD_WORDS) e ∙ sym c.value_of.ensures) in
+    let value_words : List ℕ → List ℕ = λ ws. take VALUE_WORDS (drop (value_place (slice_index ws 0)) ws) in
+    let header = ap (λ (ws : List ℕ). slice_index ws 0) e in
+    let same_value = c.read_value.ensures.packed key value k v header
+        (ap (λ (n : ℕ). take VALUE_WORDS (drop (value_place n) (row_of key value))) (sym header)
+        ∙ ap value_words e ∙ sym c.value_of.ensures) in
     λ i. Some (same_key i, same_value i)
 
 pub returns-clause-some : goal.returns-clause-some

@@ -15,3 +15,10 @@ made-requires-clause-hash c =
     let bytes = bytes_of_words KEY_WORDS KEY_ROOM c.args.self.now c.words.result c.self.inside.len (AreBytes-from_All c.args.self.now c.words.ensures.valid.all_bytes)
     refl (omega (arith, c.words.ensures.valid.fits)) c.words.ensures.value (sym c.self.invariant.same_len ∙ ap length c.self.view_is) in
     sym c.self.invariant.same_hash ∙ ap hash_of (c.self.view_is ∙ sym bytes)
+
+pub returns-clause-value : goal.returns-clause-value
+returns-clause-value c =
+    c.made.ensures.value
+    ∙ bytes_of_words KEY_WORDS KEY_ROOM c.args.self.now c.words.result c.self.inside.len
+        (AreBytes-from_All c.args.self.now c.words.ensures.valid.all_bytes) refl (omega (arith, c.words.ensures.valid.fits))
+        c.words.ensures.value (sym c.self.invariant.same_len ∙ ap length c.self.view_is)

@@ -13,8 +13,8 @@ returns-clause-value c =
     (λ t. sym left ∙ test.0 (sym c.eq.ensures ∙ t) ∙ sym right, λ e. c.eq.ensures ∙ test.1 (left ∙ e ∙ right))
 
 pub returns-clause-same_key : goal.returns-clause-same_key
-returns-clause-same_key c = λ key value k v e.
+returns-clause-same_key c = λ key value k v wide e.
     let test = returns-clause-value c in
-    let part = key_part-row_of key value c.args.words.now k e in
+    let part = key_part-row_of key value c.args.words.now k wide e in
     let is_key : IsKey c.args.self.now = subst IsKey c.self.view_is c.self.invariant.is_key in
     (λ t. key_words-one key c.args.self.now k is_key (sym part ∙ test.0 t), λ q. test.1 (part ∙ ap key_words q))
