@@ -27,16 +27,7 @@ stored b p q s r place w d own =
     let e = Filled (number p) s r place w in let u = row_after (trace p) s r in
     stepped_row b e p q s r d own ∙ cond-true (row_at e s r) (writes_row e u) u (and_from (eqb s s) (eqb r r) (eq-eqb s s refl) (eq-eqb r r refl))
 
-pub own_stored : (b : Board) (p q : Pass) (s r place w : ℕ) → AddsAtOnce b (Filled (number p) s r place w ∷ []) p q
-    → IsOwnRow b.shape (trace p) (number p) s r → IsOwnRow b.shape (trace q) (number q) s r
-own_stored b p q s r place w d own = (own.0, own.1, own.2 ∙ sym d.moved.same, ap (λ u. u.linked) (stored b p q s r place w d own.2) ∙ own.3)
-
--- a word that was stored, and the others
-pub stored_word : (b : Board) (p q : Pass) (s r place w : ℕ) → AddsAtOnce b (Filled (number p) s r place w ∷ []) p q → owner b.shape s ≡ number p → (row_after (trace q) s r).words place ≡ w
-stored_word b p q s r place w d own =
-    let u = row_after (trace p) s r in
-    ap (λ (x : Row). x.words place) (stored b p q s r place w d own) ∙ cond-true (eqb place place) w (u.words place) (eq-eqb place place refl)
-
+-- the other words of the row
 pub other_word : (b : Board) (p q : Pass) (s r place w other : ℕ)
     → AddsAtOnce b (Filled (number p) s r place w ∷ []) p q → owner b.shape s ≡ number p → other ≢ place
     → (row_after (trace q) s r).words other ≡ (row_after (trace p) s r).words other
