@@ -1,6 +1,6 @@
 -- How many steps writes and deletes take at most. They wait for nobody.
 use Rattle.std.specs.Prelude.{ℕ, ◌+◌, ◌*◌, ◌⊎◌, Option, Some, None}
-use Rattle.segword.specs.Words.{Shape}
+use Rattle.segword.specs.Words.{head_width, item_width, Shape}
 use Rattle.segmodel.specs.declared.answer.WriteAnswer.TheVariants as write
 use Rattle.segmodel.specs.declared.answer.DeleteAnswer.TheVariants as delete
 use Rattle.segmodel.specs.declared.request.Request.TheVariants.{Set, Cas}
@@ -17,18 +17,18 @@ abbrev pub most_tries_for_bit : ℕ
 most_tries_for_bit = 64
 
 -- A search under the bit: a look at each of a chain's 28 words,
--- and at a word with the key's tag four loads of the row's key.
+-- and at a word with the key's tag the loads of the row's key.
 abbrev pub most_steps_of_search : ℕ
-most_steps_of_search = 28 * (1 + 4)
+most_steps_of_search = 28 * (1 + head_width)
 
 -- An exchange of an item word. It is tried again only if a hit has raised the item's frequency,
 -- which is below 256.
 abbrev pub most_tries_to_exchange : ℕ
 most_tries_to_exchange = 256
 
--- A row written word by word: a load, and a store where the word differs.
+-- The rows of an item written word by word: a load, and a store where the word differs.
 abbrev pub most_steps_of_row : ℕ
-most_steps_of_row = 2 * 8
+most_steps_of_row = 2 * item_width
 
 -- ---- room for a key
 

@@ -1,6 +1,7 @@
 //! The word of a key's chain that a write changes, or the end of the chain if there is none.
 //! One walk along the chain, under the bucket's bit, finds it.
 ghost use Rattle.std.specs.Prelude.{◌≡◌, ◌↔◌, IsTrue, List, ℕ};
+ghost use Rattle.segword.specs.Words.{head_width};
 ghost use Rattle.segmodel.specs.Words.{bucket_of};
 ghost use Rattle.segcore.specs.Words.{HasBit};
 ghost use Rattle.segwrite.specs.Writing.{own_word, IsInChain, Finds};
@@ -163,7 +164,7 @@ fn is_item_of(board: &Board, pass: &mut Pass, target: Target, sought: &Sought) -
     requires word { IsWordOfContent (content_for board.now sought.now.key target.place pass.old)
         target.word }
     ensures idles { Idles board.now pass.old pass.new }
-    ensures steps { TakesAtMost 4 pass.old pass.new }
+    ensures steps { TakesAtMost head_width pass.old pass.new }
     ensures is { IsTrue result ↔ HasItemOf board.now sought.now.key target.place pass.new }
 {
     if !Item::has_tag(target.word, sought.tag) {
