@@ -1,5 +1,6 @@
 -- How many steps an evict and a keep of one row take at most. They wait for nobody.
 use Rattle.std.specs.Prelude.{ℕ, ◌+◌, Bool, true, false}
+use Rattle.segword.specs.Words.{head_width, item_width}
 use Rattle.segwrite.specs.Words.{most_steps_of_row, most_tries_for_bit, most_tries_to_exchange}
 use Rattle.segevict.specs.declared.eviction.EvictRowAnswer.{EvictRowAnswer}
 use Rattle.segevict.specs.declared.eviction.EvictRowAnswer.TheVariants as evict_row
@@ -10,9 +11,9 @@ use Rattle.segevict.specs.declared.retention.KeepRowAnswer.TheVariants as kept
 abbrev pub most_looks : ℕ
 most_looks = 28
 
--- Before the bit: four loads of the row's key, and looks along the key's chain.
+-- Before the bit: the loads of the row's key, and looks along the key's chain.
 abbrev pub most_steps_to_look : ℕ
-most_steps_to_look = 4 + most_looks
+most_steps_to_look = head_width + most_looks
 
 -- then the tries for the bit
 abbrev pub most_steps_to_try : ℕ
@@ -27,9 +28,9 @@ abbrev pub most_steps_to_clear : Bool → ℕ
 most_steps_to_clear true = most_looks + most_tries_to_exchange
 most_steps_to_clear false = most_looks
 
--- and before it eight loads of the row and the writing of another
+-- and before it the loads of the item's rows and the writing of others
 abbrev pub most_steps_to_move : Bool → ℕ
-most_steps_to_move true = most_looks + 8 + most_steps_of_row + most_tries_to_exchange
+most_steps_to_move true = most_looks + item_width + most_steps_of_row + most_tries_to_exchange
 most_steps_to_move false = most_looks
 
 -- An evict of one row takes at most 381 steps if it is Evicted, 125 if Left, and 96 if Busy.
@@ -44,7 +45,7 @@ most_steps_of_evict_row evict_row.NotUsed = 0
 -- and 32 if there is no room.
 abbrev pub most_steps_of_keep_row : KeepRowAnswer → ℕ
 most_steps_of_keep_row kept.Moved =
-    most_steps_to_leave + 8 + most_steps_of_row + most_tries_to_exchange
+    most_steps_to_leave + item_width + most_steps_of_row + most_tries_to_exchange
 most_steps_of_keep_row kept.Left = most_steps_to_leave
 most_steps_of_keep_row kept.NoRoom = most_steps_to_look
 most_steps_of_keep_row kept.Busy = most_steps_to_try

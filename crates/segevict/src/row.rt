@@ -1,5 +1,6 @@
 //! Rows of a segment of the pass's own: whose key was stored in each, and which word names it.
 ghost use Rattle.std.specs.Prelude.{◌≡◌, ◌<◌, true, false};
+ghost use Rattle.segword.specs.Words.{head_width};
 ghost use Rattle.segbase.specs.Words.{HasStep, IsPassOf};
 ghost use Rattle.segstore.specs.Words.{Idles, IsQuiet, TakesAtMost};
 ghost use Rattle.segevict.specs.Rows.{HasRow, IsUsedRow, IsStoredIn, FindsRow};
@@ -27,7 +28,7 @@ pub(crate) fn item_of_row(board: &Board, pass: &mut Pass, segment: u32, row: u32
     requires quiet { IsQuiet board.now pass.old }
     requires used { IsUsedRow segment row pass.old }
     ensures idles { Idles board.now pass.old pass.new }
-    ensures steps { TakesAtMost 4 pass.old pass.new }
+    ensures steps { TakesAtMost head_width pass.old pass.new }
     ensures place { (result.1.seg ≡ segment) × (result.1.row ≡ row) }
     ensures bucket { result.0 < board.now.shape.buckets }
     ensures stored { IsStoredIn board.now result.0 result.1 pass.new }

@@ -24,7 +24,7 @@ use crate::retention::{KeepRowAnswer, keep_each_row, keep_first_row, move_row, r
 use crate::row::{find_row, has_row, item_of_row};
 use segbase::{Board, Pass};
 use segmodel::{EvictAnswer, KeepAnswer, SegState};
-use segstore::{RowRef, copy_row, key_of_row, take_to_write};
+use segstore::{RowRef, copy_row, key_of_row, span_of_row, take_to_write};
 use segword::{Item, MOST_SPAN, hash, span_of_header, tag_of};
 
 // How many rows the item takes whose first row this is.
@@ -33,11 +33,9 @@ fn rows_from(board: &Board, pass: &mut Pass, segment: u32, row: u32) -> u32
     requires used { IsUsedRow segment row pass.old }
     ensures idles { Idles board.now pass.old pass.new }
     ensures rows { result ≡ span_in (trace pass.new) segment row }
+    ensures steps { TakesAtMost 1 pass.old pass.new }
 {
-    if MOST_SPAN == 1 {
-        return 1;
-    }
-    span_of_header(board.row_load(pass, segment, row, 0))
+    span_of_row(board, pass, RowRef { segment, row })
 }
 
 // The bucket and the item of the key of a used row, as of `item_of_row`.

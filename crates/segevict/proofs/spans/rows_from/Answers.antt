@@ -1,5 +1,6 @@
-use Rattle.segstore.proofs.Refills.{idles}
+use Rattle.segevict.proofs.StoredRows.{of_row}
 use Rattle.segevict.proofs.spans.rows_from.Goals as goal
 
-pub returns-then-this-eq-MOST_SPAN-clause-idles : goal.returns-then-this-eq-MOST_SPAN-clause-idles
-returns-then-this-eq-MOST_SPAN-clause-idles c = idles _ _ c.requires.quiet.pass
+pub span_of_row-requires-clause-readable : goal.span_of_row-requires-clause-readable
+span_of_row-requires-clause-readable c =
+    (of_row c.args.board.now c.args.segment c.args.row c.args.pass.now c.requires.quiet c.requires.used).readable
