@@ -1,5 +1,5 @@
 -- The item of a row is moved under the bit: it may be, into the pair's copy, and after that no word names the row that it left.
-use Rattle.std.proofs.Common.{◌≡◌, ℕ, ◌+◌, ◌<◌, ◌≤◌, true, false, List, [], ◌∷◌, ◌++◌, Option, Some, None, option_map, refl, sym, ap, ◌∙◌, subst, append-nil, inl, arith}
+use Rattle.std.proofs.Common.{◌≡◌, ℕ, ◌+◌, ◌<◌, ◌≤◌, true, false, List, [], ◌∷◌, ◌++◌, Option, Some, None, option_map, refl, sym, ap, ◌∙◌, subst, append-nil, arith}
 use Rattle.std.proofs.lemmas.Bool.{eq-eqb}
 use Rattle.std.proofs.lemmas.Option.{none-some, same_Some}
 use Rattle.segword.specs.Words.{IsSameItem, Item}
@@ -23,7 +23,7 @@ use Rattle.segstore.proofs.Keeping.{AreCalmIn, calm_in, in_table, keeps_named_in
 use Rattle.segstore.proofs.Keeping.{own_linked, same_used}
 use Rattle.segstore.proofs.Words.{at_place}
 use Rattle.segstore.proofs.UnderBit.{did_acts, moved_at, moved_bucket}
-use Rattle.segwrite.specs.Words.{IsEarlier, IsInChain, one_more, Target}
+use Rattle.segwrite.specs.Words.{IsEarlier, IsInChain, more, Target}
 use Rattle.segwrite.proofs.Filling.{fills_calm, fills_nowhere}
 use Rattle.segwrite.proofs.Places.{chain_later, same_position}
 use Rattle.segwrite.proofs.Rising.{earlier_later}
@@ -32,6 +32,7 @@ use Rattle.segevict.specs.Target.{IsMoveTarget, IsNextIn}
 use Rattle.segevict.specs.Relinking.{HasRelinked, relinked, Relinks}
 use Rattle.segevict.specs.Rows.{IsNamedAt, IsStoredIn}
 use Rattle.segevict.proofs.Relinking.{relinked_gone}
+use Rattle.segevict.proofs.StoredRows.{may_read_own}
 use Rattle.segevict.proofs.Seeking.{stored_over}
 use Rattle.segevict.proofs.Unlinking.{clean_over, named_key}
 
@@ -43,13 +44,16 @@ slot_of _ = slot [] 0 0
 abbrev pub slot_at : Board → Place → Pass → Slot
 slot_at b place p = slot_of ((bucket_after b.shape (trace p) (home_bucket b.shape (trace p) place)).items (position b.shape (trace p) place))
 
--- one row more is used where so many were
-one_used : (segment row : ℕ) (x : PlainPart) → used_in (own_segment x segment) ≡ Some row → with_used segment (row + 1) x ≡ with_own segment one_more x
-one_used segment row x used = own_alike x segment (counted (row + 1)) one_more (same (own_segment x segment) used)
+-- so many rows more are used where a number of them were
+rows_used : (segment row rows : ℕ) (x : PlainPart) → used_in (own_segment x segment) ≡ Some row
+    → with_used segment (row + rows) x ≡ with_own segment (more rows) x
+rows_used segment row rows x used = own_alike x segment (counted (row + rows)) (more rows)
+    (same (own_segment x segment) used)
   where
-    same : (o : Option OwnSegment) → used_in o ≡ Some row → option_map (counted (row + 1)) o ≡ option_map one_more o
+    same : (o : Option OwnSegment) → used_in o ≡ Some row
+        → option_map (counted (row + rows)) o ≡ option_map (more rows) o
     same None is = refl
-    same (Some own) is = ap (λ n. Some (counted (n + 1) own)) (sym (same_Some own.used row is))
+    same (Some own) is = ap (λ n. Some (counted (n + rows) own)) (sym (same_Some own.used row is))
 
 known_deadline : (o : Option OwnSegment) (used : ℕ) → used_in o ≡ Some used → (deadline : ℕ) × (deadline_in o ≡ Some deadline)
 known_deadline None used is = absurd (none-some used is)
@@ -94,7 +98,8 @@ module _ (b : Board) (bucket : ℕ) (sought : Item) (into to : ℕ) (p f : Pass)
     st = (coherent b.shape (trace f) i.moved.pass.lawful).items bucket at a n.named.1
 
     pub readable : IsReadable b f sought.seg sought.row
-    readable = (in_table b f sought.seg i.moved.pass stored_f.own, subst (λ r. r < b.shape.rows) n.named.2.1 st.within.1, inl stored_f.own)
+    readable = (in_table b f sought.seg i.moved.pass stored_f.own, subst (λ r. r < b.shape.rows) n.named.2.1 st.within.1,
+        may_read_own b.shape (trace f) (number f) sought.seg sought.row stored_f.own)
 
     -- with c the pass after the copy
     module _ (c : Pass) (words places : List ℕ) (m : AddsEvents b (fills (number f) into to words places) f c) (own : IsOwnRow b.shape (trace c) (number c) into to)
@@ -234,7 +239,7 @@ module _ (b : Board) (bucket : ℕ) (sought : Item) (into to : ℕ) (p f : Pass)
               sym (ap (λ h. (row_after h sought.seg sought.row).linked) i.moved.goes_on ∙ own_linked b.shape i.moved.more (trace p) (number p) sought.seg sought.row
                   (subst (IsLawful b.shape) i.moved.goes_on i.moved.pass.lawful) (subst (AreCalmIn sought.seg) (sym i.moved.adds) tt) stored.own) ∙ stored_f.linked,
               moved_still b (moves (number p) key sought.seg sought.row into to at_c (words, places)) p r final.plain events (owner_counted r.plain into (to + 1)),
-              one_used into to r.plain (same_used c r into done.plain ∙ used_c) ∙ ap (with_own into one_more) (done.plain ∙ (plain ∙ i.plain)),
+              rows_used into to 1 r.plain (same_used c r into done.plain ∙ used_c) ∙ ap (with_own into (more 1)) (done.plain ∙ (plain ∙ i.plain)),
             );
             gone = gone_now;
             bit = record {

@@ -22,7 +22,7 @@ in_both : (one : Bool) (A B : Type 0) → A → B → MatchBool one A B
 in_both true A B alone behind = alone
 in_both false A B alone behind = behind
 
-may_read_own : (z : Shape) (h : List Event) (pass segment row : ℕ) → owner z segment ≡ pass → MayReadItem z h pass segment row
+pub may_read_own : (z : Shape) (h : List Event) (pass segment row : ℕ) → owner z segment ≡ pass → MayReadItem z h pass segment row
 may_read_own z h pass segment row own = in_both (most_span == 1) (MayRead z h pass segment row)
     ((other : ℕ) → covers row (span_in h segment row) other ≡ true → other < z.rows → MayRead z h pass segment other)
     (inl own) (λ other covered within. inl own)

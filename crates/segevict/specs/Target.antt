@@ -4,7 +4,7 @@ use Rattle.segword.specs.Words.{Shape}
 use Rattle.segmodel.specs.declared.answer.SegState.TheVariants.{InUse}
 use Rattle.segbase.specs.Words.{Board, current_of, deadline_of, is_holding_of, locked_of, Pass}
 use Rattle.segbase.specs.Words.{state_of, used_of}
-use Rattle.segstore.specs.Words.{are_left, is_below, memo}
+use Rattle.segstore.specs.Words.{are_left, AreRows, is_below, memo}
 
 -- Items of the segment can be moved into this one, of the pass's own: it is in use,
 -- it is not the same, and it has the same deadline.
@@ -28,6 +28,11 @@ has_rows_in shape segment rows p =
 pub record IsNextIn (b : Board) (segment row : ℕ) (p : Pass) : Type 0 where
   pub used : used_of p segment ≡ Some row
   pub fits : row < b.shape.rows
+
+-- the row is the first one that isn't used, with so many rows from there on
+pub record AreNextIn (b : Board) (segment row rows : ℕ) (p : Pass) : Type 0 where
+  pub used : used_of p segment ≡ Some row
+  pub fits : AreRows b.shape row rows
 
 -- items of the segment can be moved into this one: it is current, it is not the same,
 -- and it has the same deadline

@@ -1,6 +1,7 @@
 //! Items of several rows: an eviction, a keep and a count go from the first row of an item to that of
 //! the next. Where each item has one row, they go from row to row.
-ghost use Rattle.std.specs.Prelude.{◌≡◌, ◌≢◌, ◌≤◌, ◌<◌, IfSome, IsNone, Some};
+ghost use Rattle.std.specs.Prelude.{◌≡◌, ◌≢◌, ◌≤◌, ◌<◌, IfSome, IsNone, MatchOption, Some};
+ghost use Rattle.std.specs.Prelude.{false};
 ghost use Rattle.segmodel.specs.declared.answer.SegState.TheVariants.{InUse};
 ghost use Rattle.segmodel.specs.declared.answer.EvictAnswer.TheVariants.{NotYours};
 ghost use Rattle.segcore.specs.Words.{RowGone, span_in};
@@ -15,7 +16,8 @@ ghost use Rattle.segevict.specs.Rows.{IsStoredIn, IsUsedRow};
 ghost use Rattle.segevict.specs.Spans.{TellsSpan};
 ghost use Rattle.segevict.specs.Steps.{most_steps_of_evict_row, most_steps_of_keep_row};
 ghost use Rattle.segevict.specs.Steps.{most_steps_to_move};
-ghost use Rattle.segevict.specs.Target.{IsKeepTarget, IsMoveTarget, IsNextIn};
+ghost use Rattle.segevict.specs.Target.{AreNextIn, has_rows_in, IsKeepTarget, IsMoveTarget};
+ghost use Rattle.segevict.specs.Target.{IsNextIn};
 ghost use Rattle.segevict.specs.Unlinking.{EvictsRow};
 
 use crate::eviction::{EvictRowAnswer, clear_row, evict_each_row, evict_first_row};
@@ -233,10 +235,13 @@ pub(crate) fn keep_used_row(
 }
 
 // The first row of a segment that isn't used, if so many rows are left.
-fn next_rows_in(board: &Board, pass: &Pass, segment: u32, rows: u32) -> Option<u32> {
+fn next_rows_in(board: &Board, pass: &Pass, segment: u32, rows: u32) -> Option<u32>
+    ensures next { MatchOption result (has_rows_in board.now.shape segment rows pass.now ≡ false)
+        (λ row. AreNextIn board.now segment row rows pass.now) }
+{
     let used = pass.used(segment)?;
-    let left = board.shape().rows.saturating_sub(used);
-    (rows <= left).then_some(used)
+    let last = board.shape().rows.checked_sub(rows)?;
+    (used <= last).then_some(used)
 }
 
 // Moves the item of a row into the rows of another segment from this one on, under the bit of its
