@@ -23,7 +23,8 @@ use Rattle.segstore.specs.Words.{AddsEntry, ChangesNothing, DrawsNothing, fills,
 use Rattle.segstore.specs.Words.{HasCleanBit, Idles, IsQuiet, KeepsSegments, memo, TakesOneBit}
 use Rattle.segstore.proofs.Keeping.{keeps_plain}
 use Rattle.segwrite.specs.Full.{IsFull, WasFull, GrowsFor}
-use Rattle.segwrite.specs.Writes.{one_more, UsesRow}
+use Rattle.segwrite.specs.Spans.{rows_of}
+use Rattle.segwrite.specs.Writes.{more, UsesRows}
 use Rattle.segwrite.specs.FirstEmpty.{TookFirstEmpty}
 use Rattle.segwrite.specs.Writing.{HasFullChain}
 use Rattle.segwrite.specs.Storing.{StoresUnderBit, stores}
@@ -118,17 +119,18 @@ module _ (b : Board) (key : List ℕ) (p q f s : Pass) (quiet : IsQuiet b p) {in
 
 -- ---- stored
 
-uses_around : (segment : ℕ) (p f r s : Pass) → UsesRow segment f r → f.plain ≡ p.plain → s.plain ≡ r.plain → memo f ≡ memo p → memo s ≡ memo r → UsesRow segment p s
-uses_around segment p f r s u before behind m n = record {
+uses_around : (segment rows : ℕ) (p f r s : Pass) → UsesRows segment rows f r → f.plain ≡ p.plain → s.plain ≡ r.plain → memo f ≡ memo p → memo s ≡ memo r
+    → UsesRows segment rows p s
+uses_around segment rows p f r s u before behind m n = record {
   current = ap (λ (x : PlainPart). x.current) (sym before) ∙ u.current;
-  plain = behind ∙ (u.plain ∙ ap (with_own segment one_more) before);
+  plain = behind ∙ (u.plain ∙ ap (with_own segment (more rows)) before);
   memo = n ∙ (u.memo ∙ m);
 }
 
 module _ (b : Board) (request : Request) (segment row : ℕ) (p q f r s : Pass) (quiet : IsQuiet b p)
     {into : Option ℕ} (took : HasBegun b (bucket_of b.shape (key_of request)) into p q) (before : List Event)
     (ready : IsReady b (bucket_of b.shape (key_of request)) before q f)
-    (done : StoresUnderBit b request segment row f r) (keeps : KeepsSegments b r) (uses : UsesRow segment f r)
+    (done : StoresUnderBit b request segment row f r) (keeps : KeepsSegments b r) (uses : UsesRows segment (rows_of request) f r)
     (freed : AddsAtOnce b (Freed (number r) (bucket_of b.shape (key_of request)) true ∷ []) r s)
     (free : (bucket_after b.shape (trace s) (bucket_of b.shape (key_of request))).holder ≡ None)
     (plain : s.plain ≡ r.plain) (same : memo s ≡ memo r) where
@@ -160,8 +162,8 @@ module _ (b : Board) (request : Request) (segment row : ℕ) (p q f r s : Pass) 
   adds : (h : List Event) → event.seen (own ++ h) ≡ (entry ∷ []) ++ event.seen h
   adds h = ap (λ x. entry ∷ x) (ap event.seen (append_assoc (fills (number f) segment row words done.1) before h) ∙ (fills_seen (number f) segment row words done.1 (before ++ h) ∙ ready.silent h))
 
-  uses_all : UsesRow segment p s
-  uses_all = uses_around segment p f r s uses (ready.plain ∙ took.plain) plain (ready.memo ∙ took.memo) same
+  uses_all : UsesRows segment (rows_of request) p s
+  uses_all = uses_around segment (rows_of request) p f r s uses (ready.plain ∙ took.plain) plain (ready.memo ∙ took.memo) same
 
   pub stored_goes_on : GoesOn b p s
   stored_goes_on = write_goes_on b home p q quiet took r s own (entry ∷ []) true moved elsewhere still adds freed free
@@ -169,7 +171,7 @@ module _ (b : Board) (request : Request) (segment row : ℕ) (p q f r s : Pass) 
       (ap (λ (x : PlainPart). x.is_holding) uses_all.plain)
       (keeps_plain b (Freed (number r) home true ∷ []) r s freed.moved (tt, tt) plain keeps)
 
-  pub stored_answer : AddsEntry (Wrote (number p) request Stored (Some segment)) p s × UsesRow segment p s
+  pub stored_answer : AddsEntry (Wrote (number p) request Stored (Some segment)) p s × UsesRows segment (rows_of request) p s
   stored_answer =
       let one : number f ≡ number p = ready.moved.same ∙ (took_moved b home p q quiet took).same in (
         write_adds b home p q quiet took r s own (entry ∷ []) true moved elsewhere still adds freed free

@@ -2,8 +2,9 @@
 use Rattle.std.proofs.Common.{◌≡◌, ℕ, ◌+◌, List, [], ◌∷◌, Option, Some, None, option_map, refl, sym, ap, ◌∙◌, subst, inl, inr, ⊎_elim}
 use Rattle.std.proofs.lemmas.Bool.{eq-eqb}
 use Rattle.std.proofs.lemmas.Option.{same_Some}
-use Rattle.std.specs.Prelude.{is_some}
-use Rattle.segword.specs.Words.{IsKey, IsValue, row_of}
+use Rattle.std.specs.Prelude.{◌==◌, Bool, true, false, if◌then◌else◌, is_some, length}
+use Rattle.std.specs.Int.{div_ceil}
+use Rattle.segword.specs.Words.{IsKey, IsValue, key_width, most_span, row_of, row_width, span_of}
 use Rattle.segmodel.specs.declared.request.Reply.TheVariants.{Stored}
 use Rattle.segmodel.specs.Words.{after, bucket_of, IsSameAt, key_of, moment_of, reply_in, reply_to, Request}
 use Rattle.segmodel.specs.Words.{value_of}
@@ -21,7 +22,8 @@ use Rattle.segstore.specs.Words.{fills, HasCleanBit, KeepsSegments, memo}
 use Rattle.segstore.proofs.Keeping.{same_used, keeps_plain, keeps_named}
 use Rattle.segwrite.specs.Words.{Target}
 use Rattle.segwrite.specs.FirstEmpty.{AreTakenBefore}
-use Rattle.segwrite.specs.Writes.{one_more, UsesRow}
+use Rattle.segwrite.specs.Spans.{or_one, rows_of}
+use Rattle.segwrite.specs.Writes.{more, UsesRows}
 use Rattle.segwrite.specs.Writing.{IsTarget}
 use Rattle.segwrite.specs.Storing.{IsNextRow, StoresUnderBit, stores, HasWritten}
 use Rattle.segwrite.proofs.Filling.{fills_calm}
@@ -99,13 +101,34 @@ module _ (b : Board) (request : Request) (target : Target) (segment row : ℕ) (
 
 -- ---- all of it
 
--- one row more is used where so many were
-one_used : (segment row : ℕ) (x : PlainPart) → used_in (own_segment x segment) ≡ Some row → with_used segment (row + 1) x ≡ with_own segment one_more x
-one_used segment row x used = own_alike x segment (counted (row + 1)) one_more (same (own_segment x segment) used)
+-- so many rows more are used where a number of them were
+rows_used : (segment row rows : ℕ) (x : PlainPart) → used_in (own_segment x segment) ≡ Some row
+    → with_used segment (row + rows) x ≡ with_own segment (more rows) x
+rows_used segment row rows x used = own_alike x segment (counted (row + rows)) (more rows)
+    (same (own_segment x segment) used)
   where
-    same : (o : Option OwnSegment) → used_in o ≡ Some row → option_map (counted (row + 1)) o ≡ option_map one_more o
+    same : (o : Option OwnSegment) → used_in o ≡ Some row
+        → option_map (counted (row + rows)) o ≡ option_map (more rows) o
     same None is = refl
-    same (Some own) is = ap (λ n. Some (counted (n + 1) own)) (sym (same_Some own.used row is))
+    same (Some own) is = ap (λ n. Some (counted (n + rows) own)) (sym (same_Some own.used row is))
+
+one_or : (one : Bool) (rows : ℕ)
+    → (if one then 1 else (if one then 1 else rows)) ≡ (if one then 1 else rows)
+one_or true rows = refl
+one_or false rows = refl
+
+-- the rows that are counted are those that the request's item takes
+counts_rows : (request : Request) (rows : ℕ) → rows ≡ rows_of request → or_one rows ≡ rows_of request
+counts_rows request rows is = ap or_one is ∙ one_or (most_span == 1)
+    (div_ceil (1 + key_width (length (key_of request)) + div_ceil (length (value_of request)) 8) row_width)
+
+pub used_all : (request : Request) (segment row rows : ℕ) (k v : List ℕ) (r s : Pass)
+    → s ≡ record r { plain = with_used segment (row + or_one rows) r.plain } → rows ≡ span_of k v
+    → key_of request ≡ k → value_of request ≡ v
+    → record r { plain = with_used segment (row + rows_of request) r.plain } ≡ s
+used_all request segment row rows k v r s is takes same_key same_value =
+    sym (is ∙ ap (λ n. record r { plain = with_used segment (row + n) r.plain })
+    (counts_rows request rows (takes ∙ (λ t. span_of (sym same_key t) (sym same_value t)))))
 
 module _ (b : Board) (request : Request) (target : Target) (segment row : ℕ) (p q r : Pass) (next : IsNextRow b request segment row p)
     (places : List ℕ) (m : AddsEvents b (fills (number p) segment row (row_of (key_of request) (value_of request))
@@ -113,9 +136,9 @@ module _ (b : Board) (request : Request) (target : Target) (segment row : ℕ) (
   abbrev at : ℕ
   at = position b.shape (trace q) target.place
 
-  -- with the row counted as used
+  -- with the item's rows counted as used
   abbrev after_all : Pass
-  after_all = record r { plain = with_used segment (row + 1) r.plain }
+  after_all = record r { plain = with_used segment (row + rows_of request) r.plain }
 
   pub stores_all : HasCleanBit b q (bucket_of b.shape (key_of request)) → IsTarget b (key_of request) target q → StoresUnderBit b request segment row p after_all
   stores_all clean found =
@@ -126,7 +149,7 @@ module _ (b : Board) (request : Request) (target : Target) (segment row : ℕ) (
         at,
         places,
         moved_still b (stores (number p) request segment row at places) p r after_all.plain both
-            (owner_counted r.plain segment (row + 1)),
+            (owner_counted r.plain segment (row + rows_of request)),
         took_first b request target segment row own p q r after_all m m.pass clean.bit found d refl,
       )
 
@@ -137,9 +160,10 @@ module _ (b : Board) (request : Request) (target : Target) (segment row : ℕ) (
         q m (fills_calm (number p) segment row (row_of (key_of request) (value_of request)) places) first k in
         keeps_named b _ q r segment row (refl, refl) d second (ap (λ (x : PlainPart). x.current) first ∙ next.current) (same_used p q segment first ∙ next.used) next.fits m.pass kq
 
-    pub uses_all : memo q ≡ memo p → memo r ≡ memo q → UsesRow segment p after_all
+    pub uses_all : memo q ≡ memo p → memo r ≡ memo q → UsesRows segment (rows_of request) p after_all
     uses_all minds same = record {
       current = next.current;
-      plain = one_used segment row r.plain (same_used p r segment (second ∙ first) ∙ next.used) ∙ ap (with_own segment one_more) (second ∙ first);
+      plain = rows_used segment row (rows_of request) r.plain (same_used p r segment (second ∙ first) ∙ next.used)
+          ∙ ap (with_own segment (more (rows_of request))) (second ∙ first);
       memo = same ∙ minds;
     }

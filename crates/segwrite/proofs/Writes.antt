@@ -23,7 +23,8 @@ use Rattle.segbase.proofs.Moves.{moved_on}
 use Rattle.segstore.proofs.Refills.{idles}
 use Rattle.segstore.proofs.Peeking.{PeeksInto}
 use Rattle.segwrite.specs.Presence.{depends_on_key, PeeksFor}
-use Rattle.segwrite.specs.Writes.{CostsOfAnswer, EntersForKey, IsWriteAnswer, Writes, UsesRow}
+use Rattle.segwrite.specs.Spans.{rows_of}
+use Rattle.segwrite.specs.Writes.{CostsOfAnswer, EntersForKey, IsWriteAnswer, Writes, UsesRows}
 use Rattle.segwrite.specs.Full.{DrewInNeed, GrowsFor}
 use Rattle.segwrite.specs.Steps.{most_steps_of_draw, most_steps_of_growth, most_steps_of_refusal, most_steps_of_room}
 use Rattle.segwrite.specs.Steps.{most_steps_of_write, most_tries_for_bit, WritesInSteps}
@@ -236,7 +237,7 @@ module _ (b : Board) (w : When) (request : Request) (key value words : List ℕ)
             } in
             (there.ready.moved.pass, (keeps, (row_is, (requests, (key_of_words, (tagged, (there.ready.clean, there.target_is)))))))
 
-        pub ends_stored : ¬ (has_room b.shape p ≡ false) → refusal ≡ None → (segment row : ℕ) (t s : Pass) → StoresUnderBit b request segment row r t → KeepsSegments b t → UsesRow segment r t
+        pub ends_stored : ¬ (has_room b.shape p ≡ false) → refusal ≡ None → (segment row : ℕ) (t s : Pass) → StoresUnderBit b request segment row r t → KeepsSegments b t → UsesRows segment (rows_of request) r t
             → AddsAtOnce b (Freed (number t) bucket true ∷ []) t s
             → (bucket_after b.shape (trace s) bucket).holder ≡ None → s.plain ≡ t.plain → memo s ≡ memo t
             → (TakesAtMost 0 g r → TakesAtMost (most_steps_of_write request) p s)

@@ -8,10 +8,11 @@ use Rattle.segbase.specs.Words.{AddsEvents, Board, number, Pass, trace}
 use Rattle.segstore.specs.Words.{fills, KeepsSegments, TakesAtMost}
 use Rattle.segwrite.specs.Steps.{most_steps_of_row, most_tries_to_exchange}
 use Rattle.segwrite.specs.Storing.{HasWritten, StoresUnderBit}
-use Rattle.segwrite.specs.Writes.{UsesRow}
+use Rattle.segwrite.specs.Spans.{rows_of}
+use Rattle.segwrite.specs.Writes.{UsesRows}
 use Rattle.segstore.proofs.Keeping.{next_is_own}
 use Rattle.segwrite.proofs.Filling.{fills_nowhere}
-use Rattle.segwrite.proofs.Storing.{target_later, clean_later, reply_later, may_store, has_written, stores_all, keeps_all, uses_all}
+use Rattle.segwrite.proofs.Storing.{target_later, clean_later, reply_later, may_store, has_written, stores_all, keeps_all, used_all, uses_all}
 use Rattle.segwrite.proofs.write.store.Goals as goal
 
 pub fill_row-requires-clause-own : goal.fill_row-requires-clause-own
@@ -54,7 +55,8 @@ link-requires g c = let b = c.args.board.now in let r = c.requires in let w = c.
     (pair.0.pass, ((r.1.1.1.1.1.0 ∙ ap tag_of (sym asks.of.0), refl), (target, may_store b g.request c.args.target s row _ clean_now target stored w.own pair.1 pair.2 pair.3)))
 
 pub returns-clause-stores : goal.returns-clause-stores
-returns-clause-stores g c = let b = c.args.board.now in let r = c.requires in let w = c.fill_row.ensures in let counts = sym c.use_rows.ensures in
+returns-clause-stores g c = let b = c.args.board.now in let r = c.requires in let w = c.fill_row.ensures in let counts = used_all g.request c.args.row.segment c.args.row.row c.span.result _ _ c.link.new.pass _
+        c.use_rows.ensures c.span.ensures.rows r.1.1.1.0.of.0 r.1.1.1.0.of.1 in
     let asks = r.1.1.1.0 in let clean = r.1.1.1.1.1.1.0 in
     let pair = pair_of b g.request c.args.write.now.sought.key c.args.write.now.value.now w.moved.0 c.args.row.segment c.args.row.row _ _ asks.of.0 asks.of.1 w.moved.1 w.holds r.1.1.1.1.0 w.valid in
     let own = fills (number c.args.pass.now) c.args.row.segment c.args.row.row (row_of (key_of g.request) (value_of g.request)) w.moved.0 in
@@ -64,20 +66,23 @@ returns-clause-stores g c = let b = c.args.board.now in let r = c.requires in le
     (clean_later b own _ _ (key_of g.request) pair.0 r.0 clean.bit none clean) (target_later b own _ _ (key_of g.request) pair.0 r.0 clean.bit none c.args.target r.1.1.1.1.1.1.1))
 
 pub returns-clause-segments : goal.returns-clause-segments
-returns-clause-segments g c = let b = c.args.board.now in let r = c.requires in let w = c.fill_row.ensures in let counts = sym c.use_rows.ensures in
+returns-clause-segments g c = let b = c.args.board.now in let r = c.requires in let w = c.fill_row.ensures in let counts = used_all g.request c.args.row.segment c.args.row.row c.span.result _ _ c.link.new.pass _
+        c.use_rows.ensures c.span.ensures.rows r.1.1.1.0.of.0 r.1.1.1.0.of.1 in
     let asks = r.1.1.1.0 in
     let pair = pair_of b g.request c.args.write.now.sought.key c.args.write.now.value.now w.moved.0 c.args.row.segment c.args.row.row _ _ asks.of.0 asks.of.1 w.moved.1 w.holds r.1.1.1.1.0 w.valid in
     subst (KeepsSegments b) counts (keeps_all b g.request c.args.target c.args.row.segment c.args.row.row _ _ _ r.1.1.0 w.moved.0 pair.0 c.link.ensures.did w.plain c.link.ensures.same.0 r.1.0)
 
 pub returns-clause-uses : goal.returns-clause-uses
-returns-clause-uses g c = let b = c.args.board.now in let r = c.requires in let w = c.fill_row.ensures in let counts = sym c.use_rows.ensures in
+returns-clause-uses g c = let b = c.args.board.now in let r = c.requires in let w = c.fill_row.ensures in let counts = used_all g.request c.args.row.segment c.args.row.row c.span.result _ _ c.link.new.pass _
+        c.use_rows.ensures c.span.ensures.rows r.1.1.1.0.of.0 r.1.1.1.0.of.1 in
     let asks = r.1.1.1.0 in
     let pair = pair_of b g.request c.args.write.now.sought.key c.args.write.now.value.now w.moved.0 c.args.row.segment c.args.row.row _ _ asks.of.0 asks.of.1 w.moved.1 w.holds r.1.1.1.1.0 w.valid in
-    subst (UsesRow c.args.row.segment c.args.pass.now) counts
+    subst (UsesRows c.args.row.segment (rows_of g.request) c.args.pass.now) counts
     (uses_all b g.request c.args.target c.args.row.segment c.args.row.row _ _ _ r.1.1.0 w.moved.0 pair.0 c.link.ensures.did w.plain c.link.ensures.same.0 w.memo c.link.ensures.same.1)
 
 pub returns-clause-bit : goal.returns-clause-bit
-returns-clause-bit g c = let b = c.args.board.now in let r = c.requires in let w = c.fill_row.ensures in let counts = sym c.use_rows.ensures in
+returns-clause-bit g c = let b = c.args.board.now in let r = c.requires in let w = c.fill_row.ensures in let counts = used_all g.request c.args.row.segment c.args.row.row c.span.result _ _ c.link.new.pass _
+        c.use_rows.ensures c.span.ensures.rows r.1.1.1.0.of.0 r.1.1.1.0.of.1 in
     let asks = r.1.1.1.0 in let clean = r.1.1.1.1.1.1.0 in
     let pair = pair_of b g.request c.args.write.now.sought.key c.args.write.now.value.now w.moved.0 c.args.row.segment c.args.row.row _ _ asks.of.0 asks.of.1 w.moved.1 w.holds r.1.1.1.1.0 w.valid in
     let own = fills (number c.args.pass.now) c.args.row.segment c.args.row.row (row_of (key_of g.request) (value_of g.request)) w.moved.0 in
