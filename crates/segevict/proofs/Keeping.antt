@@ -225,7 +225,7 @@ module _ (b : Board) (segment into cutoff row count : ℕ) (p q : Pass) (quiet :
           on = goes_then b p q r e.on k.on;
           answer = inr (
             moved_away r k.on.steps none within k.tries,
-            subst (λ (x : PlainPart). has_room b.shape (record q { plain = x }) ≡ false) (sym none.plain) (sym (room_now b into q (e.uses.current ∙ target.current)) ∙ k.answer.1),
+            subst (λ (x : PlainPart). has_room b.shape (record q { plain = x }) ≡ false) (sym none.plain) (sym (room_now b into 1 q (e.uses.current ∙ target.current)) ∙ k.answer.1),
             (s.key, (row, had_at b segment row (λ n. cutoff ≤ n) q r s (marked r) (marked r) ([], refl) ([], refl))),
           );
           not_yours = ((λ other. absurd (not_so other)), (λ nobody. absurd (none-some InUse (sym nobody ∙ in_use))));
@@ -250,7 +250,7 @@ module _ (b : Board) (segment into cutoff row count : ℕ) (p q : Pass) (quiet :
           on = goes_then b p q r e.on k.on;
           answer = (
             moved_away r k.on.steps none within k.tries,
-            subst (λ (x : PlainPart). has_room b.shape (record q { plain = x }) ≡ true) (sym none.plain) (sym (room_now b into q (e.uses.current ∙ target.current)) ∙ a.3),
+            subst (λ (x : PlainPart). has_room b.shape (record q { plain = x }) ≡ true) (sym none.plain) (sym (room_now b into 1 q (e.uses.current ∙ target.current)) ∙ a.3),
             (
               s.key,
               often_now b segment into cutoff row count p q r own e s.key (row, had_seen b segment row (λ n. cutoff ≤ n) q f r s a.2.steps),

@@ -1,14 +1,15 @@
 -- A keep of one row: the answer for a used row in the call's terms, and refusals before any step.
+use Rattle.std.specs.Prelude.{◌==◌, if◌then◌else◌}
 use Rattle.std.proofs.Common.{◌≡◌, ℕ, ◌≤◌, ◌<◌, ◌↔◌, Bool, true, false, None, Some, IsSome, option_and_then, [], refl, sym, ap, ◌∙◌, subst, inl, inr, ⊎_elim, arith}
 use Rattle.std.proofs.lemmas.Bool.{false≢true}
 use Rattle.std.proofs.lemmas.Option.{none-some}
 use Rattle.segmodel.specs.declared.answer.SegState.TheVariants.{InUse}
 use Rattle.segmodel.specs.Words.{bucket_of}
-use Rattle.segcore.specs.Words.{bounced}
+use Rattle.segcore.specs.Words.{bounced, span_in}
 use Rattle.segbase.specs.declared.pass.PlainPart.{PlainPart}
 use Rattle.segbase.specs.Words.{Board, count, current_of, marked, Pass, state_of, trace, used_of}
 use Rattle.segbase.proofs.Moves.{moved_count}
-use Rattle.segstore.specs.Words.{ChangesNothing, has_room, is_below, IsQuiet, TakesAtMost, TakesNoBit}
+use Rattle.segstore.specs.Words.{are_left, ChangesNothing, has_room_for, is_below, IsQuiet, TakesAtMost, TakesNoBit}
 use Rattle.segstore.proofs.Idling.{goes_same}
 use Rattle.segevict.specs.declared.retention.KeepRowAnswer.{KeepRowAnswer}
 use Rattle.segevict.specs.declared.retention.KeepRowAnswer.TheVariants as kept
@@ -16,7 +17,7 @@ use Rattle.segevict.specs.Moving.{IsKeptRow, KeepsRow}
 use Rattle.segevict.specs.OneRow.{CostsOfKeepRow, IsKeepRowAnswer, KeepsItem, KeepsItemInto, KeepsTo, TriesForRow}
 use Rattle.segevict.specs.Rows.{HasRow}
 use Rattle.segevict.specs.Steps.{most_steps_of_keep_row}
-use Rattle.segevict.specs.Target.{has_room_in, IsKeepTarget, IsMoveTarget}
+use Rattle.segevict.specs.Target.{has_rows_in, IsKeepTarget, IsMoveTarget}
 use Rattle.segevict.proofs.Frequencies.{had_at, had_seen}
 use Rattle.segevict.proofs.AfterRow.{idle_changes, left_changes, uses_one}
 use Rattle.segevict.proofs.Carrying.{carried}
@@ -24,9 +25,18 @@ use Rattle.segevict.proofs.Naming.{unnamed}
 
 -- ---- the segment to move into
 
--- whether it has a row left
-pub room_now : (b : Board) (into : ℕ) (p : Pass) → current_of p ≡ Some into → has_room_in b.shape into p ≡ has_room b.shape p
-room_now b into p current = ap (λ o. is_below b.shape.rows (option_and_then (used_of p) o)) (sym current)
+-- whether it has so many rows left
+pub room_now : (b : Board) (into rows : ℕ) (p : Pass) → current_of p ≡ Some into
+    → has_rows_in b.shape into rows p ≡ has_room_for b.shape rows p
+room_now b into rows p current = ap (λ o. if rows == 1 then is_below b.shape.rows (option_and_then (used_of p) o)
+    else are_left rows b.shape.rows (option_and_then (used_of p) o)) (sym current)
+
+-- whether the current segment, or this one, has as many left as the item that begins in a row takes
+abbrev has_room_of : Board → ℕ → ℕ → Pass → Bool
+has_room_of b segment row p = has_room_for b.shape (span_in (trace p) segment row) p
+
+abbrev has_rows_of : Board → ℕ → ℕ → ℕ → Pass → Bool
+has_rows_of b into segment row p = has_rows_in b.shape into (span_in (trace p) segment row) p
 
 -- ---- a used row
 
@@ -34,7 +44,7 @@ module _ (b : Board) (segment row into cutoff : ℕ) (p r : Pass) (quiet : IsQui
   -- with this segment to move into
   kept_to : (IsTarget : ℕ → Type 0) → IsTarget into → (told : KeepRowAnswer)
       → KeepsRow b segment row into cutoff told p r
-      → KeepsTo b.shape segment row cutoff IsTarget (has_room_in b.shape into r) told p r
+      → KeepsTo b.shape segment row cutoff IsTarget (has_rows_of b into segment row r) told p r
   kept_to IsTarget target kept.Moved k = let a = k.answer in
       (into, target, uses_one into p r a.11 k.memo, (a.1.key, carried b segment row into cutoff p a.0 r a.1 a.3 a.4 a.5 a.6 a.9 a.2.steps a.7 a.8 a.10 a.12))
   kept_to IsTarget target kept.Left k = (
@@ -55,7 +65,7 @@ module _ (b : Board) (segment row into cutoff : ℕ) (p r : Pass) (quiet : IsQui
         into,
         target,
         none,
-        subst (λ (x : PlainPart). has_room_in b.shape into (record p { plain = x }) ≡ false) (sym none.plain) k.answer.1,
+        subst (λ (x : PlainPart). has_rows_in b.shape into (span_in (trace r) segment row) (record p { plain = x }) ≡ false) (sym none.plain) k.answer.1,
         (s.key, had_at b segment row (λ n. cutoff ≤ n) p r s (marked r) (marked r) ([], refl) ([], refl)),
         s.looks,
       )
@@ -66,7 +76,7 @@ module _ (b : Board) (segment row into cutoff : ℕ) (p r : Pass) (quiet : IsQui
         into,
         target,
         none,
-        subst (λ (x : PlainPart). has_room_in b.shape into (record p { plain = x }) ≡ true) (sym none.plain) a.3,
+        subst (λ (x : PlainPart). has_rows_in b.shape into (span_in (trace r) segment row) (record p { plain = x }) ≡ true) (sym none.plain) a.3,
         (
           s.key,
           had_seen b segment row (λ n. cutoff ≤ n) p f r s a.2.steps,
@@ -99,9 +109,10 @@ module _ (b : Board) (segment row into cutoff : ℕ) (p r : Pass) (quiet : IsQui
 
     -- the room of the segment is what the pass has
     with_room : (told : KeepRowAnswer) → r.plain ≡ p.plain
-        → KeepsTo b.shape segment row cutoff IsHere (has_room_in b.shape into r) told p r
-        → KeepsTo b.shape segment row cutoff IsHere (has_room b.shape r) told p r
-    with_room told same = subst (λ room. KeepsTo b.shape segment row cutoff IsHere room told p r) (room_now b into r (ap (λ (x : PlainPart). x.current) same ∙ target.current))
+        → KeepsTo b.shape segment row cutoff IsHere (has_rows_of b into segment row r) told p r
+        → KeepsTo b.shape segment row cutoff IsHere (has_room_of b segment row r) told p r
+    with_room told same = subst (λ room. KeepsTo b.shape segment row cutoff IsHere room told p r)
+        (room_now b into (span_in (trace r) segment row) r (ap (λ (x : PlainPart). x.current) same ∙ target.current))
 
     answers : (told : KeepRowAnswer) → KeepsRow b segment row into cutoff told p r → IsKeepRowAnswer b.shape segment row cutoff told p r
     answers kept.Moved k = kept_to IsHere target kept.Moved k
@@ -118,7 +129,7 @@ module _ (b : Board) (segment row into cutoff : ℕ) (p r : Pass) (quiet : IsQui
       not_yours = none_not_yours has told k;
       not_used = none_not_used has told k;
       costs = record {
-        tries = subst (λ room. TriesForRow b segment row cutoff room told p r) (room_now b into p target.current) k.tried;
+        tries = subst (λ room. TriesForRow b segment row cutoff room told p r) (room_now b into (span_in (trace p) segment row) p target.current) k.tried;
         steps = steps;
         draws_nothing = k.draws_nothing;
         reads_nothing = k.reads_nothing;
@@ -186,26 +197,27 @@ module _ (b : Board) (segment row cutoff : ℕ) (p : Pass) (quiet : IsQuiet b p)
 
   pub row_not_yours : state_of p segment ≡ None → KeepsItem b segment row cutoff kept.NotYours p p
   row_not_yours none = let is = refused_not_yours none in
-      record { on = goes_same b p quiet; answer = refl; not_yours = is.0; not_used = is.1; costs = costs_none (has_room b.shape p) kept.NotYours none_tried }
+      record { on = goes_same b p quiet; answer = refl; not_yours = is.0; not_used = is.1; costs = costs_none (has_room_of b segment row p) kept.NotYours none_tried }
 
   pub row_not_used : IsSome (state_of p segment) → ¬ (HasRow segment row p) → KeepsItem b segment row cutoff kept.NotUsed p p
   row_not_used some without = let is = refused_not_used some without in
-      record { on = goes_same b p quiet; answer = refl; not_yours = is.0; not_used = is.1; costs = costs_none (has_room b.shape p) kept.NotUsed none_tried }
+      record { on = goes_same b p quiet; answer = refl; not_yours = is.0; not_used = is.1; costs = costs_none (has_room_of b segment row p) kept.NotUsed none_tried }
 
   pub row_no_target : HasRow segment row p → ((into : ℕ) → ¬ (IsKeepTarget segment into p)) → KeepsItem b segment row cutoff kept.NoRoom p p
   row_no_target has nowhere = let is = refused_no_room has in
-      record { on = goes_same b p quiet; answer = inl (nowhere, refl); not_yours = is.0; not_used = is.1; costs = costs_none (has_room b.shape p) kept.NoRoom none_tried }
+      record { on = goes_same b p quiet; answer = inl (nowhere, refl); not_yours = is.0; not_used = is.1; costs = costs_none (has_room_of b segment row p) kept.NoRoom none_tried }
 
   -- where the caller names a segment
   module _ (into : ℕ) where
     pub into_not_yours : state_of p segment ≡ None → KeepsItemInto b segment row cutoff into kept.NotYours p p
     into_not_yours none = let is = refused_not_yours none in
-        record { on = goes_same b p quiet; answer = refl; not_yours = is.0; not_used = is.1; costs = costs_none (has_room_in b.shape into p) kept.NotYours none_tried }
+        record { on = goes_same b p quiet; answer = refl; not_yours = is.0; not_used = is.1; costs = costs_none (has_rows_of b into segment row p) kept.NotYours none_tried }
 
     pub into_not_used : IsSome (state_of p segment) → ¬ (HasRow segment row p) → KeepsItemInto b segment row cutoff into kept.NotUsed p p
     into_not_used some without = let is = refused_not_used some without in
-        record { on = goes_same b p quiet; answer = refl; not_yours = is.0; not_used = is.1; costs = costs_none (has_room_in b.shape into p) kept.NotUsed none_tried }
+        record { on = goes_same b p quiet; answer = refl; not_yours = is.0; not_used = is.1; costs = costs_none (has_rows_of b into segment row p) kept.NotUsed none_tried }
 
     pub into_no_target : HasRow segment row p → ¬ (IsMoveTarget segment into p) → KeepsItemInto b segment row cutoff into kept.NoRoom p p
     into_no_target has nowhere = let is = refused_no_room has in
-        record { on = goes_same b p quiet; answer = inl ((λ other is. nowhere is.1), refl); not_yours = is.0; not_used = is.1; costs = costs_none (has_room_in b.shape into p) kept.NoRoom none_tried }
+        record { on = goes_same b p quiet; answer = inl ((λ other is. nowhere is.1), refl); not_yours = is.0; not_used = is.1;
+          costs = costs_none (has_rows_of b into segment row p) kept.NoRoom none_tried }
