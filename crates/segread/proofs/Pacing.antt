@@ -11,6 +11,7 @@ use Rattle.segread.specs.declared.scan.Scan.{Scan}
 use Rattle.segread.specs.declared.scan.Scan.TheVariants.{Found, Passed, Busy}
 use Rattle.segstore.specs.declared.read.Keyed.{Keyed}
 use Rattle.segstore.specs.declared.read.Keyed.TheVariants as keyed
+use Rattle.segread.specs.Loads.{try_steps}
 use Rattle.segread.specs.Scanning.{end_of_scan, IsPlaceOf, IsScanFrom, IsScanner, left_of_scan, Paces, PacesTo, place_of, TriesInSeven, words_below}
 use Rattle.segread.specs.Hits.{TriesFew}
 use Rattle.segread.specs.Looking.{LooksFirst}
@@ -21,7 +22,7 @@ use Rattle.segread.proofs.Scans.{at_depth, hit_place, in_chain, last_of}
 -- ---- at one word
 
 -- a try of which nothing is left
-pub tried_and_left : (k : Keyed) (p q : Pass) → ((item : Item) (header : ℕ) → k ≢ keyed.Same item header) → step_count q ≤ step_count p + 7 → TriesInSeven k p q
+pub tried_and_left : (k : Keyed) (p q : Pass) → ((item : Item) (header : ℕ) → k ≢ keyed.Same item header) → step_count q ≤ step_count p + try_steps → TriesInSeven k p q
 tried_and_left (keyed.Same item header) p q ne took = absurd (ne item header refl)
 tried_and_left (keyed.Other item) p q ne took = omega (arith, took)
 tried_and_left (keyed.Changed word) p q ne took = omega (arith, took)
@@ -29,13 +30,13 @@ tried_and_left (keyed.Changed word) p q ne took = omega (arith, took)
 -- after a look at a word, and tries there
 abbrev pub AtWord : Pass → Pass → Type 0
 AtWord p q =
-    (step_count q + 7 * count entered p ≤ step_count p + 1 + 7 * count entered q)
+    (step_count q + try_steps * count entered p ≤ step_count p + 1 + try_steps * count entered q)
     × (count entered p ≤ count entered q)
 
 pub at_word : (p m : Pass) → step_count m ≡ step_count p + 1 → count entered m ≡ count entered p → AtWord p m
 at_word p m one same = (omega (arith, one, same), omega (arith, same))
 
-pub one_try : (left : ℕ) (p q r : Pass) → AtWord p q → count entered r ≡ count entered q + 1 → step_count r + left ≤ step_count q + 7 → AtWord p r
+pub one_try : (left : ℕ) (p q r : Pass) → AtWord p q → count entered r ≡ count entered q + 1 → step_count r + left ≤ step_count q + try_steps → AtWord p r
 one_try left p q r w came took = (let most = w.0 in omega (arith, most, came, took), let up = w.1 in omega (arith, up, came))
 
 -- the word is passed, or all tries are counted
@@ -43,7 +44,7 @@ pub word_paced : (at to : ℕ) (p q : Pass) → words_below at + 1 ≤ words_bel
 word_paced at to p q on w = record { most = (let most = w.0 in omega (arith, most, on)); came_in = (let up = w.1 in omega (arith, up)) }
 
 -- the key's item is found there
-pub word_found : (at to : ℕ) (p q r : Pass) → words_below at + 1 ≤ words_below to → AtWord p q → count entered r ≡ count entered q + 1 → step_count r + 1 ≤ step_count q + 7 → Paces at to 1 p r
+pub word_found : (at to : ℕ) (p q r : Pass) → words_below at + 1 ≤ words_below to → AtWord p q → count entered r ≡ count entered q + 1 → step_count r + 1 ≤ step_count q + try_steps → Paces at to 1 p r
 word_found at to p q r on w came took = record { most = (let most = w.0 in omega (arith, most, on, came, took)); came_in = (let up = w.1 in omega (arith, up, came)) }
 
 -- ---- from word to word
@@ -136,7 +137,7 @@ scan_place b key from (Passed word counted) p q i x = tt
 scan_place b key from Busy p q i x = tt
 
 -- in all, by how often it came into segments; with m right after the first look
-pub paced_from : (b : Board) (key : List ℕ) (p m q : Pass) (left : ℕ) → LooksFirst b p m → TriesFew m q → Paces 1 32 left p q → step_count q + left ≤ step_count p + 665
+pub paced_from : (b : Board) (key : List ℕ) (p m q : Pass) (left : ℕ) → LooksFirst b p m → TriesFew m q → Paces 1 32 left p q → step_count q + left ≤ step_count p + (28 + try_steps * (63 + 28))
 paced_from b key p m q left l few paced = let same = (out b key p m l).0 in let most = paced.most in omega (arith, few, same, most)
 
 -- to remember takes no step
