@@ -1,5 +1,6 @@
 //! Clients for all passes of an index.
 ghost use Rattle.std.specs.Prelude.{◌≡◌, ◌++◌, [], ◌∷◌, map, All, IfOk, IfSome, MatchOption, Some};
+ghost use Rattle.std.specs.Vec.{vec_capacity, vec_len};
 ghost use Rattle.std.specs.List.{AllZip};
 ghost use Rattle.segword.specs.Words.{Shape};
 ghost use Rattle.segindex.specs.Words.{AreAllQuiet, board_of, IsNew};
@@ -27,6 +28,7 @@ pub fn clients<'i>(
         AllZip (Starts index.now (Some 0)) passes.items clients.items) }
     ensures all { (shape : Shape) → IsNew shape index.now passes.items
         → IfOk result (λ clients. AreAllClients index.now clients.items) }
+    ensures room { IfOk result (λ clients. vec_capacity clients ≡ vec_len passes) }
 {
     let mut clients = Vec::with_capacity(alloc, passes.len())?;
     for pass in passes {
@@ -59,6 +61,7 @@ pub fn into_passes(
     ensures all { IfOk result (λ passes. AreAllQuiet (board_of index.now) passes.items) }
     ensures passes { IfOk result (λ passes.
         passes.items ≡ map (λ client. client.member.pass) clients.entry.items) }
+    ensures room { IfOk result (λ passes. vec_capacity passes ≡ vec_len clients.entry) }
 {
     let mut passes = Vec::with_capacity(alloc, clients.len())?;
     for client in clients {

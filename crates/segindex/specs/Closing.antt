@@ -1,7 +1,8 @@
 -- The content of an index at its end: the pairs of the cache after some history.
 -- If one pass closes the index, the history goes on from what this pass has seen.
 -- If all passes close it, the history is what one of them has seen.
-use Rattle.std.specs.Prelude.{◌≡◌, ℕ, ◌+◌, ◌*◌, ◌<◌, ◌≤◌, ◌⊎◌, List, [], map, Option, None, Some, slice_get}
+use Rattle.std.specs.Prelude.{◌≡◌, ℕ, ◌+◌, ◌*◌, ◌<◌, ◌≤◌, ◌⊎◌, List, [], map, Option, None, Some, Vec, slice_get}
+use Rattle.std.specs.Vec.{vec_capacity, vec_len}
 use Rattle.std.specs.List.{IsDistinct}
 use Rattle.std.specs.Ordering.{eq_by_cmp}
 use Rattle.std.specs.Map.{lookup, keys_of}
@@ -116,6 +117,10 @@ pub record Lists (shape : Shape) (trace : List Event) (Of : List ℕ → Type 0)
       → Of key
       → value_under (after shape (event.seen trace)) key ≡ Some value
       → listed pairs key ≡ Some value
+
+-- The list has room for at most twice the pairs that are in it, and seven more.
+abbrev pub IsCompact : {X Z : Type 0} → Vec X Z → Type 0
+IsCompact pairs = vec_capacity pairs ≤ 2 * vec_len pairs + 7
 
 -- The key's bucket is before this one,
 -- or it is this one and the key's item is at a lower position of its chain.

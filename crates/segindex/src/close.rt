@@ -1,11 +1,11 @@
 //! The content of an index at its end, read from its words at rest.
 ghost use Rattle.std.specs.Prelude.{◌≡◌, ℕ, ◌+◌, ◌*◌, ◌<◌, ◌≤◌, List, IfOk, IfErr, OnOk, OnErr};
-ghost use Rattle.std.specs.Prelude.{vec_len};
+ghost use Rattle.std.specs.Prelude.{[], ◌++◌, ◌∷◌, vec_len};
 ghost use Rattle.segcore.specs.declared.event.Event.{Event};
 ghost use Rattle.segcore.specs.Words.{seen};
 ghost use Rattle.segbase.specs.Words.{IsAtRest, shape_of};
 ghost use Rattle.segindex.specs.Closing.{HasContent, HasPairs, IsListed, IsWordIn, IsBucketIn};
-ghost use Rattle.segindex.specs.Closing.{IsPairAt, IsPairsAtRest};
+ghost use Rattle.segindex.specs.Closing.{IsCompact, IsPairAt, IsPairsAtRest};
 
 use crate::index::Index;
 use segbase::{CHAIN_BUCKETS, Pass, Place, Words};
@@ -37,8 +37,8 @@ impl Index {
     /// The index can't be closed while an item is held.
     ///
     /// A bucket's chain has at most four buckets of seven words, so it has at most 28 pairs.
-    /// The list takes memory, if a key stands at all. With several passes the contract
-    /// leaves that open too.
+    /// The list takes memory, if a key stands at all: room for at most twice its pairs, and seven
+    /// more. With several passes the contract leaves open whether a key stands.
     /// If that memory is refused, the index and the pass are gone all the same.
     pub fn close(self, alloc: Global, pass: Pass) -> Result<Vec<(Key, Value)>, OutOfMemory>
         requires { IsQuiet (index.board_of self) pass }
@@ -46,6 +46,7 @@ impl Index {
             IsContent (index.shape_of self) pass content.items) }
         ensures few { IfOk result (λ content.
             vec_len content ≤ BUCKET_PAIRS * (index.shape_of self).buckets) }
+        ensures room { IfOk result IsCompact }
         ensures wanted { IfErr result (λ _. WantsMemory (index.shape_of self) pass) }
         ensures alone { (index.shape_of self).passes ≡ 1
             → IfOk result (λ content. IsContentSeen (index.shape_of self) pass content.items) }
@@ -69,6 +70,7 @@ impl Index {
             IsContentOfAll (index.shape_of self) passes.items content.items) }
         ensures few { IfOk result (λ content.
             vec_len content ≤ BUCKET_PAIRS * (index.shape_of self).buckets) }
+        ensures room { IfOk result IsCompact }
         ensures wanted { IfErr result (λ _. WantsMemoryOfAll (index.shape_of self) passes.items) }
     {
         let Index { board } = self;
@@ -82,6 +84,7 @@ fn list_content(alloc: Global, words: Words) -> Result<Vec<(Key, Value)>, OutOfM
     ensures lists { IfOk result (λ content. IsPairsAtRest words content.items) }
     ensures few { IfOk result (λ content.
         vec_len content ≤ BUCKET_PAIRS * (shape_of words).buckets) }
+    ensures room { IfOk result IsCompact }
     ensures wanted { IfErr result (λ _. HasPairs words) }
 {
     let Ok(mut content) = list_pairs(alloc, &words) else {
@@ -98,6 +101,7 @@ fn list_pairs(alloc: Global, words: &Words) -> Result<Vec<(Key, Value)>, AllocEr
         → IsListed words.now trace (shape_of words.now).buckets 1 pairs.items) }
     ensures few { IfOk result (λ pairs.
         vec_len pairs ≤ BUCKET_PAIRS * (shape_of words.now).buckets) }
+    ensures room { IfOk result IsCompact }
     ensures wanted { IfErr result (λ _. HasPairs words.now) }
 {
     let mut pairs = Vec::new(alloc);
@@ -115,6 +119,7 @@ fn list_chain(words: &Words, home: u32, pairs: &mut Vec<(Key, Value)>) -> Result
         → IsListed words.now trace home 1 pairs.old.items
         → IsListed words.now trace (home + 1) 1 pairs.new.items) }
     ensures few { OnOk result (vec_len pairs.new ≤ vec_len pairs.old + BUCKET_PAIRS) }
+    ensures room { OnOk result (IsCompact pairs.old → IsCompact pairs.new) }
     ensures wanted { OnErr result (HasPairs words.now) }
 {
     let mut bucket = home;
@@ -140,15 +145,29 @@ fn list_bucket(words: &Words, bucket: u32, pairs: &mut Vec<(Key, Value)>) -> Res
         → IsListed words.now trace home (8 * depth + 1) pairs.old.items
         → IsListed words.now trace home (8 * depth + 8) pairs.new.items) }
     ensures few { OnOk result (vec_len pairs.new ≤ vec_len pairs.old + LAST_WORD) }
+    ensures room { OnOk result (IsCompact pairs.old → IsCompact pairs.new) }
     ensures wanted { OnErr result ((trace : List Event) (home depth : ℕ)
         → IsAtRest words.now trace → IsBucketIn words.now trace home depth bucket
         → HasContent (shape_of words.now) (seen trace)) }
 {
     for word in 1..BUCKET_WORDS as u8 {
         if let Some(pair) = pair_at(words, Place { bucket, word }) {
-            pairs.push(pair)?;
+            push_pair(pairs, pair)?;
         }
     }
+    Ok(())
+}
+
+// Adds a pair at the end of the list. A full list takes room for as many more, at least for seven.
+fn push_pair(pairs: &mut Vec<(Key, Value)>, pair: (Key, Value)) -> Result<(), AllocError>
+    ensures items { OnOk result (pairs.new.items ≡ pairs.old.items ++ pair ∷ []) }
+    ensures len { OnOk result (vec_len pairs.new ≡ vec_len pairs.old + 1) }
+    ensures room { OnOk result (IsCompact pairs.old → IsCompact pairs.new) }
+{
+    if pairs.len() == pairs.capacity() {
+        pairs.reserve_exact(pairs.len().max(LAST_WORD as usize))?;
+    }
+    pairs.push_reserved(pair);
     Ok(())
 }
 

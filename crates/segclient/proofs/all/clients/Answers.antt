@@ -26,6 +26,7 @@ loop-pass-preserved c =
       room = omega (arith, steps.1, pushed.len, pushed.capacity);
       quiet = All-rest (IsQuiet (board_of c.args.index.now)) pass _ _ steps.0 was.quiet;
       all = was.all ∙ ap (λ l. yielded ++ l) steps.0 ∙ sym (append_assoc yielded (pass ∷ []) rest);
+      exact = pushed.capacity ∙ was.exact;
       made = subst (AllZip (Starts c.args.index.now (Some 0)) (yielded ++ pass ∷ [])) (sym {A = List Client} pushed.items)
           (zip_push (Starts c.args.index.now (Some 0)) yielded c.loop-pass.clients.items pass c.in_ok-with_queues.field-0 was.made c.in_ok-with_queues.ensures.starts);
     }

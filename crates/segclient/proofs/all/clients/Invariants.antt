@@ -14,5 +14,6 @@ invariant-loop-pass l = record {
   room : vec_len l.clients + into_iter_len l.pass-iterator ≤ vec_capacity l.clients;
   quiet : All (IsQuiet (board_of l.index)) (into_iter_items l.pass-iterator);
   all : l.fn.passes.items ≡ l.yielded ++ into_iter_items l.pass-iterator;
+  exact : vec_capacity l.clients ≡ vec_len l.fn.passes;
   made : AllZip (Starts l.index (Some 0)) l.yielded l.clients.items;
 }

@@ -11,4 +11,4 @@ returns c =
     let rest = c.loop-client.client-iterator.rest in
     let none = nil_from_length rest.items (sym rest.ok.0 ∙ c.in-None.ensures.steps.0) in
     let all : passes ≡ map pass_of c.args.clients.items = sym (append-nil passes) ∙ ap (λ l. passes ++ map pass_of l) (sym none) ∙ was.all in
-    record { all = subst (AreAllQuiet (board_of c.args.index.now)) (sym all) (passes_quiet c.args.index.now c.args.clients.items c.requires.all); passes = all }
+    record { all = subst (AreAllQuiet (board_of c.args.index.now)) (sym all) (passes_quiet c.args.index.now c.args.clients.items c.requires.all); passes = all; room = was.exact }

@@ -9,5 +9,6 @@ invariant-loop-client l = record {
   can : goal.iterator-loop-client.can_next l.client-iterator;
   finite : goal.iterator-loop-client.is_finite l.client-iterator;
   room : vec_len l.passes + into_iter_len l.client-iterator ≤ vec_capacity l.passes;
+  exact : vec_capacity l.passes ≡ vec_len l.fn.clients;
   all : l.passes.items ++ map pass_of (into_iter_items l.client-iterator) ≡ map pass_of l.fn.clients.items;
 }

@@ -8,7 +8,7 @@ use Rattle.segindex.proofs.Listing.{on_err, lists_bucket, lists_chain}
 use Rattle.segindex.proofs.close.list_chain.Goals as goal
 
 pub loop-depth-init : goal.loop-depth-init
-loop-depth-init c = record { lists = λ trace rest. (first_bucket c.args.words.now trace c.args.home rest.valid c.requires.home, λ lists. lists); few = omega arith }
+loop-depth-init c = record { lists = λ trace rest. (first_bucket c.args.words.now trace c.args.home rest.valid c.requires.home, λ lists. lists); few = omega arith; room = λ compact. compact }
 
 pub list_bucket-requires : goal.list_bucket-requires
 list_bucket-requires c = let r = c.requires.rest in (r.0, c.args.home, c.loop-depth.depth, r.1, (c.loop-depth.invariant.lists r.0 r.1).0)
@@ -28,6 +28,7 @@ returns-in_default c = record {
       (chain_ends words trace home depth c.loop-depth.bucket rest inv.0 (λ is. false≢true (c.in_default.ensures.variant.1 (subst IsChainWord (sym c.item.ensures) is))))
       (c.in_ok-list_bucket.ensures.lists trace home depth rest inv.0 (inv.1 lists));
   few = let test = c.loop-depth-test.true in let few = c.loop-depth.invariant.few in omega (arith, few, test, c.in_ok-list_bucket.ensures.few);
+  room = λ compact. c.in_ok-list_bucket.ensures.room (c.loop-depth.invariant.room compact);
   wanted = tt;
 }
 
@@ -43,6 +44,7 @@ loop-depth-preserved c = record {
         λ lists. lists_bucket (shape_of words) trace rest.lawful home depth c.list_bucket.new.pairs.items (c.in_ok-list_bucket.ensures.lists trace home depth rest inv.0 (inv.1 lists)),
       );
   few = let few = c.loop-depth.invariant.few in omega (arith, few, c.in_ok-list_bucket.ensures.few);
+  room = λ compact. c.in_ok-list_bucket.ensures.room (c.loop-depth.invariant.room compact);
 }
 
 pub returns : goal.returns
@@ -51,5 +53,6 @@ returns c = record {
       let deep = not_deeper c.args.words.now trace c.args.home c.loop-depth.depth c.loop-depth.bucket rest
       (c.loop-depth.invariant.lists trace rest).0 in let over = c.loop-depth-test.false in absurd (omega arith);
   few = let up = c.loop-depth.auto.depth-end in let few = c.loop-depth.invariant.few in omega (arith, few, up);
+  room = c.loop-depth.invariant.room;
   wanted = tt;
 }

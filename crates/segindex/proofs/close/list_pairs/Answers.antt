@@ -9,6 +9,7 @@ pub loop-bucket-init : goal.loop-bucket-init
 loop-bucket-init c = record {
   lists = λ trace rest. rw c.new-pairs.ensures.items (lists_none (shape_of c.args.words.now) trace rest.lawful);
   few = omega (arith, c.new-pairs.ensures.len);
+  room = omega (arith, c.new-pairs.ensures.capacity);
 }
 
 pub returns : goal.returns
@@ -22,5 +23,6 @@ returns c = record {
   few = let past = c.loop-bucket-test.false in let up = c.loop-bucket.auto.bucket-end in
       let few = c.loop-bucket.invariant.few in let same =
       ap (λ (z : Shape). z.buckets) c.shape-bucket-end.ensures in omega (arith, few, past, up, same);
+  room = c.loop-bucket.invariant.room;
   wanted = tt;
 }
