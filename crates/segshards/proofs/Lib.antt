@@ -1,3 +1,4 @@
+pub mod Budgeted
 pub mod Calls
 pub mod Clock
 pub mod Dealt

@@ -6,15 +6,14 @@ use Rattle.segword.specs.declared.shape.ShapeFault.TheVariants.{BadPasses, TooLa
 use Rattle.segword.specs.Shape.{HasRoomFor, IsValid, word_count}
 use Rattle.segword.specs.Words.{Shape}
 use Rattle.segindex.specs.Words.{Index, shape_of}
-use Rattle.segshards.specs.declared.budget.TheConstants.{CLIENT_BYTES, ROW_BYTES, SEGMENT_BYTES}
 use Rattle.segshards.specs.declared.plan.ShardPlan.{ShardPlan}
-use Rattle.segshards.specs.declared.plan.TheConstants.{MOST_KEYS}
 use Rattle.segshards.specs.declared.shard.TheConstants.{MOST_SHARDS}
 
--- what the clients of a shard keep beside its table
+-- what the clients of a shard keep beside its table: 3 bytes for each row, 64 for each segment,
+-- and 4,096 each
 abbrev pub clients_bytes : Shape → ℕ
 clients_bytes shape =
-    shape.passes * (shape.segments_each * (ROW_BYTES * shape.rows + SEGMENT_BYTES) + CLIENT_BYTES)
+    shape.passes * (shape.segments_each * (3 * shape.rows + 64) + 4096)
 
 -- So many shards of a shape take so many bytes, from their opening on: a table each and one more,
 -- and what their clients keep.
@@ -33,14 +32,23 @@ TakesOver bytes threads keys count =
     (shape : Shape) × IsShapeFor keys threads shape × (bytes < bytes_of shape count)
 
 -- The shards take no more than so many bytes. With room for one key more each they would take
--- more, or each has the most keys of a shard.
+-- more, or there are the most shards, with the most keys each.
 pub record IsPlanWithin (bytes threads : ℕ) (plan : ShardPlan) : Type 0 where
   pub each : ℕ
   pub shape : IsShapeFor each threads plan.shape
   pub some : 1 ≤ plan.count
   pub few : plan.count ≤ MOST_SHARDS
   pub within : bytes_of plan.shape plan.count ≤ bytes
-  pub full : (each ≡ MOST_KEYS) ⊎ TakesOver bytes threads (each + 1) plan.count
+  pub full : ((each ≡ 262144) × (plan.count ≡ MOST_SHARDS))
+      ⊎ TakesOver bytes threads (each + 1) plan.count
+
+-- The same for so many shards, which can have the most keys each.
+pub record IsPlanOf (bytes threads count : ℕ) (plan : ShardPlan) : Type 0 where
+  pub each : ℕ
+  pub shape : IsShapeFor each threads plan.shape
+  pub is : plan.count ≡ count
+  pub within : bytes_of plan.shape plan.count ≤ bytes
+  pub full : (each ≡ 262144) ⊎ TakesOver bytes threads (each + 1) plan.count
 
 -- The same of shards that are there.
 pub record AreWithin (bytes threads : ℕ) (indexes : List Index) : Type 0 where

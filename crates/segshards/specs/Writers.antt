@@ -1,14 +1,13 @@
 -- A cache that some of its threads fill: how large it is, and what is in the way of one.
-use Rattle.std.specs.Prelude.{◌≡◌, ℕ, ◌+◌, ◌*◌, ◌^◌, ◌<◌, ◌≤◌, List, All, length, max}
+use Rattle.std.specs.Prelude.{◌≡◌, ℕ, ◌+◌, ◌*◌, ◌^◌, ◌<◌, ◌≤◌, ◌⊎◌, List, All, length, max}
 use Rattle.std.specs.Int.{div_ceil, IsInRange}
 use Rattle.segword.specs.declared.row.TheConstants.{ROW_WORDS}
 use Rattle.segword.specs.declared.shape.ShapeFault.{ShapeFault}
 use Rattle.segword.specs.declared.shape.ShapeFault.TheVariants.{BadPasses, TooLarge}
-use Rattle.segword.specs.Shape.{IsValid, word_count}
+use Rattle.segword.specs.Shape.{HasBucketsFor, IsValid, word_count}
 use Rattle.segword.specs.Words.{Shape}
 use Rattle.segindex.specs.Words.{Index, shape_of}
 use Rattle.segshards.specs.declared.plan.ShardPlan.{ShardPlan}
-use Rattle.segshards.specs.declared.plan.TheConstants.{KEYS_OF_SHARD}
 use Rattle.segshards.specs.declared.shard.TheConstants.{MOST_SHARDS}
 
 -- There are two words of chains for each key, and any so many passes together have two rows for
@@ -17,6 +16,7 @@ use Rattle.segshards.specs.declared.shard.TheConstants.{MOST_SHARDS}
 -- for so many the rows would do if all passes stored.
 pub record HasRoomForWriters (keys writers : ℕ) (shape : Shape) : Type 0 where
   pub words : 2 * keys ≤ 7 * shape.buckets + 6 * shape.overflow
+  pub buckets : HasBucketsFor keys shape
   pub rows : 2 * keys ≤ writers * (shape.segments_each * shape.rows)
   pub segments : 64 ≤ shape.segments_each
   pub wide : ℕ
@@ -26,8 +26,9 @@ pub record HasRoomForWriters (keys writers : ℕ) (shape : Shape) : Type 0 where
 
 -- The shards have room for so many keys together, as many each, if so many of the threads store
 -- them, whichever these are, and each of these as many. Each shard has a pass for each thread.
--- They are planned for no more keys, and there is no more than one for every 200,000 of those that
--- there were if all threads stored as much as a writer.
+-- They are planned for no more keys. There is no more than one for every 200,000 of those that
+-- there were if all threads stored as much as a writer, and none has more of these while there may
+-- be another shard.
 pub record IsPlanForWriters (keys threads writers : ℕ) (plan : ShardPlan) : Type 0 where
   pub valid : IsValid plan.shape
   pub passes : plan.shape.passes ≡ threads
@@ -37,7 +38,8 @@ pub record IsPlanForWriters (keys threads writers : ℕ) (plan : ShardPlan) : Ty
   pub room : HasRoomForWriters each writers plan.shape
   pub some : 1 ≤ plan.count
   pub few : plan.count ≤ MOST_SHARDS
-  pub needed : plan.count ≤ max 1 (div_ceil (keys * threads) (KEYS_OF_SHARD * writers))
+  pub needed : plan.count ≤ max 1 (div_ceil (keys * threads) (200000 * writers))
+  pub spread : (each * threads < 200000 * writers + threads) ⊎ (plan.count ≡ MOST_SHARDS)
 
 -- The same of shards that are there.
 pub record HaveRoomForWriters (keys threads writers : ℕ) (indexes : List Index) : Type 0 where

@@ -1,9 +1,9 @@
 //! How large a cache is that may take a number of bytes.
-ghost use Rattle.std.specs.Prelude.{◌≡◌, ◌≤◌, IfErr, IfOk, IfSome, IsNone};
+ghost use Rattle.std.specs.Prelude.{◌≡◌, ◌+◌, ◌*◌, ◌^◌, ◌<◌, ◌≤◌, ◌⊎◌, IfErr, IfOk, IfSome, IsNone};
 ghost use Rattle.std.specs.Int.{IsInRange};
 ghost use Rattle.segword.specs.Words.{IsValid};
 ghost use Rattle.segshards.specs.Budget.{bytes_of, IsShapeFor, TakesOver};
-ghost use Rattle.segshards.specs.Budget.{IsFaultOfBudget, IsPlanWithin};
+ghost use Rattle.segshards.specs.Budget.{IsFaultOfBudget, IsPlanOf, IsPlanWithin};
 
 use crate::plan::{MOST_KEYS, ShardPlan};
 use crate::shard::MOST_SHARDS;
@@ -30,6 +30,8 @@ const CLIENT_BYTES: u64 = 4096;
 fn shards_within(bytes: u64) -> u32
     ensures some { 1 ≤ result }
     ensures few { result ≤ MOST_SHARDS }
+    ensures enough { (bytes ≤ 2 ^ 25 * result) ⊎ (result ≡ MOST_SHARDS) }
+    ensures needed { 2 ^ 25 * result < bytes + 2 ^ 25 * 9 }
 {
     let small = bytes.div_ceil(BYTES_OF_SMALL_SHARD).min(SMALL_SHARDS);
     let large = bytes.div_ceil(BYTES_OF_SHARD);
@@ -64,7 +66,7 @@ fn largest_plan(bytes: u64, threads: u32, count: u32) -> Option<ShardPlan>
     requires threads { IsInRange 1 64 threads }
     requires some { 1 ≤ count }
     requires few { count ≤ MOST_SHARDS }
-    ensures plan { IfSome result (IsPlanWithin bytes threads) }
+    ensures plan { IfSome result (IsPlanOf bytes threads count) }
     ensures none { IsNone result → TakesOver bytes threads 0 count }
 {
     let mut shape = shape_for(0, threads);

@@ -1,5 +1,5 @@
 //! How many shards a cache has for a number of keys, and of which shape.
-ghost use Rattle.std.specs.Prelude.{◌≤◌, IfErr, IfOk, max};
+ghost use Rattle.std.specs.Prelude.{◌≡◌, ◌≤◌, ◌⊎◌, IfErr, IfOk, max};
 
 use crate::shard::MOST_SHARDS;
 use segclient::{Shape, ShapeFault};
@@ -24,6 +24,7 @@ fn shards_for(least: u32, wanted: u64) -> u32
     ensures least { least ≤ result }
     ensures most { result ≤ MOST_SHARDS }
     ensures needed { result ≤ max least wanted }
+    ensures wanted { (wanted ≤ result) ⊎ (result ≡ MOST_SHARDS) }
 {
     wanted.clamp(u64::from(least), MOST_SHARDS as u64) as u32
 }

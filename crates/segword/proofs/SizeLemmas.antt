@@ -1,12 +1,12 @@
 -- A shape that is made for so many keys is valid, and has room for them.
-use Rattle.std.proofs.Common.{◌≡◌, ℕ, ◌+◌, ◌*◌, ◌/◌, ◌<◌, ◌≤◌, ◌⊎◌, min, max, arith, refl, inl, inr}
+use Rattle.std.proofs.Common.{◌≡◌, ℕ, zero, suc, ◌+◌, ◌*◌, ◌/◌, ◌^◌, ◌<◌, ◌≤◌, ◌⊎◌, min, max, arith, refl, inl, inr}
 use Rattle.std.specs.Int.{IsInRange, IsPowerOfTwo, div_ceil}
 use Rattle.std.proofs.lemmas.Bool.{cases_lt}
 use Rattle.std.proofs.lemmas.Grind.{div_ceil_times}
-use Rattle.std.proofs.Math.Nat.{mul-le-mul_left, mul-le-mul_right}
-use Rattle.std.proofs.lemmas.Nat.{mul-le}
+use Rattle.std.proofs.Math.Nat.{mul-le-mul_left, mul-le-mul_right, pow-suc}
+use Rattle.std.proofs.lemmas.Nat.{mul-le, pow_pos}
 use Rattle.segword.specs.declared.row.TheConstants.{ROW_WORDS}
-use Rattle.segword.specs.Shape.{HasRoomFor, IsValid, word_count}
+use Rattle.segword.specs.Shape.{HasBucketsFor, HasRoomFor, IsValid, word_count}
 use Rattle.segword.specs.declared.shape.Shape.{Shape}
 
 -- the lower one of a power of two and 65,536
@@ -15,6 +15,11 @@ power_min n power = elim (cases_lt n 65536) [
   | inl low ↦ (power.0, omega (arith, power.1))
   | inr high ↦ (16, omega arith)
 ]
+
+-- a power of two is one, or even
+one_or_even : (n : ℕ) → IsPowerOfTwo n → (n ≡ 1) ⊎ ((half : ℕ) × (n ≡ 2 * half) × (1 ≤ half))
+one_or_even n (zero, is) = inl (omega (arith, is))
+one_or_even n (suc k, is) = inr (2 ^ k, omega (arith, is, pow-suc 2 k), pow_pos k)
 
 module _ (keys passes near each segments rows : ℕ) (few : keys ≤ 425984) (fit : ROW_WORDS * (2 * keys + 13440) ≤ 64000000) (in_range : IsInRange 1 64 passes)
     (power : IsPowerOfTwo near) (over : div_ceil (5 * keys) 16 ≤ near) (under : near / 2 < max 1 (div_ceil (5 * keys) 16))
@@ -102,9 +107,27 @@ module _ (keys passes near each segments rows : ℕ) (few : keys ≤ 425984) (fi
     omega (arith, part_fits),
   )
 
+  has_buckets : HasBucketsFor keys made
+  has_buckets = record { enough = enough (cases_lt near 65536); no_more =
+      no_more (one_or_even near power); overflow = refl }
+    where
+      enough : (near < 65536) ⊎ (65536 ≤ near) → (5 * keys ≤ 16 * min near 65536) ⊎ (min near 65536 ≡ 65536)
+      enough (inl low) = let times = div_ceil_times (5 * keys) 16 (omega arith) in inl
+          (omega (arith, over, times.0, low))
+      enough (inr high) = inr (omega (arith, high))
+
+      no_more : (near ≡ 1) ⊎ ((half : ℕ) × (near ≡ 2 * half) × (1 ≤ half))
+          → (8 * min near 65536 < 5 * keys) ⊎ (min near 65536 ≡ 1)
+      no_more (inl one) = inr (omega (arith, one))
+      no_more (inr (half, even, some)) =
+          let share = div_ceil_times (5 * keys) 16 (omega arith) in
+          let few : half < max 1 (div_ceil (5 * keys) 16) = omega (arith, under, even) in
+          inl (omega (arith, few, share.1, even, some))
+
   pub has_room : HasRoomFor keys made
   has_room = record {
     words = words (cases_lt near 65536);
+    buckets = has_buckets;
     rows =
         let table : passes * each ≤ passes * (rows * segments) = mul-le-mul_left passes rows_fit.0 in
         let one : passes * segments * rows ≡ passes * (rows * segments) = omega arith in

@@ -1,7 +1,7 @@
 use Rattle.std.proofs.Common.{rules, arith, ◌≡◌, ◌*◌, max}
 use Rattle.std.specs.Int.{div_ceil}
 use Rattle.segshards.specs.Writers.{AreWriters}
-use Rattle.segshards.proofs.Writers.{as_needed, counted, each_times, few_keys, no_fault, room, some, too_many, valid, wide_fits}
+use Rattle.segshards.proofs.Writers.{as_needed, counted, each_times, few_keys, no_fault, room, some, spread, too_many, valid, wide_fits}
 use Rattle.segshards.proofs.plan.ShardPlan.for_writers.Goals as goal
 
 pub returns-then-least-clause-fault : goal.returns-then-least-clause-fault
@@ -60,6 +60,9 @@ returns-clause-plan c =
       needed = as_needed keys threads writers _ _ _ count c.max-least.result _ are is_least
           c.shards_for-count.ensures.needed c.div_ceil-wanted.ensures c.from.ensures c.from-2.ensures
           c.from-4.ensures;
+      spread = spread keys threads writers c.max-least.result count each are is_least over c.div_ceil-keys_each.ensures
+          _ _ _ _ c.div_ceil-wanted.ensures c.from.ensures c.from-2.ensures c.from-4.ensures
+          c.shards_for-count.ensures.wanted;
       room = room keys threads writers c.max-least.result count each are is_least over c.div_ceil-keys_each.ensures
           wide c.div_ceil-2.ensures chains rows c.in_ok-chains.ensures.ok c.in_ok-rows.ensures.ok;
       some = some keys threads writers c.max-least.result count each are is_least over c.div_ceil-keys_each.ensures;
