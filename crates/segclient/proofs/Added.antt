@@ -67,13 +67,13 @@ module _ (i : Index) (time : ℕ) (key value : List ℕ) (old new : Member) (mem
   unstored : (until : ℕ) (span : Span) (calls : List PutCall) (chosen between : Pass) (steps : List Step)
       → AreOpen calls → Chooses (board_of i) old.pass chosen
       → Makes (board_of i) (plan until span) calls chosen between → steps ≡ []
-      → Clears (board_of i) old.cutoff until steps between new.pass
+      → Clears (board_of i) old.cutoff steps between new.pass
       → AddsRoom (shape_of i) (number old.pass) old.cutoff (IsOnly until) (sum_by (came_to refilled_segments) calls)
       (sum_by (came_to kept_items) calls) (sum_by (came_to evicted_keys) calls) (mine old.pass) (mine new.pass)
   unstored until span calls chosen between steps are chooses makes none clears =
       let b = board_of i in
       let from = chosen_on b old.pass chosen member.0 chooses in
-      let same = unasked_same b old.cutoff until steps between new.pass none clears in
+      let same = unasked_same b old.cutoff steps between new.pass none clears in
       let came = calls_come b (plan until span) calls chosen new.pass from.on.quiet are (subst (Makes b (plan until span) calls chosen) (sym same) makes) in
       from_old until chosen new.pass (sum_by (came_to refilled_segments) calls) (sum_by (came_to kept_items) calls) (sum_by (came_to evicted_keys) calls) from came.adds
 
@@ -90,7 +90,7 @@ module _ (i : Index) (time : ℕ) (key value : List ℕ) (old new : Member) (mem
       let came = calls_come b asks earlier puts.chosen last.0 from.on.quiet puts.answer.2 last.1 in
       let asked : Set last.2.0 last.2.1 last.2.2 ≡ Set key value old.clock = same_Some (Set last.2.0 last.2.1 last.2.2) (Set key value old.clock) (sym last.2.3) in
       let writes = subst (λ r. Writes b r write.Stored last.0 between) asked last.2.6 in
-      let cleared = clears_come b old.cutoff until puts.steps between new.pass writes.on.quiet puts.clears in
+      let cleared = clears_come b old.cutoff puts.steps between new.pass writes.on.quiet puts.clears in
       let same : number last.0 ≡ number old.pass = came.on.same ∙ from.on.same in
       let entry : mine between ≡ Wrote (number old.pass) (Set key value old.clock) Stored (Some writes.answer.0) ∷
       mine last.0 = writes.answer.1 ∙ ap (λ n. Wrote n (Set key value old.clock) Stored (Some writes.answer.0) ∷

@@ -68,19 +68,19 @@ rest_evicted segment from (evict.Evicted keys) = refl
 rest_evicted segment from (evict.Busy keys) = refl
 rest_evicted segment from evict.NotYours = refl
 
-module _ (b : Board) (cutoff : Option ℕ) (deadline : ℕ) where
-  appended : (later earlier : List Step) (p q r : Pass) → Clears b cutoff deadline earlier p q → Clears b cutoff deadline later q r → Clears b cutoff deadline (later ++ earlier) p r
+module _ (b : Board) (cutoff : Option ℕ) where
+  appended : (later earlier : List Step) (p q r : Pass) → Clears b cutoff earlier p q → Clears b cutoff later q r → Clears b cutoff (later ++ earlier) p r
   unfolding Clears
-  appended [] earlier p q r first same = subst (Clears b cutoff deadline earlier p) (sym same) first
+  appended [] earlier p q r first same = subst (Clears b cutoff earlier p) (sym same) first
   appended (step ∷ later) earlier p q r first (between, rest, last) = (between, appended later earlier p q between first rest, last)
 
-  pub none_clears : (p : Pass) → ClearsAtMost b cutoff deadline 0 (effort_from 0 0 0) p p
-  none_clears p = record { steps = []; clears = none_cleared b cutoff deadline p; few = omega arith; comes = no_steps }
+  pub none_clears : (p : Pass) → ClearsAtMost b cutoff 0 (effort_from 0 0 0) p p
+  none_clears p = record { steps = []; clears = none_cleared b cutoff p; few = omega arith; comes = no_steps }
 
   -- by other names, and within more steps
   pub clears_as : (most total : ℕ) (first effort : Effort) (p q : Pass) → most ≤ total → effort ≡ first
-      → ClearsAtMost b cutoff deadline most first p q → ClearsAtMost b cutoff deadline total effort p q
-  clears_as most total first effort p q enough same clears = subst (λ e. ClearsAtMost b cutoff deadline total e p q) (sym same) (record {
+      → ClearsAtMost b cutoff most first p q → ClearsAtMost b cutoff total effort p q
+  clears_as most total first effort p q enough same clears = subst (λ e. ClearsAtMost b cutoff total e p q) (sym same) (record {
     steps = clears.steps;
     clears = clears.clears;
     few = let few = clears.few in omega (arith, few, enough);
@@ -88,10 +88,10 @@ module _ (b : Board) (cutoff : Option ℕ) (deadline : ℕ) where
   })
 
   pub clears_then : (most more total : ℕ) (first last sum : Effort) (p q r : Pass) → most + more ≤ total
-      → sum ≡ both first last → ClearsAtMost b cutoff deadline most first p q
-      → ClearsAtMost b cutoff deadline more last q r
-      → ClearsAtMost b cutoff deadline total sum p r
-  clears_then most more total first last sum p q r enough same one two = subst (λ e. ClearsAtMost b cutoff deadline total e p r) (sym same) (record {
+      → sum ≡ both first last → ClearsAtMost b cutoff most first p q
+      → ClearsAtMost b cutoff more last q r
+      → ClearsAtMost b cutoff total sum p r
+  clears_then most more total first last sum p q r enough same one two = subst (λ e. ClearsAtMost b cutoff total e p r) (sym same) (record {
     steps = two.steps ++ one.steps;
     clears = appended two.steps one.steps p q r one.clears two.clears;
     few = let all = length-append two.steps one.steps in let x = one.few in let y = two.few in omega (arith, all, x, y, enough);
@@ -102,18 +102,18 @@ module _ (b : Board) (cutoff : Option ℕ) (deadline : ℕ) where
   pub some_clears : (step : Step) (effort : Effort) (p q : Pass)
       → effort.refilled ≡ came_to_step refilled_segments step → effort.kept ≡ came_to_step kept_items step
       → effort.keys ≡ came_to_step evicted_keys step
-      → IsStep b cutoff deadline step p q → ClearsAtMost b cutoff deadline 1 effort p q
+      → IsStep b cutoff step p q → ClearsAtMost b cutoff 1 effort p q
   some_clears step effort p q one two three is = record {
     steps = step ∷ [];
-    clears = one_cleared b cutoff deadline step [] p p q (none_cleared b cutoff deadline p) is;
+    clears = one_cleared b cutoff step [] p p q (none_cleared b cutoff p) is;
     few = omega arith;
     comes = let of = one_step step in record { refilled = one ∙ of.refilled; kept = two ∙ of.kept; keys = three ∙ of.keys };
   }
 
   -- a step that came to nothing, and then others
   pub clears_after : (most more total : ℕ) (last : Effort) (p q r : Pass) → most + more ≤ total
-      → ClearsAtMost b cutoff deadline most (effort_from 0 0 0) p q → ClearsAtMost b cutoff deadline more last q r
-      → ClearsAtMost b cutoff deadline total last p r
+      → ClearsAtMost b cutoff most (effort_from 0 0 0) p q → ClearsAtMost b cutoff more last q r
+      → ClearsAtMost b cutoff total last p r
   clears_after most more total last p q r enough one two = clears_then most more total (effort_from 0 0 0) last last p q r enough (both_none last) one two
 
 -- ---- the source
@@ -150,33 +150,33 @@ module _ (b : Board) (source : Source) (p q : Pass) (quiet : IsQuiet b p) (is : 
 
   -- ---- what became of its row
 
-  pub evicted_clears : (cutoff : Option ℕ) (deadline n : ℕ) (told : EvictRowAnswer) (effort : Effort)
+  pub evicted_clears : (cutoff : Option ℕ) (n : ℕ) (told : EvictRowAnswer) (effort : Effort)
       → effort ≡ effort_from 0 0 n → n ≡ came_to_step evicted_keys (evicts_row source.segment source.row told)
       → EvictsItem b source.segment source.row told p q
-      → ClearsAtMost b cutoff deadline 1 effort p q
-  evicted_clears cutoff deadline n told effort same value evicts = some_clears b cutoff deadline (evicts_row source.segment source.row told) effort p q
+      → ClearsAtMost b cutoff 1 effort p q
+  evicted_clears cutoff n told effort same value evicts = some_clears b cutoff (evicts_row source.segment source.row told) effort p q
       (ap (λ (e : Effort). e.refilled) same) (ap (λ (e : Effort). e.kept) same) (ap (λ (e : Effort). e.keys) same ∙ value)
       ((is.0.0, is.1), evicts)
 
-  kept_once : (least deadline n by into : ℕ) (told : KeepRowAnswer) (effort : Effort) → effort ≡ effort_from 0 n 0
+  kept_once : (least n by into : ℕ) (told : KeepRowAnswer) (effort : Effort) → effort ≡ effort_from 0 n 0
       → n ≡ came_to_step kept_items (keeps_into source.segment source.row by into told) → least ≤ by
       → KeepsItemInto b source.segment source.row by into told p q
-      → ClearsAtMost b (Some least) deadline 1 effort p q
-  kept_once least deadline n by into told effort same value enough keeps = some_clears b (Some least) deadline (keeps_into source.segment source.row by into told) effort p q
+      → ClearsAtMost b (Some least) 1 effort p q
+  kept_once least n by into told effort same value enough keeps = some_clears b (Some least) (keeps_into source.segment source.row by into told) effort p q
       (ap (λ (e : Effort). e.refilled) same) (ap (λ (e : Effort). e.kept) same ∙ value) (ap (λ (e : Effort). e.keys) same)
       ((is.0.0, is.1), (least, refl, enough), keeps)
 
-  pub kept_clears : (least deadline n by into : ℕ) (told : KeepRowAnswer) (effort : Effort)
+  pub kept_clears : (least n by into : ℕ) (told : KeepRowAnswer) (effort : Effort)
       → effort ≡ effort_from 0 n 0 → n ≡ came_to_step kept_items (keeps_into source.segment source.row by into told)
       → least ≤ by → KeepsItemInto b source.segment source.row by into told p q
-      → ClearsAtMost b (Some least) deadline 2 effort p q
-  kept_clears least deadline n by into told effort same value enough keeps =
-      clears_as b (Some least) deadline 1 2 effort effort p q (omega arith) refl
-      (kept_once least deadline n by into told effort same value enough keeps)
+      → ClearsAtMost b (Some least) 2 effort p q
+  kept_clears least n by into told effort same value enough keeps =
+      clears_as b (Some least) 1 2 effort effort p q (omega arith) refl
+      (kept_once least n by into told effort same value enough keeps)
 
-  pub left_clears : (least deadline by into : ℕ) (told : KeepRowAnswer) → told ≡ kept.Left → least ≤ by
+  pub left_clears : (least by into : ℕ) (told : KeepRowAnswer) → told ≡ kept.Left → least ≤ by
       → KeepsItemInto b source.segment source.row by into told p q
-      → ClearsAtMost b (Some least) deadline 1 (effort_from 0 0 0) p q
-  left_clears least deadline by into told left enough keeps =
-      kept_once least deadline 0 by into told (effort_from 0 0 0) refl
+      → ClearsAtMost b (Some least) 1 (effort_from 0 0 0) p q
+  left_clears least by into told left enough keeps =
+      kept_once least 0 by into told (effort_from 0 0 0) refl
       (sym (ap (λ t. came_to_step kept_items (keeps_into source.segment source.row by into t)) left)) enough keeps

@@ -29,18 +29,18 @@ aside_came segment refill.NotYours = refl
 aside_came segment refill.NotEvicted = refl
 aside_came segment refill.Held = refl
 
-module _ (b : Board) (cutoff : Option ℕ) (deadline : ℕ) where
+module _ (b : Board) (cutoff : Option ℕ) where
   -- ---- some steps and then more
 
-  pub none_cleared : (p : Pass) → Clears b cutoff deadline [] p p
+  pub none_cleared : (p : Pass) → Clears b cutoff [] p p
   unfolding Clears
   none_cleared p = refl
 
-  pub one_cleared : (step : Step) (earlier : List Step) (p q r : Pass) → Clears b cutoff deadline earlier p q → IsStep b cutoff deadline step q r → Clears b cutoff deadline (step ∷ earlier) p r
+  pub one_cleared : (step : Step) (earlier : List Step) (p q r : Pass) → Clears b cutoff earlier p q → IsStep b cutoff step q r → Clears b cutoff (step ∷ earlier) p r
   unfolding Clears
   one_cleared step earlier p q r first last = (q, first, last)
 
-  abbrev pub nothing_cleared : (effort : Effort) (p : Pass) → effort ≡ effort_from 0 0 0 → ClearsSome b cutoff deadline effort p p
+  abbrev pub nothing_cleared : (effort : Effort) (p : Pass) → effort ≡ effort_from 0 0 0 → ClearsSome b cutoff effort p p
   nothing_cleared effort p none = record {
     steps = [];
     clears = none_cleared p;
@@ -49,17 +49,17 @@ module _ (b : Board) (cutoff : Option ℕ) (deadline : ℕ) where
   }
 
   -- no steps leave the pass as it was
-  pub unasked_same : (steps : List Step) (p q : Pass) → steps ≡ [] → Clears b cutoff deadline steps p q → q ≡ p
+  pub unasked_same : (steps : List Step) (p q : Pass) → steps ≡ [] → Clears b cutoff steps p q → q ≡ p
   unfolding Clears
-  unasked_same steps p q none clears = subst (λ l. Clears b cutoff deadline l p q) none clears
+  unasked_same steps p q none clears = subst (λ l. Clears b cutoff l p q) none clears
 
-  pub step_on : (step : Step) (p q : Pass) → IsStep b cutoff deadline step p q → GoesOn b p q
+  pub step_on : (step : Step) (p q : Pass) → IsStep b cutoff step p q → GoesOn b p q
   step_on (keeps_into segment row by into told) p q is = is.2.on
   step_on (evicts_row segment row told) p q is = is.1.on
-  step_on (evicts_rest segment from told) p q is = is.1.on
-  step_on (refills_aside segment told) p q is = is.1.2.on
+  step_on (evicts_rest segment from told) p q is = is.2.on
+  step_on (refills_aside segment told) p q is = is.1.4.on
 
-  pub clears_on : (steps : List Step) (p q : Pass) → IsQuiet b p → Clears b cutoff deadline steps p q → GoesOn b p q
+  pub clears_on : (steps : List Step) (p q : Pass) → IsQuiet b p → Clears b cutoff steps p q → GoesOn b p q
   unfolding Clears
   clears_on [] p q quiet same = subst (GoesOn b p) (sym same) (goes_same b p quiet)
   clears_on (step ∷ earlier) p q quiet (between, rest, last) = goes_then b p between q (clears_on earlier p between quiet rest) (step_on step between q last)
@@ -69,15 +69,15 @@ module _ (b : Board) (cutoff : Option ℕ) (deadline : ℕ) where
   abbrev Came : ℕ → ℕ → ℕ → Pass → Pass → Type 0
   Came = Comes b cutoff IsAny
 
-  step_comes : (step : Step) (p q : Pass) → IsQuiet b p → IsStep b cutoff deadline step p q
+  step_comes : (step : Step) (p q : Pass) → IsQuiet b p → IsStep b cutoff step p q
       → Came (came_to_step refilled_segments step) (came_to_step kept_items step) (came_to_step evicted_keys step) p
       q
   step_comes (keeps_into segment row by into told) p q quiet is = row_kept_into b cutoff IsAny segment row by into told p q is.0.0 (ap is_some is.1.1) quiet is.2
   step_comes (evicts_row segment row told) p q quiet is = row_evicted b cutoff IsAny segment row told p q is.0.0 quiet is.1
-  step_comes (evicts_rest segment from told) p q quiet is = subst (λ n. Came 0 0 n p q) (rest_came segment from told) (evicted_some b cutoff IsAny segment from told p q quiet is.1)
-  step_comes (refills_aside segment told) p q quiet is = subst (λ n. Came n 0 0 p q) (aside_came segment told) (some_refilled b cutoff IsAny segment is.1.0 _ told p q tt quiet is.1.2)
+  step_comes (evicts_rest segment from told) p q quiet is = subst (λ n. Came 0 0 n p q) (rest_came segment from told) (evicted_some b cutoff IsAny segment from told p q quiet is.2)
+  step_comes (refills_aside segment told) p q quiet is = subst (λ n. Came n 0 0 p q) (aside_came segment told) (some_refilled b cutoff IsAny segment is.1.1 _ told p q tt quiet is.1.4)
 
-  pub clears_come : (steps : List Step) (p q : Pass) → IsQuiet b p → Clears b cutoff deadline steps p q
+  pub clears_come : (steps : List Step) (p q : Pass) → IsQuiet b p → Clears b cutoff steps p q
       → Came (sum_by (came_to_step refilled_segments) steps) (sum_by (came_to_step kept_items) steps)
       (sum_by (came_to_step evicted_keys) steps) p q
   unfolding Clears

@@ -85,7 +85,7 @@ put_stands i time key value old new member puts = by on.steps
         }) puts.calls puts.chosen puts.between from.on.quiet puts.makes
         in
         goes_then b old.pass puts.between new.pass (goes_then b old.pass puts.chosen puts.between from.on made)
-        (clears_on b old.cutoff puts.until puts.steps puts.between new.pass made.quiet puts.clears)
+        (clears_on b old.cutoff puts.steps puts.between new.pass made.quiet puts.clears)
 
     adds : AddsForPut (shape_of i) (number old.pass) old.cutoff (Set key value old.clock) puts.until put.Stored
         (effort_of puts.calls) (effort_of_steps puts.steps) (mine_of old.pass) (mine_of new.pass)

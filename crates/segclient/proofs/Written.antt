@@ -8,7 +8,6 @@ use Rattle.segstore.specs.Words.{memo}
 use Rattle.segwrite.specs.Words.{IsWriteAnswer, Writes}
 use Rattle.segclient.specs.declared.member.Member.{Member}
 use Rattle.segclient.specs.Made.{EndsWrite, MakesWrite}
-use Rattle.segclient.specs.Puts.{deadline_of}
 use Rattle.segclient.proofs.Steps.{clears_come}
 
 answer_keeps : (shape : Shape) (request : Request) (told : WriteAnswer) (p q : Pass) → IsWriteAnswer shape request told p q → memo q ≡ memo p
@@ -30,7 +29,7 @@ made_write b request told old q new writes ends = record {
   few_steps = ends.few_steps;
   unasked = ends.unasked;
   unqueued = ends.unqueued;
-  memo = (clears_come b old.cutoff (deadline_of old) ends.steps q new.pass writes.on.quiet ends.clears).memo ∙ answer_keeps b.shape (request old.clock) told old.pass q writes.answer;
+  memo = (clears_come b old.cutoff ends.steps q new.pass writes.on.quiet ends.clears).memo ∙ answer_keeps b.shape (request old.clock) told old.pass q writes.answer;
   counts = ends.stats;
   draws = ends.draws;
   settings = record {

@@ -1,6 +1,7 @@
 -- The calls by which a put that was stored clears a segment of its pass, row by row,
 -- the newest first, and what is known of that segment between two puts.
-use Rattle.std.specs.Prelude.{◌≡◌, ◌≢◌, ◌⊎◌, ℕ, ◌≤◌, List, [], ◌∷◌, length, sum_by, Option, Some, None}
+use Rattle.std.specs.Prelude.{◌≡◌, ◌≢◌, ℕ, ◌≤◌, List, [], ◌∷◌, length, sum_by, Option, Some, None}
+use Rattle.std.specs.Option.{unwrap_or}
 use Rattle.std.specs.Coded.{×_prop, Unit-prop, Π_prop}
 use Rattle.std.proofs.Common.{sym, ◌∙◌}
 use Rattle.std.proofs.Props.{props}
@@ -9,7 +10,7 @@ use Rattle.segword.specs.Words.{Shape, triple-prop}
 use Rattle.segmodel.specs.declared.answer.EvictAnswer.TheVariants as evict
 use Rattle.segmodel.specs.declared.answer.RefillAnswer.TheVariants as refill
 use Rattle.segmodel.specs.Words.{EvictAnswer, owner, RefillAnswer}
-use Rattle.segbase.specs.Words.{Board, current_of, deadline_of, number, Pass}
+use Rattle.segbase.specs.Words.{Board, current_of, deadline_of, number, Pass, used_of}
 use Rattle.segevict.specs.declared.eviction.EvictRowAnswer.{EvictRowAnswer}
 use Rattle.segevict.specs.declared.eviction.EvictRowAnswer.TheVariants as evict_row
 use Rattle.segevict.specs.declared.retention.KeepRowAnswer.{KeepRowAnswer}
@@ -56,32 +57,33 @@ pub data Step : Type 0 where
 abbrev pub IsAside : Board → ℕ → Pass → Type 0
 IsAside b segment p = (owner b.shape segment ≡ number p) × (current_of p ≢ Some segment)
 
--- the deadline is this one, or that of a segment of the pass's own
-abbrev pub IsAsked : ℕ → ℕ → Pass → Type 0
-IsAsked deadline until p =
-    (until ≡ deadline) ⊎ ((segment : ℕ) × (deadline_of p segment ≡ Some until))
+-- no row of the segment from this one on is used
+abbrev pub AreDone : ℕ → ℕ → Pass → Type 0
+AreDone segment from p = unwrap_or (used_of p segment) 0 ≤ from
 
--- A step had its answer. What is kept has at least the cutoff of the client,
--- and what is refilled has this deadline, or that of what is cleared into it.
-abbrev pub IsStep : Board → Option ℕ → ℕ → Step → Pass → Pass → Type 0
-IsStep b cutoff deadline (keeps_into segment row by into told) p q =
+-- A step had its answer. What is kept has at least the cutoff of the client.
+-- The rest of a segment is evicted once each used row is done.
+-- What is refilled has the deadline of another segment of the pass's own.
+abbrev pub IsStep : Board → Option ℕ → Step → Pass → Pass → Type 0
+IsStep b cutoff (keeps_into segment row by into told) p q =
     IsAside b segment p
     × ((least : ℕ) × (cutoff ≡ Some least) × (least ≤ by))
     × KeepsItemInto b segment row by into told p q
-IsStep b cutoff deadline (evicts_row segment row told) p q =
+IsStep b cutoff (evicts_row segment row told) p q =
     IsAside b segment p × EvictsItem b segment row told p q
-IsStep b cutoff deadline (evicts_rest segment from told) p q =
-    IsAside b segment p × EvictsRest b segment from told p q
-IsStep b cutoff deadline (refills_aside segment told) p q =
+IsStep b cutoff (evicts_rest segment from told) p q =
+    IsAside b segment p × AreDone segment from p × EvictsRest b segment from told p q
+IsStep b cutoff (refills_aside segment told) p q =
     (owner b.shape segment ≡ number p)
-    × ((until : ℕ) × IsAsked deadline until p × RefillsAside b segment until told p q)
+    × ((source : ℕ) × (until : ℕ) × IsAside b source p × (deadline_of p source ≡ Some until)
+    × RefillsAside b segment until told p q)
 
 -- the steps were made, one after another
-unfoldable pub Clears : Board → Option ℕ → ℕ → List Step → Pass → Pass → Type 0
-Clears b cutoff deadline [] p q = q ≡ p
-Clears b cutoff deadline (step ∷ earlier) p q =
-    (between : Pass) × Clears b cutoff deadline earlier p between
-    × IsStep b cutoff deadline step between q
+unfoldable pub Clears : Board → Option ℕ → List Step → Pass → Pass → Type 0
+Clears b cutoff [] p q = q ≡ p
+Clears b cutoff (step ∷ earlier) p q =
+    (between : Pass) × Clears b cutoff earlier p between
+    × IsStep b cutoff step between q
 
 -- ---- what steps came to
 
@@ -108,17 +110,17 @@ effort_of_steps steps = record {
 }
 
 -- at most so many steps came to these numbers
-pub record ClearsAtMost (b : Board) (cutoff : Option ℕ) (deadline most : ℕ) (effort : Effort)
+pub record ClearsAtMost (b : Board) (cutoff : Option ℕ) (most : ℕ) (effort : Effort)
     (p q : Pass) : Type 0 where
   pub steps : List Step
-  pub clears : Clears b cutoff deadline steps p q
+  pub clears : Clears b cutoff steps p q
   pub few : length steps ≤ most
   pub comes : IsEffortOf steps effort
 
 -- so do the steps of a put
-abbrev pub ClearsSome : Board → Option ℕ → ℕ → Effort → Pass → Pass → Type 0
-ClearsSome b cutoff deadline effort p q = ClearsAtMost b cutoff deadline 16 effort p q
+abbrev pub ClearsSome : Board → Option ℕ → Effort → Pass → Pass → Type 0
+ClearsSome b cutoff effort p q = ClearsAtMost b cutoff 16 effort p q
 
 -- so do those of one turn, whose items have at least this frequency
-abbrev pub ClearsRow : Board → ℕ → ℕ → Effort → Pass → Pass → Type 0
-ClearsRow b least deadline effort p q = ClearsAtMost b (Some least) deadline 2 effort p q
+abbrev pub ClearsRow : Board → ℕ → Effort → Pass → Pass → Type 0
+ClearsRow b least effort p q = ClearsAtMost b (Some least) 2 effort p q

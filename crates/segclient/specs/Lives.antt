@@ -1,5 +1,5 @@
 -- How long what is put can be read, and the deadlines of segments by which it is so.
-use Rattle.std.specs.Prelude.{ℕ, ◌+◌, ◌-◌, ◌/◌, ◌%◌, ◌^◌, ◌≤◌, max, cond, nat_lt}
+use Rattle.std.specs.Prelude.{◌≡◌, ◌⊎◌, ℕ, ◌+◌, ◌-◌, ◌/◌, ◌%◌, ◌^◌, ◌≤◌, Bool, true, max, cond, nat_lt}
 use Rattle.segclient.specs.declared.segments.Span.{Span}
 use Rattle.segclient.specs.PutCalls.{IsInSpan}
 
@@ -18,6 +18,13 @@ latest_of now time = until_last (now + time) (now + time)
 -- the moment at which seven eighths of it are
 abbrev pub earliest_of : ℕ → ℕ → ℕ
 earliest_of now time = until_last (now + time) (now + time - time / 8)
+
+-- what a client refills for this time has a multiple of an eighth of it, or of a 64th, which only a
+-- client with queues asks for
+abbrev pub IsDeadlineFor : Bool → ℕ → ℕ → ℕ → Type 0
+IsDeadlineFor queued now time until =
+    (until ≡ deadline_by now time (time / 8))
+    ⊎ ((queued ≡ true) × (until ≡ deadline_by now time (time / 64)))
 
 -- these deadlines let an item live for seven eighths of its time at least and for all of it
 -- at most, and this one is among them

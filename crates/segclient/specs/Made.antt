@@ -16,7 +16,6 @@ use Rattle.segclient.specs.declared.effort.Effort.{Effort}
 use Rattle.segclient.specs.Clearing.{Clears, ClearsSome, Step}
 use Rattle.segclient.specs.Counting.{cleared_too, counted}
 use Rattle.segclient.specs.Member.{draw_of, DrawsOnce, Keeps, KeepsDraws, KeepsSettings}
-use Rattle.segclient.specs.Puts.{deadline_of}
 use Rattle.segclient.specs.Tallies.{delete_tally, get_tally, gets_tally, write_tally}
 
 -- it counts nothing, draws nothing, and keeps its settings and its segments
@@ -52,7 +51,7 @@ ClearsNothing steps old new = (steps ≡ []) × (new.segments ≡ old.segments)
 -- another segment, by steps that came to these numbers.
 pub record ClearsThen (told : WriteAnswer) (b : Board) (effort : Effort) (old new : Member)
     : Type 0 where
-  pub some : ClearsSome b old.cutoff (deadline_of old) effort old.pass new.pass
+  pub some : ClearsSome b old.cutoff effort old.pass new.pass
   pub unasked : told ≢ write.Stored → ClearsNothing some.steps old new
   pub unqueued : is_some old.segments.queues ≡ false → ClearsNothing some.steps old new
   pub stats : new.stats ≡ old.stats
@@ -62,7 +61,7 @@ pub record ClearsThen (told : WriteAnswer) (b : Board) (effort : Effort) (old ne
 -- So it is, and write and steps are counted.
 pub record EndsWrite (told : WriteAnswer) (b : Board) (old new : Member) : Type 0 where
   pub steps : List Step
-  pub clears : Clears b old.cutoff (deadline_of old) steps old.pass new.pass
+  pub clears : Clears b old.cutoff steps old.pass new.pass
   pub few_steps : length steps ≤ 16
   pub unasked : told ≢ write.Stored → ClearsNothing steps old new
   pub unqueued : is_some old.segments.queues ≡ false → ClearsNothing steps old new
@@ -77,7 +76,7 @@ pub record MakesWrite (request : ℕ → Request) (told : WriteAnswer) (b : Boar
   pub between : Pass
   pub writes : Writes b (request old.clock) told old.pass between
   pub steps : List Step
-  pub clears : Clears b old.cutoff (deadline_of old) steps between new.pass
+  pub clears : Clears b old.cutoff steps between new.pass
   pub few_steps : length steps ≤ 16
   pub unasked : told ≢ write.Stored → ClearsNothing steps old new
   pub unqueued : is_some old.segments.queues ≡ false → ClearsNothing steps old new

@@ -1,8 +1,8 @@
 -- How a client makes room now.
-use Rattle.std.specs.Prelude.{◌≡◌, ℕ}
+use Rattle.std.specs.Prelude.{◌≡◌, ℕ, is_some}
 use Rattle.segclient.specs.declared.member.Member.{Member}
 use Rattle.segclient.specs.declared.segments.Policy.{Policy}
-use Rattle.segclient.specs.Lives.{earliest_of, IsLife, latest_of}
+use Rattle.segclient.specs.Lives.{earliest_of, IsDeadlineFor, IsLife, latest_of}
 use Rattle.segclient.specs.Puts.{deadline_of}
 
 abbrev pub policy_of : Member → Policy
@@ -21,3 +21,4 @@ pub record IsPolicyFor (time : ℕ) (member : Member) (policy : Policy) : Type 0
   pub cutoff : policy.cutoff ≡ member.cutoff
   pub moment : policy.moment ≡ member.clock
   pub life : IsLife member.clock time policy.span policy.deadline
+  pub deadline : IsDeadlineFor (is_some member.segments.queues) member.clock time policy.deadline

@@ -220,7 +220,7 @@ pub record PutsWhole (b : Board) (plan : Plan) (most : ℕ) (told : PutAnswer)
 -- a client cleared rows of a segment: only after a put that is Stored, and only if it has queues
 pub record ClearsAfter (b : Board) (policy : Policy) (told : PutAnswer) (queued : Bool)
     (effort : Effort) (p q : Pass) : Type 0 where
-  pub some : ClearsSome b policy.cutoff policy.deadline effort p q
+  pub some : ClearsSome b policy.cutoff effort p q
   pub unasked : told ≢ put.Stored → some.steps ≡ []
   pub unqueued : queued ≡ false → some.steps ≡ []
 

@@ -13,7 +13,7 @@ use Rattle.segclient.specs.declared.put.PutAnswer.TheVariants as put
 use Rattle.segclient.specs.declared.segments.Span.{Span}
 use Rattle.segclient.specs.Clearing.{Clears, Step}
 use Rattle.segclient.specs.Counting.{cleared_too, counted, given_up_too}
-use Rattle.segclient.specs.Lives.{deadline_by, IsLife}
+use Rattle.segclient.specs.Lives.{deadline_by, IsDeadlineFor, IsLife}
 use Rattle.segclient.specs.Member.{KeepsSettings}
 use Rattle.segclient.specs.PutCalls.{IsInSpan, IsRefused, Makes, PutCall, room_plan, sets}
 use Rattle.segclient.specs.PutCalls.{StoresUntil}
@@ -35,7 +35,8 @@ abbrev pub StoredFor : Span → Pass → Type 0
 StoredFor span p = (until : ℕ) × StoresUntil until p × IsInSpan span until
 
 -- A put for this time chose a segment, without a step, and made these calls, for its request
--- and by the client's settings. What it refills for it has the deadline `until`.
+-- and by the client's settings. What it refills for it has the deadline `until`, the last multiple
+-- of an eighth of the time that comes in it, or with queues of a 64th.
 -- Where it is Stored, the deadline of the segment it is stored into comes in the put's time,
 -- and not before seven eighths of it: it can be read so long, unless it goes before.
 -- It makes at most 16 sets in a row.
@@ -47,6 +48,7 @@ pub record PutsFor (time : ℕ) (key value : List ℕ) (told : PutAnswer) (b : B
   pub until : ℕ
   pub span : Span
   pub life : IsLife old.clock time span until
+  pub deadline : IsDeadlineFor (is_some old.segments.queues) old.clock time until
   pub calls : List PutCall
   pub chosen : Pass
   pub between : Pass
@@ -67,7 +69,7 @@ pub record PutsFor (time : ℕ) (key value : List ℕ) (told : PutAnswer) (b : B
       → has_room b.shape old.pass ≡ true
       → SetsUntilFull calls
   pub steps : List Step
-  pub clears : Clears b old.cutoff until steps between new.pass
+  pub clears : Clears b old.cutoff steps between new.pass
   pub few_steps : length steps ≤ 16
   pub unasked : told ≢ put.Stored → steps ≡ []
   pub unqueued : is_some old.segments.queues ≡ false → steps ≡ []

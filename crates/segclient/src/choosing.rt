@@ -1,5 +1,5 @@
 //! Which of the open segments of a pass a put stores into: one with a deadline that is asked.
-ghost use Rattle.std.specs.Prelude.{◌≡◌, true, false};
+ghost use Rattle.std.specs.Prelude.{◌≡◌, true, false, is_some};
 ghost use Rattle.segindex.specs.Words.{board_of, shape_of};
 ghost use Rattle.segstore.specs.Words.{has_room, IsQuiet};
 ghost use Rattle.segclient.specs.PutParts.{is_outside};
@@ -70,6 +70,7 @@ fn open_for(index: &Index, pass: &Pass, segments: &Segments, span: Span) -> Opti
 #[inline(always)]
 pub(crate) fn is_fine(index: &Index, pass: &Pass, segments: &Segments, span: Span) -> bool
     requires quiet { IsQuiet (board_of index.now) pass.now }
+    ensures unqueued { is_some segments.now.queues ≡ false → result ≡ false }
 {
     let has_many = matches!(&segments.queues, Some(queues) if queues.are_many_free());
     if !has_many {

@@ -4,7 +4,7 @@ ghost use Rattle.segbase.specs.Words.{deadline_of, number};
 ghost use Rattle.segindex.specs.Words.{board_of, shape_of};
 ghost use Rattle.segstore.specs.Words.{GoesOn, IsQuiet};
 ghost use Rattle.segclient.specs.Clearing.{ClearsAtMost, ClearsRow, ClearsSome, IsCleared};
-ghost use Rattle.segclient.specs.Clearing.{came_to_step, evicts_row, IsClearing, keeps_into};
+ghost use Rattle.segclient.specs.Clearing.{AreDone, came_to_step, evicts_row, IsClearing, keeps_into};
 ghost use Rattle.segclient.specs.PutCalls.{evicted_keys, kept_items};
 ghost use Rattle.segclient.specs.Rings.{IsOwnRing};
 
@@ -83,12 +83,13 @@ fn leave(index: &Index, queues: &mut Queues, source: Source, effort: Effort) -> 
 fn end_source(index: &Index, pass: &mut Pass, queues: &mut Queues, source: Source) -> Turn
     requires quiet { IsQuiet (board_of index.now) pass.old }
     requires clearing { IsClearing (shape_of index.now) source pass.old }
+    requires done { AreDone source.segment source.row pass.old }
     ensures on { GoesOn (board_of index.now) pass.old pass.new }
     ensures cleared { IsCleared (shape_of index.now) result.source pass.new }
     ensures few { (result.effort.refilled ≤ 1) × (result.effort.kept ≤ 1)
         × (result.effort.keys < 2 ^ 32) }
-    ensures clears { (cutoff : Option ℕ) → (deadline : ℕ)
-        → ClearsAtMost (board_of index.now) cutoff deadline 1 result.effort pass.old pass.new }
+    ensures clears { (cutoff : Option ℕ)
+        → ClearsAtMost (board_of index.now) cutoff 1 result.effort pass.old pass.new }
 {
     let told = index.evict_rest(pass, source.segment, source.row);
     was_given_up(index, pass, queues, source.segment);
@@ -128,8 +129,8 @@ fn evict_one(index: &Index, pass: &mut Pass, queues: &mut Queues, source: Source
     ensures cleared { IsCleared (shape_of index.now) result.source pass.new }
     ensures few { (result.effort.refilled ≤ 1) × (result.effort.kept ≤ 1)
         × (result.effort.keys < 2 ^ 32) }
-    ensures clears { (cutoff : Option ℕ) → (deadline : ℕ)
-        → ClearsAtMost (board_of index.now) cutoff deadline 1 result.effort pass.old pass.new }
+    ensures clears { (cutoff : Option ℕ)
+        → ClearsAtMost (board_of index.now) cutoff 1 result.effort pass.old pass.new }
 {
     let told = index.evict_row(pass, source.segment, source.row);
     let effort = Effort::evicting(u64::from(row_evicted_by(told)));
@@ -175,7 +176,7 @@ fn move_one(index: &Index, pass: &mut Pass, queues: &mut Queues, source: Source,
     ensures cleared { IsCleared (shape_of index.now) result.source pass.new }
     ensures few { (result.effort.refilled ≤ 1) × (result.effort.kept ≤ 1)
         × (result.effort.keys < 2 ^ 32) }
-    ensures clears { (deadline : ℕ) → ClearsRow (board_of index.now) to.least deadline
+    ensures clears { ClearsRow (board_of index.now) to.least
         result.effort pass.old pass.new }
 {
     let at = place_of(index, source.segment);
@@ -221,8 +222,8 @@ fn open_main(
     ensures cleared { IsCleared (shape_of index.now) result.source pass.new }
     ensures few { (result.effort.refilled ≤ 1) × (result.effort.kept ≤ 1)
         × (result.effort.keys < 2 ^ 32) }
-    ensures clears { (cutoff : Option ℕ) → (deadline : ℕ)
-        → ClearsAtMost (board_of index.now) cutoff deadline 1 result.effort pass.old pass.new }
+    ensures clears { (cutoff : Option ℕ)
+        → ClearsAtMost (board_of index.now) cutoff 1 result.effort pass.old pass.new }
 {
     let unopened = Turn {
         source: Some(source),
@@ -292,7 +293,7 @@ pub(crate) fn clear_one_row(
     ensures cleared { IsCleared (shape_of index.now) result.source pass.new }
     ensures few { (result.effort.refilled ≤ 1) × (result.effort.kept ≤ 1)
         × (result.effort.keys < 2 ^ 32) }
-    ensures clears { (deadline : ℕ) → ClearsRow (board_of index.now) terms.least deadline
+    ensures clears { ClearsRow (board_of index.now) terms.least
         result.effort pass.old pass.new }
 {
     if pass.used(source.segment).unwrap_or(0) <= source.row {
@@ -367,7 +368,7 @@ fn clear_rows(
     ensures cleared { IsCleared (shape_of index.now) result.source pass.new }
     ensures few { (result.effort.refilled ≤ 16) × (result.effort.kept ≤ 16)
         × (result.effort.keys < 2 ^ 36) }
-    ensures clears { (deadline : ℕ) → ClearsSome (board_of index.now) (Some terms.least) deadline
+    ensures clears { ClearsSome (board_of index.now) (Some terms.least)
         result.effort pass.old pass.new }
 {
     let mut source = was;
@@ -432,7 +433,7 @@ pub(crate) fn clear_some(
     ensures queues { is_some segments.new.queues ≡ is_some segments.old.queues }
     ensures cleared { IsCleared (shape_of index.now) segments.new.source pass.new }
     ensures few { (result.refilled ≤ 16) × (result.kept ≤ 16) × (result.keys < 2 ^ 36) }
-    ensures clears { ClearsSome (board_of index.now) policy.cutoff policy.deadline
+    ensures clears { ClearsSome (board_of index.now) policy.cutoff
         result pass.old pass.new }
 {
     let Some(least) = policy.cutoff else {

@@ -1,6 +1,6 @@
 //! Items of several rows: how room is made for one, and how a clearing goes from the first row of an
 //! item to that of the next. Where each item has one row, all of it is done row by row.
-ghost use Rattle.std.specs.Prelude.{◌≡◌, ◌<◌, ◌≤◌, ◌^◌, ℕ, is_some};
+ghost use Rattle.std.specs.Prelude.{◌≡◌, ◌<◌, ◌≤◌, ◌^◌, is_some};
 ghost use Rattle.segbase.specs.Words.{number};
 ghost use Rattle.segindex.specs.Words.{board_of, shape_of};
 ghost use Rattle.segstore.specs.Words.{GoesOn, IsQuiet};
@@ -51,7 +51,7 @@ pub(crate) fn clear_row(
     ensures cleared { IsCleared (shape_of index.now) result.source pass.new }
     ensures few { (result.effort.refilled ≤ 1) × (result.effort.kept ≤ 1)
         × (result.effort.keys < 2 ^ 32) }
-    ensures clears { (deadline : ℕ) → ClearsRow (board_of index.now) terms.least deadline
+    ensures clears { ClearsRow (board_of index.now) terms.least
         result.effort pass.old pass.new }
 {
     if MOST_SPAN == 1 {

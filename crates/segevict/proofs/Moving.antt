@@ -98,8 +98,11 @@ module _ (b : Board) (bucket : ℕ) (sought : Item) (into to : ℕ) (p f : Pass)
     st = (coherent b.shape (trace f) i.moved.pass.lawful).items bucket at a n.named.1
 
     pub readable : IsReadable b f sought.seg sought.row
-    readable = (in_table b f sought.seg i.moved.pass stored_f.own, subst (λ r. r < b.shape.rows) n.named.2.1 st.within.1,
-        may_read_own b.shape (trace f) (number f) sought.seg sought.row stored_f.own)
+    readable = (
+      in_table b f sought.seg i.moved.pass stored_f.own,
+      subst (λ r. r < b.shape.rows) n.named.2.1 st.within.1,
+      may_read_own b.shape (trace f) (number f) sought.seg sought.row stored_f.own,
+    )
 
     -- with c the pass after the copy
     module _ (c : Pass) (words places : List ℕ) (m : AddsEvents b (fills (number f) into to words places) f c) (own : IsOwnRow b.shape (trace c) (number c) into to)

@@ -219,5 +219,10 @@ module _ (b : Board) (segment row cutoff : ℕ) (p : Pass) (quiet : IsQuiet b p)
 
     pub into_no_target : HasRow segment row p → ¬ (IsMoveTarget segment into p) → KeepsItemInto b segment row cutoff into kept.NoRoom p p
     into_no_target has nowhere = let is = refused_no_room has in
-        record { on = goes_same b p quiet; answer = inl ((λ other is. nowhere is.1), refl); not_yours = is.0; not_used = is.1;
-          costs = costs_none (has_rows_of b into segment row p) kept.NoRoom none_tried }
+        record {
+          on = goes_same b p quiet;
+          answer = inl ((λ other is. nowhere is.1), refl);
+          not_yours = is.0;
+          not_used = is.1;
+          costs = costs_none (has_rows_of b into segment row p) kept.NoRoom none_tried;
+        }

@@ -14,8 +14,8 @@ large_words : (threads : ℕ) (shape : Shape) → IsShapeFor 262144 threads shap
 large_words threads shape is =
     let rows = is.room.rows in
     let spread : shape.passes * shape.segments_each * (1 + ROW_WORDS * shape.rows)
-        ≡ shape.passes * shape.segments_each + ROW_WORDS * (shape.passes * shape.segments_each * shape.rows) =
-        omega arith in
+    ≡ shape.passes * shape.segments_each + ROW_WORDS * (shape.passes * shape.segments_each * shape.rows) =
+    omega arith in
     omega (arith, rows, spread)
 
 large_bytes : (threads count : ℕ) (shape : Shape) → IsShapeFor 262144 threads shape
@@ -23,7 +23,7 @@ large_bytes : (threads count : ℕ) (shape : Shape) → IsShapeFor 262144 thread
 large_bytes threads count shape is =
     let words = large_words threads shape is in
     let more : (count + 1) * 33554432 ≤ (count + 1) * (8 * word_count shape) =
-        mul-le-mul_left (count + 1) (omega (arith, words)) in
+    mul-le-mul_left (count + 1) (omega (arith, words)) in
     omega (arith, more)
 
 -- one without a key takes few
@@ -39,12 +39,12 @@ small_clients threads shape is =
     let passes = is.valid.0.0.0.1 in
     let some = is.valid.0.1 in
     let spread : shape.passes * shape.segments_each * (1 + ROW_WORDS * shape.rows)
-        ≡ shape.passes * shape.segments_each + ROW_WORDS * (shape.passes * shape.segments_each * shape.rows) =
-        omega arith in
+    ≡ shape.passes * shape.segments_each + ROW_WORDS * (shape.passes * shape.segments_each * shape.rows) =
+    omega arith in
     let one : shape.passes * shape.segments_each * 1 ≤ shape.passes * shape.segments_each * shape.rows =
-        mul-le-mul_left (shape.passes * shape.segments_each) some.0 in
+    mul-le-mul_left (shape.passes * shape.segments_each) some.0 in
     let parts : clients_bytes shape ≡ 3 * (shape.passes * shape.segments_each * shape.rows)
-        + 64 * (shape.passes * shape.segments_each) + 4096 * shape.passes = omega arith in
+    + 64 * (shape.passes * shape.segments_each) + 4096 * shape.passes = omega arith in
     omega (arith, words, passes.1, spread, one, parts)
 
 small_bytes : (threads count : ℕ) (shape : Shape) → IsShapeFor 0 threads shape
@@ -53,7 +53,7 @@ small_bytes threads count shape is =
     let words = small_words threads shape is in
     let clients = small_clients threads shape is in
     let tables : (count + 1) * (8 * word_count shape) ≤ (count + 1) * 304288 =
-        mul-le-mul_left (count + 1) (omega (arith, words)) in
+    mul-le-mul_left (count + 1) (omega (arith, words)) in
     let kept : count * clients_bytes shape ≤ count * 546873 = mul-le-mul_left count clients in
     omega (arith, tables, kept)
 
@@ -79,7 +79,7 @@ module _ (bytes threads count : ℕ) (some : 1 ≤ count) (few : count ≤ 16384
           all (inr same) = is.is ∙ same
           all (inl fits) =
               let large = large_bytes threads plan.count plan.shape
-                  (subst (λ n. IsShapeFor n threads plan.shape) most is.shape) in
+              (subst (λ n. IsShapeFor n threads plan.shape) most is.shape) in
               let within = is.within in
               let same = is.is in
               absurd (omega (arith, large, within, same, fits))
@@ -101,7 +101,7 @@ module _ (bytes threads count : ℕ) (some : 1 ≤ count) (few : count ≤ 16384
       full (inr more) = inr more
       full (inl most) =
           let large = large_bytes threads plan.count plan.shape
-              (subst (λ n. IsShapeFor n threads plan.shape) most is.shape) in
+          (subst (λ n. IsShapeFor n threads plan.shape) most is.shape) in
           let within = is.within in
           let same = is.is in
           let less = small_bytes threads count shape small in

@@ -82,7 +82,7 @@ module _ (keys threads writers least count each : ℕ) (are : AreWriters threads
   each_fits : each * threads < 262144 * writers + threads
   each_fits =
       let share : (each * count + 1) * threads ≤ (keys + count) * threads =
-          mul-le-mul_right threads (omega (arith, each_times.1)) in
+      mul-le-mul_right threads (omega (arith, each_times.1)) in
       less_each (each * threads) (262144 * writers + threads) count (omega (arith, share, all_fit, are.0.0))
 
   -- each has no more than one for every 200,000, while there may be another shard
@@ -93,11 +93,11 @@ module _ (keys threads writers least count each : ℕ) (are : AreWriters threads
       let is : wanted ≡ div_ceil (keys * threads) (200000 * writers) = rw (is_wanted, is_a, is_b, is_d) refl in
       let times = (div_ceil_times (keys * threads) (200000 * writers) (omega (arith, are.1.0))).0 in
       let more : div_ceil (keys * threads) (200000 * writers) * (200000 * writers) ≤ count * (200000 * writers) =
-          mul-le-mul_right (200000 * writers) (omega (arith, is, enough)) in
+      mul-le-mul_right (200000 * writers) (omega (arith, is, enough)) in
       let share : (each * count + 1) * threads ≤ (keys + count) * threads =
-          mul-le-mul_right threads (omega (arith, each_times.1)) in
+      mul-le-mul_right threads (omega (arith, each_times.1)) in
       inl (less_each (each * threads) (200000 * writers + threads) count
-          (omega (arith, share, times, more, are.0.0)))
+      (omega (arith, share, times, more, are.0.0)))
 
   pub few_keys : each ≤ 262208
   few_keys =

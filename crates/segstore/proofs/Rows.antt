@@ -49,7 +49,7 @@ pub looked_word : (b : Board) (p q : Pass) (s r place : ℕ) → AddsAtOnce b []
 looked_word b p q s r place d own =
     ap (λ h. (row_alone h s r).words place) d.now
     ∙ ap (λ (u : Row). u.words place)
-        (quiet_row b.shape d.others (trace p) s r d.before (subst (λ n. NoneBy n d.others) (sym own) d.none))
+    (quiet_row b.shape d.others (trace p) s r d.before (subst (λ n. NoneBy n d.others) (sym own) d.none))
 
 -- ---- the words that were stored
 

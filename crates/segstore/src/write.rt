@@ -143,9 +143,9 @@ fn store_word(board: &Board, pass: &mut Pass, at: RowPlace, place: u32, word: u6
         (place_behind place) ≡ word }
     ensures others { (other : ℕ) → other ≢ place
         → (row_alone (trace pass.new) at.segment (row_behind at.row other)).words
-            (place_behind other)
+        (place_behind other)
         ≡ (row_alone (trace pass.old) at.segment (row_behind at.row other)).words
-            (place_behind other) }
+        (place_behind other) }
     ensures plain { pass.new.plain ≡ pass.old.plain }
     ensures memo { (sight pass.new).memo ≡ (sight pass.old).memo }
 {

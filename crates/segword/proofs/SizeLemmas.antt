@@ -108,8 +108,12 @@ module _ (keys passes near each segments rows : ℕ) (few : keys ≤ 425984) (fi
   )
 
   has_buckets : HasBucketsFor keys made
-  has_buckets = record { enough = enough (cases_lt near 65536); no_more =
-      no_more (one_or_even near power); overflow = refl }
+  has_buckets = record {
+    enough = enough (cases_lt near 65536);
+    no_more =
+        no_more (one_or_even near power);
+    overflow = refl;
+  }
     where
       enough : (near < 65536) ⊎ (65536 ≤ near) → (5 * keys ≤ 16 * min near 65536) ⊎ (min near 65536 ≡ 65536)
       enough (inl low) = let times = div_ceil_times (5 * keys) 16 (omega arith) in inl

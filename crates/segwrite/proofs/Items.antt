@@ -69,8 +69,15 @@ may_read_named : (z : Shape) (h : List Event) (pass b n : ℕ) (a : Slot) (s r :
     → (bucket_after z h b).items n ≡ item a → a.segment ≡ s → a.row ≡ r → MayReadItem z h pass s r
 may_read_named z h pass b n a s r bit here es er = ⊎_elim
     (λ one. subst either (sym one) (inr (inr (b, n, a, bit, here, es, subst (among r) (sym one) er))))
-    (λ more. subst either (sym more) (λ other covered within. inr (inr (b, n, a, bit, here, es,
-    subst (among other) (sym more) (subst (λ f. covers f (span_in h s f) other ≡ true) (sym er) covered)))))
+    (λ more. subst either (sym more) (λ other covered within. inr (inr (
+      b,
+      n,
+      a,
+      bit,
+      here,
+      es,
+      subst (among other) (sym more) (subst (λ f. covers f (span_in h s f) other ≡ true) (sym er) covered),
+    ))))
     (cases_Bool (most_span == 1))
   where
     either : Bool → Type 0

@@ -18,20 +18,20 @@ loop-tried-init c =
       refilled = let x = ap (λ (e : Effort). e.refilled) c.none-effort.ensures in omega (arith, x);
       kept = let x = ap (λ (e : Effort). e.kept) c.none-effort.ensures in omega (arith, x);
       keys = let x = ap (λ (e : Effort). e.keys) c.none-effort.ensures in omega (arith, x);
-      clears = λ deadline. clears_as b least deadline 0 (2 * 0) (effort_from 0 0 0) c.none-effort.result p p (omega arith) c.none-effort.ensures (none_clears b least deadline p);
+      clears = clears_as b least 0 (2 * 0) (effort_from 0 0 0) c.none-effort.result p p (omega arith) c.none-effort.ensures (none_clears b least p);
     }
 
 pub returns-then-turn-clause-on : goal.returns-then-turn-clause-on
 returns-then-turn-clause-on c = goes_then (board_of c.args.index.now) c.args.pass.now c.loop-tried.pass c.clear_row-turn.new.pass c.loop-tried.invariant.on c.clear_row-turn.ensures.on
 
 pub returns-then-turn-clause-clears : goal.returns-then-turn-clause-clears
-returns-then-turn-clause-clears c = λ deadline.
+returns-then-turn-clause-clears c =
     let turn = c.clear_row-turn in
     let tried = c.loop-tried.tried in
     let below = c.loop-tried-test.true in
-    clears_then (board_of c.args.index.now) (Some c.args.terms.least) deadline (2 * tried) 2 16 c.loop-tried.effort
+    clears_then (board_of c.args.index.now) (Some c.args.terms.least) (2 * tried) 2 16 c.loop-tried.effort
     turn.result.effort c.plus-effort.result c.args.pass.now c.loop-tried.pass turn.new.pass
-    (omega (arith, below)) c.plus-effort.ensures (c.loop-tried.invariant.clears deadline) (turn.ensures.clears deadline)
+    (omega (arith, below)) c.plus-effort.ensures c.loop-tried.invariant.clears turn.ensures.clears
 
 pub loop-tried-preserved : goal.loop-tried-preserved
 loop-tried-preserved c =
@@ -50,23 +50,23 @@ loop-tried-preserved c =
       refilled = let x = ap (λ (e : Effort). e.refilled) sum in let y = was.refilled in let z = few.0 in omega (arith, x, y, z);
       kept = let x = ap (λ (e : Effort). e.kept) sum in let y = was.kept in let z = few.1 in omega (arith, x, y, z);
       keys = let x = ap (λ (e : Effort). e.keys) sum in let y = was.keys in let z = few.2 in omega (arith, x, y, z);
-      clears = λ deadline. clears_then b (Some c.args.terms.least) deadline (2 * tried) 2 (2 * (tried + 1))
-          c.loop-tried.effort turn.result.effort c.plus-effort.result p q r (omega arith) sum (was.clears deadline)
-          (turn.ensures.clears deadline);
+      clears = clears_then b (Some c.args.terms.least) (2 * tried) 2 (2 * (tried + 1))
+          c.loop-tried.effort turn.result.effort c.plus-effort.result p q r (omega arith) sum was.clears
+          turn.ensures.clears;
     }
 
 pub returns-in_default-clause-clears : goal.returns-in_default-clause-clears
-returns-in_default-clause-clears c = λ deadline.
+returns-in_default-clause-clears c =
     let tried = c.loop-tried.tried in
     let below = c.loop-tried-test.true in
     let few = c.turns_of-turns.ensures.few in
-    clears_as (board_of c.args.index.now) (Some c.args.terms.least) deadline (2 * tried) 16 c.loop-tried.effort c.loop-tried.effort c.args.pass.now c.loop-tried.pass
-    (omega (arith, below, few)) refl (c.loop-tried.invariant.clears deadline)
+    clears_as (board_of c.args.index.now) (Some c.args.terms.least) (2 * tried) 16 c.loop-tried.effort c.loop-tried.effort c.args.pass.now c.loop-tried.pass
+    (omega (arith, below, few)) refl c.loop-tried.invariant.clears
 
 pub returns-clause-clears : goal.returns-clause-clears
-returns-clause-clears c = λ deadline.
+returns-clause-clears c =
     let tried = c.loop-tried.tried in
     let end = c.loop-tried.auto.tried-end in
     let few = c.turns_of-turns.ensures.few in
-    clears_as (board_of c.args.index.now) (Some c.args.terms.least) deadline (2 * tried) 16 c.loop-tried.effort c.loop-tried.effort c.args.pass.now c.loop-tried.pass
-    (omega (arith, end, few)) refl (c.loop-tried.invariant.clears deadline)
+    clears_as (board_of c.args.index.now) (Some c.args.terms.least) (2 * tried) 16 c.loop-tried.effort c.loop-tried.effort c.args.pass.now c.loop-tried.pass
+    (omega (arith, end, few)) refl c.loop-tried.invariant.clears

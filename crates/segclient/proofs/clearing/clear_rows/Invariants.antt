@@ -1,4 +1,4 @@
-use Rattle.std.proofs.Common.{ℕ, ◌*◌, ◌≤◌, Some}
+use Rattle.std.proofs.Common.{◌*◌, ◌≤◌, Some}
 use Rattle.segindex.specs.Words.{board_of, shape_of}
 use Rattle.segstore.specs.Words.{GoesOn}
 use Rattle.segclient.specs.Clearing.{ClearsAtMost, IsCleared}
@@ -11,5 +11,5 @@ invariant-loop-tried l = record {
   refilled : l.effort.refilled ≤ l.tried;
   kept : l.effort.kept ≤ l.tried;
   keys : l.effort.keys ≤ 4294967295 * l.tried;
-  clears : (deadline : ℕ) → ClearsAtMost (board_of l.index) (Some l.terms.least) deadline (2 * l.tried) l.effort l.fn.pass l.pass;
+  clears : ClearsAtMost (board_of l.index) (Some l.terms.least) (2 * l.tried) l.effort l.fn.pass l.pass;
 }

@@ -13,18 +13,18 @@ returns-in-Evicted-clause-cleared c =
     (evicted_done b c.args.source c.args.pass.now told.new.pass c.requires.quiet c.requires.clearing told.result told.ensures.evicts c.in-Evicted.is)
 
 pub returns-in-Evicted-clause-clears : goal.returns-in-Evicted-clause-clears
-returns-in-Evicted-clause-clears c = λ cutoff deadline.
+returns-in-Evicted-clause-clears c = λ cutoff.
     let told = c.evict_row-told in
     let from = c.args.source in
-    evicted_clears (board_of c.args.index.now) from c.args.pass.now told.new.pass c.requires.quiet c.requires.clearing cutoff deadline c.from.result told.result c.next_row.result.effort
+    evicted_clears (board_of c.args.index.now) from c.args.pass.now told.new.pass c.requires.quiet c.requires.clearing cutoff c.from.result told.result c.next_row.result.effort
     (ap (λ (t : Turn). t.effort) c.next_row.ensures ∙ c.evicting-effort.ensures) (c.from.ensures ∙ c.row_evicted_by.ensures.value from.segment from.row) told.ensures.evicts
 
 pub returns-in-NotYours-clause-cleared : goal.returns-in-NotYours-clause-cleared
 returns-in-NotYours-clause-cleared c = subst (λ (t : Turn). IsCleared (board_of c.args.index.now).shape t.source c.evict_row-told.new.pass) (sym c.leave.ensures) tt
 
 pub returns-in-NotYours-clause-clears : goal.returns-in-NotYours-clause-clears
-returns-in-NotYours-clause-clears c = λ cutoff deadline.
+returns-in-NotYours-clause-clears c = λ cutoff.
     let told = c.evict_row-told in
     let from = c.args.source in
-    evicted_clears (board_of c.args.index.now) from c.args.pass.now told.new.pass c.requires.quiet c.requires.clearing cutoff deadline c.from.result told.result c.leave.result.effort
+    evicted_clears (board_of c.args.index.now) from c.args.pass.now told.new.pass c.requires.quiet c.requires.clearing cutoff c.from.result told.result c.leave.result.effort
     (ap (λ (t : Turn). t.effort) c.leave.ensures ∙ c.evicting-effort.ensures) (c.from.ensures ∙ c.row_evicted_by.ensures.value from.segment from.row) told.ensures.evicts

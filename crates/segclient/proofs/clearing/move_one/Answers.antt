@@ -20,28 +20,28 @@ returns-in-Moved-clause-cleared c =
     (moved_done b c.args.source c.args.pass.now told.new.pass c.requires.quiet c.requires.clearing told.result c.cutoff_of-cutoff.result c.args.to.into c.in-Moved.is told.ensures.keeps)
 
 pub returns-in-Moved-clause-clears : goal.returns-in-Moved-clause-clears
-returns-in-Moved-clause-clears c = λ deadline.
+returns-in-Moved-clause-clears c =
     let told = c.keep_row_into-told in
     let from = c.args.source in
     let by = c.cutoff_of-cutoff.result in
     kept_clears (board_of c.args.index.now) from c.args.pass.now told.new.pass c.requires.quiet c.requires.clearing
-    c.args.to.least deadline c.from.result by c.args.to.into told.result c.next_row.result.effort
+    c.args.to.least c.from.result by c.args.to.into told.result c.next_row.result.effort
     (ap (λ (t : Turn). t.effort) c.next_row.ensures) (c.from.ensures ∙ c.row_moved_by.ensures.value from.segment from.row by c.args.to.into) c.cutoff_of-cutoff.ensures.enough told.ensures.keeps
 
 pub returns-in-Left-clause-on : goal.returns-in-Left-clause-on
 returns-in-Left-clause-on c = goes_then (board_of c.args.index.now) c.args.pass.now c.keep_row_into-told.new.pass c.evict_one.new.pass c.keep_row_into-told.ensures.keeps.on c.evict_one.ensures.on
 
 pub returns-in-Left-clause-clears : goal.returns-in-Left-clause-clears
-returns-in-Left-clause-clears c = λ deadline.
+returns-in-Left-clause-clears c =
     let b = board_of c.args.index.now in
     let p = c.args.pass.now in
     let told = c.keep_row_into-told in
     let q = told.new.pass in
     let least = c.args.to.least in
-    clears_after b (Some least) deadline 1 1 2 c.evict_one.result.effort p q c.evict_one.new.pass (omega arith)
-    (left_clears b c.args.source p q c.requires.quiet c.requires.clearing least deadline c.cutoff_of-cutoff.result
+    clears_after b (Some least) 1 1 2 c.evict_one.result.effort p q c.evict_one.new.pass (omega arith)
+    (left_clears b c.args.source p q c.requires.quiet c.requires.clearing least c.cutoff_of-cutoff.result
     c.args.to.into told.result c.in-Left.is c.cutoff_of-cutoff.ensures.enough told.ensures.keeps)
-    (c.evict_one.ensures.clears (Some least) deadline)
+    (c.evict_one.ensures.clears (Some least))
 
 pub returns-in-NoRoom : goal.returns-in-NoRoom
 returns-in-NoRoom c =
@@ -60,7 +60,7 @@ returns-in-NoRoom c =
           let most = c.row_moved_by.ensures.few in
           let is = c.from.ensures in
           (omega (arith, one), omega (arith, two, most, is), omega (arith, three));
-      clears = λ deadline. kept_clears b from c.args.pass.now told.new.pass c.requires.quiet c.requires.clearing
-          c.args.to.least deadline c.from.result by c.args.to.into told.result c.leave.result.effort
+      clears = kept_clears b from c.args.pass.now told.new.pass c.requires.quiet c.requires.clearing
+          c.args.to.least c.from.result by c.args.to.into told.result c.leave.result.effort
           same (c.from.ensures ∙ c.row_moved_by.ensures.value from.segment from.row by c.args.to.into) c.cutoff_of-cutoff.ensures.enough told.ensures.keeps;
     }

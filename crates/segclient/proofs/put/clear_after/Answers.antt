@@ -13,7 +13,7 @@ returns-in_default c =
       queues = refl;
       cleared = c.requires.cleared;
       clears = record {
-        some = nothing_cleared b c.args.policy.cutoff c.args.policy.deadline c.none.result c.args.pass.now c.none.ensures;
+        some = nothing_cleared b c.args.policy.cutoff c.none.result c.args.pass.now c.none.ensures;
         unasked = λ other. refl;
         unqueued = λ none. refl;
       };
@@ -21,7 +21,7 @@ returns-in_default c =
 
 pub returns-then-not-is_due-clause-clears : goal.returns-then-not-is_due-clause-clears
 returns-then-not-is_due-clause-clears c = record {
-  some = nothing_cleared (board_of c.args.index.now) c.args.policy.cutoff c.args.policy.deadline c.none-then-not-is_due.result c.args.pass.now c.none-then-not-is_due.ensures;
+  some = nothing_cleared (board_of c.args.index.now) c.args.policy.cutoff c.none-then-not-is_due.result c.args.pass.now c.none-then-not-is_due.ensures;
   unasked = λ other. refl;
   unqueued = λ none. refl;
 }

@@ -29,8 +29,8 @@ returns-clause-packed c = λ key value k v e.
     let value_words : List ℕ → List ℕ = λ ws. take VALUE_WORDS (drop (value_place (slice_index ws 0)) ws) in
     let header = ap (λ (ws : List ℕ). slice_index ws 0) e in
     let same_value = c.read_value.ensures.packed key value k v header
-        (ap (λ (n : ℕ). take VALUE_WORDS (drop (value_place n) (row_of key value))) (sym header)
-        ∙ ap value_words e ∙ sym c.value_of.ensures) in
+    (ap (λ (n : ℕ). take VALUE_WORDS (drop (value_place n) (row_of key value))) (sym header)
+    ∙ ap value_words e ∙ sym c.value_of.ensures) in
     λ i. Some (same_key i, same_value i)
 
 pub returns-clause-some : goal.returns-clause-some

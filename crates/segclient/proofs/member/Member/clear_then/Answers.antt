@@ -3,14 +3,13 @@ use Rattle.std.proofs.lemmas.Bool.{false≢true}
 use Rattle.segbase.specs.Words.{number}
 use Rattle.segindex.specs.Words.{board_of}
 use Rattle.segclient.specs.Clearing.{ClearsSome, IsCleared}
-use Rattle.segclient.specs.Puts.{deadline_of}
 use Rattle.segclient.specs.Rings.{IsOwnRing}
 use Rattle.segclient.proofs.Steps.{nothing_cleared}
 use Rattle.segclient.proofs.member.Member.clear_then.Goals as goal
 
 pub returns-in_default-clause-clears : goal.returns-in_default-clause-clears
 returns-in_default-clause-clears c = let old = c.args.self.now in record {
-  some = nothing_cleared (board_of c.args.index.now) old.cutoff (deadline_of old) c.none.result old.pass c.none.ensures;
+  some = nothing_cleared (board_of c.args.index.now) old.cutoff c.none.result old.pass c.none.ensures;
   unasked = λ other. (refl, refl);
   unqueued = λ none. (refl, refl);
   stats = refl;
@@ -20,7 +19,7 @@ returns-in_default-clause-clears c = let old = c.args.self.now in record {
 
 pub returns-then-is_none-clause-clears : goal.returns-then-is_none-clause-clears
 returns-then-is_none-clause-clears c = let old = c.args.self.now in record {
-  some = nothing_cleared (board_of c.args.index.now) old.cutoff (deadline_of old) c.none-then-is_none.result old.pass c.none-then-is_none.ensures;
+  some = nothing_cleared (board_of c.args.index.now) old.cutoff c.none-then-is_none.result old.pass c.none-then-is_none.ensures;
   unasked = λ other. (refl, refl);
   unqueued = λ none. (refl, refl);
   stats = refl;
@@ -30,7 +29,7 @@ returns-then-is_none-clause-clears c = let old = c.args.self.now in record {
 
 pub returns-then-not-is_due-clause-clears : goal.returns-then-not-is_due-clause-clears
 returns-then-not-is_due-clause-clears c = let old = c.args.self.now in record {
-  some = nothing_cleared (board_of c.args.index.now) old.cutoff (deadline_of old) c.none-then-not-is_due.result old.pass c.none-then-not-is_due.ensures;
+  some = nothing_cleared (board_of c.args.index.now) old.cutoff c.none-then-not-is_due.result old.pass c.none-then-not-is_due.ensures;
   unasked = λ other. absurd (other c.in-Stored.is);
   unqueued = λ none. absurd (false≢true (sym none ∙ c.is_none.ensures ∙ ap not c.if-is_none.false));
   stats = refl;
@@ -54,7 +53,7 @@ returns-clause-clears c =
     let b = board_of c.args.index.now in
     let after = c.clear_some in
     record {
-      some = subst (λ policy. ClearsSome b policy.cutoff policy.deadline after.result old.pass after.new.pass) c.policy-policy.ensures after.ensures.clears;
+      some = subst (λ policy. ClearsSome b policy.cutoff after.result old.pass after.new.pass) c.policy-policy.ensures after.ensures.clears;
       unasked = λ other. absurd (other c.in-Stored.is);
       unqueued = λ none. absurd (false≢true (sym none ∙ c.is_none.ensures ∙ ap not c.if-is_none.false));
       stats = refl;

@@ -56,11 +56,12 @@ returns-clause-puts c =
     chosen q) is.moment put.ensures.puts) in
     let cleared = after.ensures.clears in
     let some = cleared.some in
-    let clears = subst (λ cutoff. Clears b cutoff policy.deadline some.steps q after.new.pass) is.cutoff some.clears in
+    let clears = subst (λ cutoff. Clears b cutoff some.steps q after.new.pass) is.cutoff some.clears in
     record {
       until = policy.deadline;
       span = policy.span;
       life = is.life;
+      deadline = is.deadline;
       calls = whole.calls;
       chosen = chosen;
       between = q;
@@ -79,7 +80,7 @@ returns-clause-puts c =
       few_steps = some.few;
       unasked = cleared.unasked;
       unqueued = λ none. cleared.unqueued (put.ensures.queues ∙ none);
-      memo = (clears_come b old.cutoff policy.deadline some.steps q after.new.pass put.ensures.on.quiet clears).memo
+      memo = (clears_come b old.cutoff some.steps q after.new.pass put.ensures.on.quiet clears).memo
           ∙ put_memo b plan (number chosen) told whole.calls chosen q from.on.quiet whole.answer whole.not_stored whole.makes ∙ from.memo;
       stats = c.count.ensures ∙ ap (λ tally. counted tally c.count_effort-2.new.self) c.of_put.ensures
           ∙ ap (counted (put_tally told)) (c.count_effort-2.ensures ∙ steps_counted some.steps after.result c.count_effort.new.self some.comes

@@ -13,5 +13,5 @@ pub returns-clause-value : goal.returns-clause-value
 returns-clause-value c =
     c.from_words.ensures.value
     ∙ bytes_of_words VALUE_WORDS VALUE_BYTES c.args.self.now c.words.result c.self.inside.len
-        (AreBytes-from_All c.args.self.now c.words.ensures.valid.all_bytes) refl c.words.ensures.valid.fits
-        c.words.ensures.value (sym c.self.invariant.same_len ∙ ap length c.self.view_is)
+    (AreBytes-from_All c.args.self.now c.words.ensures.valid.all_bytes) refl c.words.ensures.valid.fits
+    c.words.ensures.value (sym c.self.invariant.same_len ∙ ap length c.self.view_is)
