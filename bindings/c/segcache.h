@@ -174,6 +174,8 @@ uint32_t segcache_raw_gets_many(segcache_handle *client, const uint8_t *keys, si
                                 size_t count, uint32_t now);
 uint32_t segcache_raw_put(segcache_handle *client, const uint8_t *key, size_t key_len, const uint8_t *value,
                           size_t value_len, uint32_t now);
+uint32_t segcache_raw_put_for(segcache_handle *client, const uint8_t *key, size_t key_len, const uint8_t *value,
+                              size_t value_len, uint32_t seconds, uint32_t now);
 uint32_t segcache_raw_set(segcache_handle *client, const uint8_t *key, size_t key_len, const uint8_t *value,
                           size_t value_len, uint32_t now);
 uint32_t segcache_raw_add(segcache_handle *client, const uint8_t *key, size_t key_len, const uint8_t *value,
@@ -376,6 +378,17 @@ static inline uint32_t segcache_put(segcache_client *client, const void *key, si
 
 /* A put by one of the clients, which the key chooses: so one thread fills a cache, and uses the room of all clients. A
    key that is filled twice goes to the same client. Call it before the clients are handed to their threads, as each
+/* A put of an item with a time to live of its own, in place of the client's: it lives for that time at most, and for
+   seven eighths of it at least, unless it is evicted, replaced or deleted before. Any number will do. At 0 the item is
+   absent at once, and at 4294967295 it doesn't expire before `now` is 4294967295. Answers as segcache_put. */
+static inline uint32_t segcache_put_for(segcache_client *client, const void *key, size_t key_len, const void *value,
+                                        size_t value_len, uint32_t seconds, uint32_t now) {
+  SEGCACHE_BYTES(key, key_len);
+  SEGCACHE_BYTES(value, value_len);
+  return SEGCACHE_CALL(client, segcache_raw_put_for(&client->raw, (const uint8_t *)key, key_len, (const uint8_t *)value,
+                                                    value_len, seconds, now));
+}
+
    of them may be called here. Answers as segcache_put. */
 static inline uint32_t segcache_fill(segcache_client *clients, uint32_t count, const void *key, size_t key_len,
                                      const void *value, size_t value_len, uint32_t now) {
@@ -495,7 +508,7 @@ static inline uint32_t segcache_note_free(segcache_note_t *note) {
 /* --- Settings, room and counts ---------------------------------------------------------------------- */
 
 /* What segcache_put stores from now on lives for this time at most, and for seven eighths of it at least, unless it is
-   evicted, replaced or deleted before. A client may set another time before each put. A set, add, replace or cas
+   evicted, replaced or deleted before. segcache_put_for has a time of its own. A set, add, replace or cas
    stores into the segment of the client's last put or make_room, and expires with it. After a change of time call
    segcache_make_room before it. At the start the time is 4294967295. Answers: OK, NO_HANDLE. */
 static inline uint32_t segcache_set_time_to_live(segcache_client *client, uint32_t time_to_live) {

@@ -81,6 +81,10 @@ uint32_t put(segcache_client *client, const char *key, const char *value, uint32
   return segcache_put(client, key, strlen(key), value, strlen(value), now);
 }
 
+uint32_t put_for(segcache_client *client, const char *key, const char *value, uint32_t seconds, uint32_t now) {
+  return segcache_put_for(client, key, strlen(key), value, strlen(value), seconds, now);
+}
+
 static uint32_t add(segcache_client *client, const char *key, const char *value) {
   return segcache_add(client, key, strlen(key), value, strlen(value), 0);
 }
@@ -220,6 +224,7 @@ static void test_bad_arguments(segcache_client *client) {
     EXPECT(segcache_get(client, key, bad, 0, value, 32, &length), SEGCACHE_BAD_KEY);
     EXPECT(segcache_gets(client, key, bad, 0, value, 32, &length, &version), SEGCACHE_BAD_KEY);
     EXPECT(segcache_put(client, key, bad, value, 1, 0), SEGCACHE_BAD_KEY);
+    EXPECT(segcache_put_for(client, key, bad, value, 1, 1, 0), SEGCACHE_BAD_KEY);
     EXPECT(segcache_set(client, key, bad, value, 1, 0), SEGCACHE_BAD_KEY);
     EXPECT(segcache_add(client, key, bad, value, 1, 0), SEGCACHE_BAD_KEY);
     EXPECT(segcache_replace(client, key, bad, value, 1, 0), SEGCACHE_BAD_KEY);
@@ -227,6 +232,7 @@ static void test_bad_arguments(segcache_client *client) {
     EXPECT(segcache_delete(client, key, bad, 0), SEGCACHE_BAD_KEY);
   }
   EXPECT(segcache_put(client, key, 1, value, sizeof value, 0), SEGCACHE_BAD_VALUE);
+  EXPECT(segcache_put_for(client, key, 1, value, sizeof value, 1, 0), SEGCACHE_BAD_VALUE);
   EXPECT(segcache_set(client, key, 1, value, sizeof value, 0), SEGCACHE_BAD_VALUE);
   EXPECT(segcache_add(client, key, 1, value, sizeof value, 0), SEGCACHE_BAD_VALUE);
   EXPECT(segcache_replace(client, key, 1, value, sizeof value, 0), SEGCACHE_BAD_VALUE);
@@ -339,6 +345,7 @@ static void test_no_handles(void) {
     EXPECT(segcache_get_many(no, key, 1, 0, &lookup, 1), SEGCACHE_NO_HANDLE);
     EXPECT(segcache_gets_many(no, key, 1, 0, &lookup, 1), SEGCACHE_NO_HANDLE);
     EXPECT(segcache_put(no, key, 1, value, 1, 0), SEGCACHE_NO_HANDLE);
+    EXPECT(segcache_put_for(no, key, 1, value, 1, 1, 0), SEGCACHE_NO_HANDLE);
     EXPECT(segcache_set(no, key, 1, value, 1, 0), SEGCACHE_NO_HANDLE);
     EXPECT(segcache_add(no, key, 1, value, 1, 0), SEGCACHE_NO_HANDLE);
     EXPECT(segcache_replace(no, key, 1, value, 1, 0), SEGCACHE_NO_HANDLE);

@@ -38,6 +38,7 @@ void free_blocks(void);
   } while (0)
 
 uint32_t put(segcache_client *client, const char *key, const char *value, uint32_t now);
+uint32_t put_for(segcache_client *client, const char *key, const char *value, uint32_t seconds, uint32_t now);
 /* Whether the client reads the value under the key, or none if NULL is wanted. */
 int reads(segcache_client *client, const char *key, uint32_t now, const char *wanted);
 

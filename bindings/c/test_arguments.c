@@ -89,6 +89,9 @@ uint32_t segcache_raw_gets_many(H client, MANY) {
 }
 #define TELL_WRITE(name) tell(name " %p %p %zu %p %zu %u", AT client, AT key, key_len, AT value, value_len, now)
 uint32_t segcache_raw_put(WRITE) { return TELL_WRITE("put"); }
+uint32_t segcache_raw_put_for(H client, BYTES, IN, uint32_t seconds, uint32_t now) {
+  return tell("put_for %p %p %zu %p %zu %u %u", AT client, AT key, key_len, AT value, value_len, seconds, now);
+}
 uint32_t segcache_raw_set(WRITE) { return TELL_WRITE("set"); }
 uint32_t segcache_raw_add(WRITE) { return TELL_WRITE("add"); }
 uint32_t segcache_raw_replace(WRITE) { return TELL_WRITE("replace"); }
@@ -178,6 +181,7 @@ static void test_writes(segcache_client *client) {
   const char key[] = "key", value[] = "value";
   void *raw = &client->raw;
   PASSES(segcache_put(client, key, 3, value, 5, 201), "put %p %p 3 %p 5 201", raw, AT key, AT value);
+  PASSES(segcache_put_for(client, key, 2, value, 1, 78, 208), "put_for %p %p 2 %p 1 78 208", raw, AT key, AT value);
   PASSES(segcache_set(client, key, 2, value, 4, 202), "set %p %p 2 %p 4 202", raw, AT key, AT value);
   PASSES(segcache_add(client, key, 1, value, 3, 203), "add %p %p 1 %p 3 203", raw, AT key, AT value);
   PASSES(segcache_replace(client, key, 3, value, 2, 204), "replace %p %p 3 %p 2 204", raw, AT key, AT value);
@@ -332,6 +336,7 @@ static void test_null_handles(segcache *cache, segcache_client *client) {
   STOPS(segcache_get_many(NULL, "k", 1, 0, &lookup, 1), SEGCACHE_NO_HANDLE);
   STOPS(segcache_gets_many(NULL, "k", 1, 0, &lookup, 1), SEGCACHE_NO_HANDLE);
   STOPS(segcache_put(NULL, "k", 1, "v", 1, 0), SEGCACHE_NO_HANDLE);
+  STOPS(segcache_put_for(NULL, "k", 1, "v", 1, 1, 0), SEGCACHE_NO_HANDLE);
   STOPS(segcache_set(NULL, "k", 1, "v", 1, 0), SEGCACHE_NO_HANDLE);
   STOPS(segcache_add(NULL, "k", 1, "v", 1, 0), SEGCACHE_NO_HANDLE);
   STOPS(segcache_replace(NULL, "k", 1, "v", 1, 0), SEGCACHE_NO_HANDLE);
@@ -402,6 +407,8 @@ static void test_pointers(segcache_client *client, segcache_cursor *cursor) {
   ABORTS(segcache_gets_many(client, &lookups[1], 1, 0, lookups, 2));
   ABORTS(segcache_put(client, NULL, 1, "v", 1, 0));
   ABORTS(segcache_put(client, "k", 1, NULL, 1, 0));
+  ABORTS(segcache_put_for(client, NULL, 1, "v", 1, 1, 0));
+  ABORTS(segcache_put_for(client, "k", 1, NULL, 1, 1, 0));
   ABORTS(segcache_set(client, NULL, 1, "v", 1, 0));
   ABORTS(segcache_set(client, "k", 1, NULL, 1, 0));
   ABORTS(segcache_add(client, NULL, 1, "v", 1, 0));

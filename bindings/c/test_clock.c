@@ -58,7 +58,8 @@ static void test_puts(segcache_client *client) {
   CHECK(readers(client, 120) == 0);
 }
 
-/* Items of one client with several times to live, put by turns: each lives as its own time says. */
+/* Items of one client with several times to live, put by turns: each lives as its own time says. By turns it is the
+ * put's own time, and the client's. */
 static void test_several_times(segcache_client *client) {
   const struct {
     const char *key;
@@ -66,8 +67,9 @@ static void test_several_times(segcache_client *client) {
   } kinds[] = {{"minutes", 300}, {"hours", 3600}, {"forever", UINT32_MAX}};
   for (uint32_t now = 1000; now < 1200; now += 50)
     for (int i = 0; i < 3; i++) {
-      EXPECT(segcache_set_time_to_live(client, kinds[i].seconds), SEGCACHE_OK);
-      EXPECT(put(client, kinds[i].key, "v", now), SEGCACHE_OK);
+      if (now % 100 == 0) EXPECT(segcache_set_time_to_live(client, kinds[i].seconds), SEGCACHE_OK);
+      if (now % 100 == 0) EXPECT(put(client, kinds[i].key, "v", now), SEGCACHE_OK);
+      else EXPECT(put_for(client, kinds[i].key, "v", kinds[i].seconds, now), SEGCACHE_OK);
     }
   CHECK(reads(client, "minutes", 1150 + 262, "v"));
   CHECK(reads(client, "minutes", 1150 + 300, NULL));
@@ -75,6 +77,22 @@ static void test_several_times(segcache_client *client) {
   CHECK(reads(client, "hours", 1150 + 3600, NULL));
   CHECK(reads(client, "forever", 1150 + 3600, "v"));
   CHECK(reads(client, "forever", 4294967294, "v"));
+}
+
+/* A put for a time of its own leaves the client's time as it is. At 0 what is put is absent at once, and the value from
+ * before is gone. */
+static void test_own_time(segcache_client *client) {
+  EXPECT(segcache_set_time_to_live(client, 80), SEGCACHE_OK);
+  EXPECT(put_for(client, "short", "v", 8, 2000), SEGCACHE_OK);
+  EXPECT(put(client, "long", "v", 2000), SEGCACHE_OK);
+  CHECK(reads(client, "short", 2006, "v"));
+  CHECK(reads(client, "short", 2008, NULL));
+  CHECK(reads(client, "long", 2069, "v"));
+  CHECK(reads(client, "long", 2080, NULL));
+  EXPECT(put_for(client, "long", "w", 0, 2001), SEGCACHE_OK);
+  CHECK(reads(client, "long", 2001, NULL));
+  EXPECT(put_for(client, "k", "v", UINT32_MAX, 4294967294), SEGCACHE_OK);
+  CHECK(readers(client, 4294967294) == EACH);
 }
 
 void test_clock(void) {
@@ -86,6 +104,7 @@ void test_clock(void) {
   test_reads_and_writes(&client);
   test_puts(&client);
   test_several_times(&client);
+  test_own_time(&client);
   EXPECT(segcache_give_back(&cache, &client), SEGCACHE_OK);
   EXPECT(segcache_free(&cache), SEGCACHE_OK);
 }

@@ -56,6 +56,7 @@ static void write_and_delete(void) {
   size_t length;
   uint32_t version;
   expect(segcache_make_room(&clients[0], 0), SEGCACHE_OK);
+  expect(segcache_put_for(&clients[0], "k", 1, "v", 1, UINT32_MAX, 0), SEGCACHE_OK);
   expect(segcache_set(&clients[0], "k", 1, "v", 1, 0), SEGCACHE_OK);
   expect(segcache_add(&clients[0], "k", 1, "v", 1, 0), SEGCACHE_NOT_STORED);
   expect(segcache_replace(&clients[0], "k", 1, "v", 1, 0), SEGCACHE_OK);
@@ -136,7 +137,7 @@ int main(void) {
                {"put", put},
                {"get", get},
                {"get_many", get_many},
-               {"write, delete", write_and_delete},
+               {"put_for, write, delete", write_and_delete},
                {"hold", hold},
                {"note", take_note},
                {"count", count},

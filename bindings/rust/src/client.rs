@@ -163,6 +163,26 @@ impl Client {
         done(self.write(raw::segcache_raw_put, key.as_ref(), value.as_ref()))
     }
 
+    /// A [`Client::put`] of an item with a time to live of its own, in place of the client's: it lives for that time
+    /// at most, and for seven eighths of it at least, unless it is evicted, replaced or deleted before. Any number
+    /// will do. At 0 the item is absent at once.
+    ///
+    /// # Errors
+    /// As [`Client::put`].
+    pub fn put_for(
+        &self,
+        key: impl AsRef<[u8]>,
+        value: impl AsRef<[u8]>,
+        time_to_live: u32,
+    ) -> Result<(), Error> {
+        let (key, value, now) = (key.as_ref(), value.as_ref(), self.now.get());
+        let (at, length) = (value.as_ptr(), value.len());
+        // SAFETY: the handle is this client's, and the slices are borrowed.
+        done(unsafe {
+            raw::segcache_raw_put_for(self.handle(), key.as_ptr(), key.len(), at, length, time_to_live, now)
+        })
+    }
+
     /// A [`Client::put`] by one of these clients, which the key chooses: so one thread fills a cache, and uses the
     /// room of all clients. A key that is filled twice goes to the same client.
     ///
@@ -266,7 +286,7 @@ impl Client {
 
     /// What this client puts from now on lives for this time at most, and for seven eighths of it at least, unless
     /// it is evicted, replaced or deleted before. The unit is that of `set_now`, whose clock stands still until it is
-    /// set again. A client may set another time before each put. An add, a replace or a cas stores into the segment
+    /// set again. [`Client::put_for`] has a time of its own. An add, a replace or a cas stores into the segment
     /// of the last put or `make_room`, and expires with it.
     pub fn set_time_to_live(&self, time_to_live: u32) {
         // SAFETY: the handle is this client's.

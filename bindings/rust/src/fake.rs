@@ -237,6 +237,19 @@ writes! {
     segcache_raw_replace "replace";
 }
 
+pub(crate) unsafe extern "C" fn segcache_raw_put_for(
+    client: *mut Handle,
+    key: *const u8,
+    key_len: usize,
+    value: *const u8,
+    value_len: usize,
+    seconds: u32,
+    now: u32,
+) -> u32 {
+    let (key, value) = (text(key, key_len), text(value, value_len));
+    tell(format!("put_for {} {key} {value} {seconds} {now}", number(client)))
+}
+
 pub(crate) unsafe extern "C" fn segcache_raw_cas(
     client: *mut Handle,
     key: *const u8,

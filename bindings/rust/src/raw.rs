@@ -51,6 +51,7 @@ extern "C" {
     pub(crate) fn segcache_raw_get_many(client: *mut Handle, keys: *const u8, keys_len: usize, lookups: *mut Lookup, count: usize, now: u32) -> u32;
     pub(crate) fn segcache_raw_gets_many(client: *mut Handle, keys: *const u8, keys_len: usize, lookups: *mut Lookup, count: usize, now: u32) -> u32;
     pub(crate) fn segcache_raw_put(client: *mut Handle, key: *const u8, key_len: usize, value: *const u8, value_len: usize, now: u32) -> u32;
+    pub(crate) fn segcache_raw_put_for(client: *mut Handle, key: *const u8, key_len: usize, value: *const u8, value_len: usize, seconds: u32, now: u32) -> u32;
     pub(crate) fn segcache_raw_set(client: *mut Handle, key: *const u8, key_len: usize, value: *const u8, value_len: usize, now: u32) -> u32;
     pub(crate) fn segcache_raw_add(client: *mut Handle, key: *const u8, key_len: usize, value: *const u8, value_len: usize, now: u32) -> u32;
     pub(crate) fn segcache_raw_replace(client: *mut Handle, key: *const u8, key_len: usize, value: *const u8, value_len: usize, now: u32) -> u32;

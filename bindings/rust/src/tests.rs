@@ -72,6 +72,7 @@ fn each_read_hands_its_arguments_on() {
 fn each_write_hands_its_arguments_on() {
     let (_cache, client) = at(9);
     passes(|| client.put("k", "v"), "put 100 k v 9", &[]);
+    passes(|| client.put_for("kf", "vf", 56), "put_for 100 kf vf 56 9", &[]);
     passes(|| client.set("ka", "va"), "set 100 ka va 9", &[]);
     passes(|| client.add("kb", "vb"), "add 100 kb vb 9", &[]);
     client.set_now(10);

@@ -188,6 +188,20 @@ fn what_is_stored_expires_for_each_write_that_looks_first() {
     assert!(!is_read_at(&client, 110)); // where the deadline of its segment has come
 }
 
+// A put for a time of its own leaves the client's time as it is. At 0 what is put is absent at once.
+#[test]
+fn what_is_put_for_a_time_of_its_own_lives_by_that() {
+    let (_cache, client) = until_110();
+    client.put_for("k", "v", 80).unwrap();
+    client.put("other", "v").unwrap();
+    assert!(is_read_at(&client, 105 + 69));
+    assert_eq!(client.get("other"), Ok(None));
+    assert!(!is_read_at(&client, 105 + 80));
+    client.set_now(105);
+    client.put_for("k", "v", 0).unwrap();
+    assert!(!is_read_at(&client, 105));
+}
+
 // What is put lives for its time at most, and for seven eighths of it at least: here for 9 or 10.
 #[test]
 fn what_is_put_lives_for_seven_eighths_of_its_time() {

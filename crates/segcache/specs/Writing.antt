@@ -6,7 +6,7 @@ use Rattle.segmodel.specs.declared.answer.WriteAnswer.TheVariants as write
 use Rattle.segclient.specs.declared.put.PutAnswer.{PutAnswer}
 use Rattle.segclient.specs.declared.put.PutAnswer.TheVariants as put
 use Rattle.segclient.specs.Made.{DeletesKey}
-use Rattle.segclient.specs.Puts.{Puts}
+use Rattle.segclient.specs.Puts.{Puts, PutsFor}
 use Rattle.segcache.specs.declared.client.SharedClient.{SharedClient}
 use Rattle.segcache.specs.declared.kept.Kept.{Kept}
 use Rattle.segcache.specs.declared.status.Status.{Status}
@@ -52,6 +52,21 @@ abbrev pub Put : List ℕ → List ℕ → ℕ → Option Kept → Option Kept �
 Put key value now before after returned =
     ByClient (Returns returned)
     (ByKey (Returns returned) key (ByValue (Returns returned) value (MakesPut key value now returned)))
+    before after
+
+-- the client's put of the value for this time to live had the answer of this status
+pub record MakesPutFor (seconds : ℕ) (key value : List ℕ) (now : ℕ) (returned : Status)
+    (old new : SharedClient) : Type 0 where
+  pub answer : PutAnswer
+  pub calls : CallsKey key (At now (PutsFor seconds key value answer)) old new
+  pub wants : new.wants ≡ put_wants answer (shard_of (length old.guests.items) key)
+  pub returns : returned ≡ put_status answer
+
+abbrev pub PutFor : ℕ → List ℕ → List ℕ → ℕ → Option Kept → Option Kept → Status → Type 0
+PutFor seconds key value now before after returned =
+    ByClient (Returns returned)
+    (ByKey (Returns returned) key
+    (ByValue (Returns returned) value (MakesPutFor seconds key value now returned)))
     before after
 
 -- the client's write of the value had the answer of this status

@@ -11,7 +11,7 @@ use segclient::{
 
 impl Guest {
     ghost use Rattle.segclient.specs.Made.{DeletesKey, Gets, GetsVersion};
-    ghost use Rattle.segclient.specs.Puts.{Puts};
+    ghost use Rattle.segclient.specs.Puts.{Puts, PutsFor};
     ghost use Rattle.segcache.specs.Guest.{At, MakesCall};
 
     /// The value under a key.
@@ -36,6 +36,15 @@ impl Guest {
     {
         self.member.set_now(now);
         self.member.put(self.share.index(), key, value)
+    }
+
+    /// Stores the value under the key as `put` does, but for this time to live.
+    pub(crate) fn put_for(&mut self, key: &Key, value: &Value, seconds: u32, now: u32) -> PutAnswer
+        ensures { MakesCall (At now (PutsFor seconds key.now value.now result))
+            self.old self.new }
+    {
+        self.member.set_now(now);
+        self.member.put_for(self.share.index(), key, value, seconds)
     }
 
     /// Stores the value under the key, if that is to be, and makes no room.

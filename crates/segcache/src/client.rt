@@ -26,7 +26,7 @@ pub struct SharedClient {
 impl SharedClient {
     ghost use Rattle.std.specs.Prelude.{length, None};
     ghost use Rattle.segclient.specs.Made.{DeletesKey, Gets, GetsVersion};
-    ghost use Rattle.segclient.specs.Puts.{Puts};
+    ghost use Rattle.segclient.specs.Puts.{Puts, PutsFor};
     ghost use Rattle.segshards.specs.Shards.{shard_of};
     ghost use Rattle.segcache.specs.Calls.{CallsKey, MakesCall};
     ghost use Rattle.segcache.specs.Guest.{At};
@@ -85,6 +85,21 @@ impl SharedClient {
         let place = self.place_of(key);
         let guest = &mut self.guests[place];
         let answer = guest.put(key, value, now);
+        self.wants = put_wants(answer, place);
+        answer
+    }
+
+    /// Stores the value under the key as `put` does, but for this time to live in place
+    /// of the client's own.
+    pub(crate) fn put_for(&mut self, key: &Key, value: &Value, seconds: u32, now: u32) -> PutAnswer
+        ensures calls { CallsKey key.now (At now (PutsFor seconds key.now value.now result))
+            self.old self.new }
+        ensures wants { self.new.wants
+            ≡ put_wants result (shard_of (length self.old.guests.items) key.now) }
+    {
+        let place = self.place_of(key);
+        let guest = &mut self.guests[place];
+        let answer = guest.put_for(key, value, seconds, now);
         self.wants = put_wants(answer, place);
         answer
     }

@@ -1,7 +1,7 @@
 //! The exports that write.
 ghost use Rattle.std.specs.Prelude.{◌≡◌, Some};
 ghost use Rattle.segcache.specs.Exports.{Answers};
-ghost use Rattle.segcache.specs.Writing.{delete_status, Deleted, Put, put_status};
+ghost use Rattle.segcache.specs.Writing.{delete_status, Deleted, Put, put_status, PutFor};
 ghost use Rattle.segcache.specs.Writing.{write_status, Wrote};
 
 use crate::handle::Handle;
@@ -81,6 +81,43 @@ fn put(kept: &mut Kept, key: &[u8], value: &[u8], now: u32) -> Status
         return Status::BadValue;
     };
     of_put(client.put(&key, &value, now))
+}
+
+/// Stores a value under a key as `segcache_raw_put` does, but for this time to live in place
+/// of the client's own.
+#[unsafe(no_mangle)]
+pub extern "C" fn segcache_raw_put_for(
+    alloc: Global,
+    client: &mut Handle,
+    key: &[u8],
+    value: &[u8],
+    seconds: u32,
+    now: u32,
+) -> u32
+    ensures { Answers result (PutFor seconds key.now value.now now
+        client.old.value client.new.value) }
+{
+    let Some(mut kept) = client.take(alloc) else {
+        return Status::NoHandle.number();
+    };
+    let status = put_for(&mut kept, key, value, seconds, now);
+    client.fill(alloc, kept);
+    status.number()
+}
+
+fn put_for(kept: &mut Kept, key: &[u8], value: &[u8], seconds: u32, now: u32) -> Status
+    ensures { PutFor seconds key.now value.now now (Some kept.old) (Some kept.new) result }
+{
+    let Kept::Client(client) = kept else {
+        return Status::NoHandle;
+    };
+    let Some(key) = Key::new(key) else {
+        return Status::BadKey;
+    };
+    let Some(value) = Value::new(value) else {
+        return Status::BadValue;
+    };
+    of_put(client.put_for(&key, &value, seconds, now))
 }
 
 /// Stores a value under a key, and makes no room.

@@ -1,0 +1,13 @@
+use Rattle.std.proofs.Common.{refl}
+use Rattle.segcache.specs.declared.kept.Kept.{Kept}
+use Rattle.segcache.specs.declared.status.Status.{Status}
+use Rattle.std.proofs.Common.{Option}
+use Rattle.segcache.specs.Writing.{PutFor}
+use Rattle.segcache.proofs.Answering.{unanswered}
+use Rattle.segcache.proofs.writing.segcache_raw_put_for.Goals as goal
+
+pub returns-in_default : goal.returns-in_default
+returns-in_default c =
+    let Does = λ (b a : Option Kept) (returned : Status).
+    PutFor c.args.seconds c.args.key.now c.args.value.now c.args.now b a returned in
+    unanswered Does _ _ _ c.in_default.ensures.taken c.take.ensures.none c.number.ensures (refl, refl)
