@@ -9,7 +9,7 @@
 #include <stdio.h>
 #include <stdlib.h>
 
-enum { THREADS = 4, EVENTS = 1000, ROUNDS = 4, TRIES = 1000 };
+enum { THREADS = 4, EVENTS = 1000, ROUNDS = 4, TRIES = 10000 };
 
 struct worker {
   segcache_client *client;
@@ -23,7 +23,7 @@ static int is_new(segcache_client *client, uint32_t event) {
     case SEGCACHE_OK: return 1;
     case SEGCACHE_NOT_STORED: return 0;
     case SEGCACHE_NO_ROOM: segcache_make_room(client, 0); break;
-    default: break; /* busy: once more */
+    default: sched_yield(); /* busy: whoever works on the bucket may wait for this processor */
     }
   }
   return -1;
@@ -45,7 +45,7 @@ int main(void) {
   segcache_client clients[THREADS];
   pthread_t threads[THREADS];
   struct worker workers[THREADS];
-  if (segcache_open_for_writers(EVENTS, THREADS, 1, &cache, clients) != SEGCACHE_OK) return puts("no cache"), 1;
+  if (segcache_open(EVENTS, THREADS, &cache, clients) != SEGCACHE_OK) return puts("no cache"), 1;
   for (uint32_t i = 0; i < THREADS; i++) {
     workers[i] = (struct worker){&clients[i], i * EVENTS / THREADS, 0, 0};
     if (pthread_create(&threads[i], NULL, watch, &workers[i]) != 0) abort();

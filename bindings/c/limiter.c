@@ -1,9 +1,9 @@
 // SPDX-License-Identifier: MIT
 /* An example: a rate limiter. Of each address so many requests may pass. Four clients count them in one cache, by gets
- * and cas. No counter may be evicted: its address would begin again at 0.
- *     limiter            each client on a thread. One that runs while others wait soon has all counters in its share,
- *                        so each share has room for all, and eight times that
- *     limiter turns      by the clients in turn, in one thread: they store alike, and the cache is opened for the counters */
+ * and cas. No counter may be evicted: its address would begin again at 0. A thread that runs while others wait soon has
+ * all counters in its share. In a cache as small as this one each share has room for them.
+ *     limiter            each client on a thread
+ *     limiter turns      by the clients in turn, in one thread */
 #define _POSIX_C_SOURCE 200809L
 #include "segcache.h"
 
@@ -67,13 +67,12 @@ static void serve_in_turn(struct worker *workers) {
 
 int main(int count, char **words) {
   int turns = count > 1 && strcmp(words[1], "turns") == 0;
-  uint32_t status, passed = 0, failed = 0;
+  uint32_t passed = 0, failed = 0;
   uint64_t evicted = 0;
   segcache cache;
   segcache_client clients[CLIENTS];
   struct worker workers[CLIENTS];
-  if (turns) status = segcache_open(ADDRESSES, CLIENTS, &cache, clients);
-  else status = segcache_open_for_writers(8 * ADDRESSES, CLIENTS, 1, &cache, clients);
+  uint32_t status = segcache_open(ADDRESSES, CLIENTS, &cache, clients);
   if (status != SEGCACHE_OK) return puts(segcache_text(status)), 1;
   for (uint32_t i = 0; i < CLIENTS; i++) workers[i] = (struct worker){&clients[i], i, 0, 0};
   if (turns) serve_in_turn(workers);

@@ -251,12 +251,14 @@ static inline uint32_t segcache_hand_out(uint32_t status, segcache_handle made, 
 }
 
 /* Makes a cache for so many keys, and a client for each of so many threads (1 to 64). Each client stores into its own
-   equal share of the room. So all keys fit if the clients store about as many each. There is a table for every 200,000
-   keys, and each key belongs to one of the tables by its hash. A call on a key goes to that table alone.
-   It takes all memory at once, but for that of notes and of a close: 174 to 214 bytes a key, and up to 34 MB more for a
-   moment. `cache` and `clients[threads]` are written,
-   whatever they were: if they are of a cache that is still open, that one is lost. If the answer is not OK they are
-   zeroed, of more than 64 clients the first 64. Answers: OK, BAD_SHAPE, OUT_OF_MEMORY; OTHER_VERSION or OTHER_SIZES, if
+   equal share of the room. So all keys fit if the clients store about as many each. In a small cache, for at most
+   65,536 / threads keys, all keys fit whichever clients store them: each of several clients has room for eight times
+   the keys, or for 65,536 / threads if that is less. There is a table for every 200,000 keys, and each key belongs to
+   one of the tables by its hash. A call on a key goes to that table alone.
+   It takes all memory at once, but for that of notes and of a close: 174 to 214 bytes a key, for a small cache up to
+   11 MB in all, and up to 34 MB more for a moment. `cache` and `clients[threads]` are written, whatever they were: if
+   they are of a cache that is still open, that one is lost. If the answer is not OK they are zeroed, of more than 64
+   clients the first 64. Answers: OK, BAD_SHAPE, OUT_OF_MEMORY; OTHER_VERSION or OTHER_SIZES, if
    the library has another version than this header, or other sizes, and nothing was made. */
 static inline uint32_t segcache_open(uint32_t keys, uint32_t threads, segcache *cache, segcache_client *clients) {
   segcache_handle made, raw[SEGCACHE_MAX_THREADS];
@@ -376,8 +378,6 @@ static inline uint32_t segcache_put(segcache_client *client, const void *key, si
       client, segcache_raw_put(&client->raw, (const uint8_t *)key, key_len, (const uint8_t *)value, value_len, now));
 }
 
-/* A put by one of the clients, which the key chooses: so one thread fills a cache, and uses the room of all clients. A
-   key that is filled twice goes to the same client. Call it before the clients are handed to their threads, as each
 /* A put of an item with a time to live of its own, in place of the client's: it lives for that time at most, and for
    seven eighths of it at least, unless it is evicted, replaced or deleted before. Any number will do. At 0 the item is
    absent at once, and at 4294967295 it doesn't expire before `now` is 4294967295. Answers as segcache_put. */
@@ -389,6 +389,8 @@ static inline uint32_t segcache_put_for(segcache_client *client, const void *key
                                                     value_len, seconds, now));
 }
 
+/* A put by one of the clients, which the key chooses: so one thread fills a cache, and uses the room of all clients. A
+   key that is filled twice goes to the same client. Call it before the clients are handed to their threads, as each
    of them may be called here. Answers as segcache_put. */
 static inline uint32_t segcache_fill(segcache_client *clients, uint32_t count, const void *key, size_t key_len,
                                      const void *value, size_t value_len, uint32_t now) {

@@ -23,7 +23,7 @@ static void expect(uint32_t status, uint32_t wanted) {
 
 static void nothing(void) {}
 
-static void open_cache(void) { expect(segcache_open(1000, 2, &cache, clients), SEGCACHE_OK); }
+static void open_cache(void) { expect(segcache_open_for_writers(1000, 2, 2, &cache, clients), SEGCACHE_OK); }
 
 static void get(void) {
   char value[32];
@@ -101,7 +101,7 @@ static void list(void) {
 }
 
 static void open_fill_and_free(void) {
-  expect(segcache_open_for_writers(1000, 2, 1, &cache, clients), SEGCACHE_OK);
+  expect(segcache_open(1000, 2, &cache, clients), SEGCACHE_OK);
   expect(segcache_fill(clients, 2, "k", 1, "v", 1, 0), SEGCACHE_OK);
   for (int i = 0; i < 2; i++) expect(segcache_give_back(&cache, &clients[i]), SEGCACHE_OK);
   expect(segcache_free(&cache), SEGCACHE_OK);
@@ -133,7 +133,7 @@ int main(void) {
   static const struct {
     const char *name;
     void (*call)(void);
-  } calls[] = {{"open", open_cache},
+  } calls[] = {{"open for writers", open_cache},
                {"put", put},
                {"get", get},
                {"get_many", get_many},
@@ -143,7 +143,7 @@ int main(void) {
                {"count", count},
                {"close", close_cache},
                {"list", list},
-               {"open for writers, fill, free", open_fill_and_free}};
+               {"open, fill, free", open_fill_and_free}};
   size_t bare = used_by(nothing);
   for (size_t i = 0; i < sizeof calls / sizeof *calls; i++) {
     size_t used = used_by(calls[i].call) - bare;

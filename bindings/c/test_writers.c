@@ -46,6 +46,22 @@ static void test_rooms(uint32_t keys, uint32_t writers, uint32_t used) {
   give_back(&cache, clients);
 }
 
+/* In a small cache each of several clients has room for all keys, and for eight times as many, if there are rows. */
+static void test_small(void) {
+  const struct {
+    uint32_t keys, stored, evicts;
+  } cases[] = {{KEYS, 8 * KEYS, 0}, {65536 / THREADS, 65536 / THREADS, 0}, {65536 / THREADS + 1, 65536 / THREADS, 1}};
+  for (int i = 0; i < 3; i++) {
+    segcache cache;
+    segcache_client clients[THREADS];
+    EXPECT(segcache_open(cases[i].keys, THREADS, &cache, clients), SEGCACHE_OK);
+    put_all(&clients[1], cases[i].stored);
+    CHECK((evicted_by(&clients[1]) > 0) == cases[i].evicts);
+    CHECK((found(&clients[0], cases[i].stored) < cases[i].stored) == cases[i].evicts);
+    give_back(&cache, clients);
+  }
+}
+
 /* One client updates all keys many times, in a cache for one writer, and in a smaller one. */
 static void test_updates(void) {
   for (uint32_t writers = 1; writers <= THREADS; writers += THREADS - 1) {
@@ -91,6 +107,7 @@ void test_writers(void) {
   test_rooms(KEYS, 4, 4);
   test_rooms(KEYS, 4, 1);
   test_rooms(100000, 1, 1); /* in two tables */
+  test_small();
   test_updates();
   test_fill();
   test_refusals();

@@ -61,8 +61,9 @@ pub struct Builder {
 
 impl Builder {
     /// How many keys the cache is to have room for. 10,000 if it isn't said. Each client stores into its own equal
-    /// share of the room, so all keys fit if the clients store about as many each. There is a table for every
-    /// 200,000 keys, and each key belongs to one of the tables by its hash.
+    /// share of the room, so all keys fit if the clients store about as many each. In a small cache, for at most
+    /// 65,536 / threads keys, all keys fit whichever clients store them. There is a table for every 200,000 keys, and
+    /// each key belongs to one of the tables by its hash.
     #[must_use]
     pub fn keys(mut self, keys: u32) -> Builder {
         self.keys = keys;

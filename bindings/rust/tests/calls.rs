@@ -202,6 +202,14 @@ fn what_is_put_for_a_time_of_its_own_lives_by_that() {
     assert!(!is_read_at(&client, 105));
 }
 
+// A small cache has room for all keys by whichever client, and for eight times as many.
+#[test]
+fn one_client_of_a_small_cache_has_room_for_all_keys() {
+    let (_cache, clients) = Cache::builder().keys(1_000).threads(4).build().unwrap();
+    (0_u32..8_000).for_each(|key| clients[2].put(key.to_le_bytes(), "v").unwrap());
+    assert_eq!(found(&clients[0], 8_000), 8_000);
+}
+
 // What is put lives for its time at most, and for seven eighths of it at least: here for 9 or 10.
 #[test]
 fn what_is_put_lives_for_seven_eighths_of_its_time() {
@@ -329,7 +337,7 @@ fn clients_outlive_their_cache() {
 
 // A cache from its opening to its end, with segments that are recycled.
 fn a_whole_life() {
-    let (cache, clients) = Cache::builder().keys(500).threads(2).build().unwrap();
+    let (cache, clients) = Cache::builder().keys(500).threads(2).writers(2).build().unwrap();
     for key in 0_u32..3_000 {
         clients[0].put(key.to_le_bytes(), [1; 32]).unwrap();
         clients[1].get(key.to_le_bytes()).unwrap();

@@ -1,11 +1,13 @@
 -- What the exports do that open a cache.
-use Rattle.std.specs.Prelude.{◌≡◌, ◌⊎◌, ℕ, Bool, true, false, List, [], ◌∷◌, All, length, map}
+use Rattle.std.specs.Prelude.{◌≡◌, ◌⊎◌, ℕ, ◌*◌, ◌/◌, ◌≤◌, Bool, true, false, min}
+use Rattle.std.specs.Prelude.{List, [], ◌∷◌, All, length, map}
 use Rattle.std.specs.Prelude.{Option, Some, None, is_none, slice_get}
 use Rattle.std.specs.Global.{Box}
 use Rattle.std.specs.List.{AllZip}
 use Rattle.segword.specs.Words.{IsFirstFault, IsValid, Shape}
 use Rattle.segword.specs.declared.shape.ShapeFault.{ShapeFault}
 use Rattle.segshards.specs.declared.plan.ShardPlan.{ShardPlan}
+use Rattle.segshards.specs.declared.shard.TheConstants.{MOST_SHARDS}
 use Rattle.segshards.specs.Budget.{IsFaultOfBudget, IsPlanWithin}
 use Rattle.segshards.specs.Plan.{IsFaultOfPlan, IsPlanFor}
 use Rattle.segshards.specs.Writers.{IsFaultOfWriters, IsPlanForWriters}
@@ -14,6 +16,7 @@ use Rattle.segcache.specs.declared.handle.Handle.{Handle}
 use Rattle.segcache.specs.declared.kept.Kept.{Kept}
 use Rattle.segcache.specs.declared.kept.Kept.TheVariants as kept
 use Rattle.segcache.specs.declared.opening.CacheShape.{CacheShape}
+use Rattle.segcache.specs.declared.opening.TheConstants.{ROOMY_KEYS, ROOMY_TIMES}
 use Rattle.segcache.specs.declared.status.Status.{Status}
 use Rattle.segcache.specs.declared.status.Status.TheVariants as status
 use Rattle.segcache.specs.Making.{IsGuestAt, IsHomeOf, IsNewShard, Shard}
@@ -136,10 +139,23 @@ OpensBy IsPlan IsFault before after clients next returned =
     ⊎ ((fault : ShapeFault) × IsFault fault × (returned ≡ status.BadShape)
     × LeavesAll before after clients next)
 
+-- a cache for several threads, in whose table each of them could have rows for all keys
+abbrev pub IsSmall : ℕ → ℕ → Type 0
+IsSmall keys threads = (2 ≤ threads) × (keys ≤ ROOMY_KEYS / threads)
+
+-- In a small cache each client has room for eight times all keys, or for its part of 65,536 if that
+-- is less, whichever of them store. A larger one has room for the keys, and to spare.
+pub record IsPlanToOpen (keys threads : ℕ) (plan : ShardPlan) : Type 0 where
+  pub small : IsSmall keys threads
+      → IsPlanForWriters (min (ROOMY_TIMES * keys) (ROOMY_KEYS / threads)) threads 1 plan
+  pub large : ¬ (IsSmall keys threads) → IsPlanFor keys threads plan
+  pub some : 1 ≤ plan.count
+  pub few : plan.count ≤ MOST_SHARDS
+
 -- a cache for so many keys
 abbrev pub OpensKeys : ℕ → ℕ → Option Kept → Option Kept → List Handle → List Handle → Status
     → Type 0
-OpensKeys keys threads = OpensBy (IsPlanFor keys threads) (IsFaultOfPlan threads)
+OpensKeys keys threads = OpensBy (IsPlanToOpen keys threads) (IsFaultOfPlan threads)
 
 -- a cache for so many writers, and as many threads as handles
 abbrev pub OpensForWriters : ℕ → ℕ → Option Kept → Option Kept → List Handle → List Handle

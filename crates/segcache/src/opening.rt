@@ -1,18 +1,25 @@
 //! The exports that open a cache.
-ghost use Rattle.std.specs.Prelude.{◌≡◌, ◌≤◌, length, map};
+ghost use Rattle.std.specs.Prelude.{◌≡◌, ◌≤◌, IfErr, IfOk, length, map};
 ghost use Rattle.segcache.specs.Exports.{Answers};
 ghost use Rattle.segcache.specs.Opening.{are_empty, one_of, Opens};
 ghost use Rattle.segcache.specs.Opening.{OpensForBytes, OpensForWriters, OpensKeys};
-ghost use Rattle.segcache.specs.Opening.{put_in, shape_from, values_of};
+ghost use Rattle.segcache.specs.Opening.{IsPlanToOpen, put_in, shape_from, values_of};
+ghost use Rattle.segshards.specs.Plan.{IsFaultOfPlan};
 ghost use Rattle.segshards.specs.declared.shard.TheConstants.{MOST_SHARDS};
 
 use crate::handle::Handle;
 use crate::kept::Kept;
 use crate::making::make;
 use crate::status::Status;
-use segclient::{MakeFault, Shape};
+use segclient::{MakeFault, Shape, ShapeFault};
 use segshards::ShardPlan;
 use std::alloc::Global;
+
+// So many keys the table of a small cache has rows for, at most.
+const ROOMY_KEYS: u32 = 65_536;
+
+// For so many times all keys each client of a small cache has rows, at most.
+const ROOMY_TIMES: u32 = 8;
 
 /// The shape of a cache.
 #[repr(C)]
@@ -38,10 +45,23 @@ pub extern "C" fn segcache_raw_open(
     ensures { Answers result (OpensKeys keys threads cache.old.value cache.new.value
         clients.old clients.new) }
 {
-    match ShardPlan::for_keys(keys, threads) {
+    match plan_to_open(keys, threads) {
         Ok(plan) => open(alloc, plan, cache, clients).number(),
         Err(_) => Status::BadShape.number(),
     }
+}
+
+// The plan of a cache for so many keys. A thread that runs while the others wait can store most
+// of them. So in a small cache each client has room for all keys, and to spare.
+fn plan_to_open(keys: u32, threads: u32) -> Result<ShardPlan, ShapeFault>
+    ensures plan { IfOk result (IsPlanToOpen keys threads) }
+    ensures fault { IfErr result (IsFaultOfPlan threads) }
+{
+    if threads < 2 || keys > ROOMY_KEYS / threads {
+        return ShardPlan::for_keys(keys, threads);
+    }
+    let keys_each = (ROOMY_TIMES * keys).min(ROOMY_KEYS / threads);
+    ShardPlan::for_writers(keys_each, threads, 1)
 }
 
 /// Opens a cache for so many keys, and a client for each handle, in empty handles.
