@@ -34,7 +34,9 @@ static enum store_status status_of(uint32_t status) {
 const char *store_open(struct store *store, const struct store_plan *plan, struct store_client *clients) {
   segcache_client opened[STORE_MOST_CLIENTS];
   if (plan->clients < 1 || plan->clients > STORE_MOST_CLIENTS) return "a store has 1 to 64 clients";
-  uint32_t status = segcache_open(plan->keys, plan->clients, &store->cache, opened);
+  uint32_t status = plan->equal_shares
+                        ? segcache_open_for_writers(plan->keys, plan->clients, plan->clients, &store->cache, opened)
+                        : segcache_open(plan->keys, plan->clients, &store->cache, opened);
   if (status != SEGCACHE_OK) return segcache_text(status);
   store->plan = *plan;
   for (uint32_t i = 0; i < plan->clients; i++) {

@@ -32,6 +32,7 @@ struct store_plan {
   uint32_t clients;      /* 1 to STORE_MOST_CLIENTS */
   uint32_t time_to_live; /* the most seconds that a value lives; 0: until it is evicted */
   uint32_t keep_from;    /* keeps items of this frequency; STORE_BY_QUEUES: what was read, by queues */
+  bool equal_shares;     /* takes no more memory than the keys need if all clients store alike */
 };
 #define STORE_BY_QUEUES UINT32_MAX
 

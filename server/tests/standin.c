@@ -130,6 +130,12 @@ uint32_t segcache_raw_open(uint32_t keys, uint32_t threads, segcache_handle *cac
   return SEGCACHE_OK;
 }
 
+uint32_t segcache_raw_open_for_writers(uint32_t keys, uint32_t writers, segcache_handle *cache,
+                                       segcache_handle *clients, size_t clients_len) {
+  if (writers == 0 || writers > clients_len) return SEGCACHE_BAD_SHAPE;
+  return segcache_raw_open(keys, (uint32_t)clients_len, cache, clients, clients_len);
+}
+
 uint32_t segcache_raw_gets(segcache_handle *handle, const uint8_t *key, size_t key_len, uint8_t *value, size_t room,
                            size_t *value_len, uint32_t *version, uint32_t now) {
   struct client *client = handle->at;
