@@ -9,7 +9,7 @@ int checks, faults;
 
 /* --- Memory: how many blocks and bytes are out, and after how many more allocations one is refused --- */
 
-atomic_long out, bytes_out, most_bytes_out;
+atomic_long requests, out, bytes_out, most_bytes_out;
 long until_refused = -1;
 
 /* A block takes 16 bytes more than can be used of it, at most. */
@@ -26,7 +26,10 @@ void *__wrap_malloc(size_t);
 void *__wrap_realloc(void *, size_t);
 void __wrap_free(void *);
 
-static int refuses(void) { return until_refused >= 0 && until_refused-- == 0; }
+static int refuses(void) {
+  requests++;
+  return until_refused >= 0 && until_refused-- == 0;
+}
 
 /* The blocks that were freed and not used again, the first one first, while blocks are reused. */
 enum { SPARES = 64 };

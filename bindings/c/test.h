@@ -14,6 +14,7 @@
 #include <unistd.h>
 
 extern int checks, faults;
+extern atomic_long requests;                  /* how often memory was asked for */
 extern atomic_long out;                       /* blocks of memory that are out */
 extern atomic_long bytes_out, most_bytes_out; /* their bytes, and the most that were */
 extern long until_refused;                    /* so many allocations more, and one is refused; none if negative */

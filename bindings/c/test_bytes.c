@@ -1,5 +1,6 @@
 // SPDX-License-Identifier: MIT
-/* Tests of caches by a number of bytes: what they take by the allocator, and how many keys they keep. */
+/* Tests of memory: which calls ask the allocator for any, what a close takes,
+ * and what caches by a number of bytes take and keep. */
 #include "test.h"
 
 enum { MOST_THREADS = 4 };
@@ -57,10 +58,69 @@ static void test_smallest(uint32_t threads) {
   test_budget((long)enough, threads, 1, 0);
 }
 
+/* Of the calls between an opening and its end only a note asks for memory, and no other for some that it drops.
+   The keys are more than the cache keeps, so puts also clear, evict and refill. */
+static void test_requests(void) {
+  enum { KEYS = 20000 };
+  segcache cache;
+  segcache_client clients[2];
+  segcache_stats_t counts;
+  segcache_index_stats_t rows;
+  EXPECT(segcache_open(1000, 2, &cache, clients), SEGCACHE_OK);
+  segcache_client *one = &clients[0], *other = &clients[1];
+  long before = requests;
+  for (uint32_t key = 0; key < KEYS; key++) {
+    char value[SEGCACHE_MAX_VALUE];
+    size_t length;
+    uint32_t version = 0;
+    segcache_lookup lookup = {.key_len = sizeof key};
+    segcache_put(&clients[key % 2], &key, sizeof key, "put", 3, key);
+    segcache_get(other, &key, sizeof key, key, value, sizeof value, &length);
+    segcache_gets(one, &key, sizeof key, key, value, sizeof value, &length, &version);
+    segcache_cas(one, &key, sizeof key, "cas", 3, version, key);
+    segcache_replace(other, &key, sizeof key, "replaced", 8, key);
+    if (segcache_hold(one, &key, sizeof key, key) == SEGCACHE_OK) {
+      segcache_held_value(one, value, sizeof value, &length);
+      segcache_release(one);
+    }
+    segcache_get_many(other, &key, sizeof key, key, &lookup, 1);
+    segcache_gets_many(other, &key, sizeof key, key, &lookup, 1);
+    if (key % 3 == 0) segcache_delete(other, &key, sizeof key, key);
+    segcache_add(other, &key, sizeof key, "added", 5, key);
+    segcache_set(one, &key, sizeof key, "set", 3, key);
+    if (key % 100 == 0) segcache_make_room(one, key);
+    if (key == KEYS / 4) segcache_set_time_to_live(one, 60);
+    if (key == KEYS / 2) segcache_keep_from(one, 2);
+    if (key == KEYS / 4 * 3) segcache_keep_nothing(other);
+    if (key % 1000 == 0) segcache_index_stats(one, &rows);
+  }
+  EXPECT(segcache_stats(one, &counts), SEGCACHE_OK);
+  CHECK(requests == before);
+  CHECK(counts.hits >= KEYS && counts.stored >= KEYS && counts.segments_refilled > 0 && counts.keys_evicted > 0);
+  give_back(&cache, clients, 2);
+}
+
+/* A close lists one key in less memory than 400 keys take. */
+static void test_close(void) {
+  segcache cache;
+  segcache_client clients[1];
+  segcache_cursor cursor;
+  EXPECT(segcache_open(1000, 1, &cache, clients), SEGCACHE_OK);
+  EXPECT(put(&clients[0], "key", "value", 0), SEGCACHE_OK);
+  EXPECT(segcache_give_back(&cache, &clients[0]), SEGCACHE_OK);
+  long before = bytes_out;
+  most_bytes_out = before;
+  EXPECT(segcache_close(&cache, &cursor), SEGCACHE_OK);
+  CHECK(most_bytes_out - before < 400 * (SEGCACHE_MAX_KEY + SEGCACHE_MAX_VALUE));
+  EXPECT(segcache_cursor_free(&cursor), SEGCACHE_OK);
+}
+
 void test_bytes(void) {
   segcache cache;
   segcache_client clients[64];
   long before = out;
+  test_requests();
+  test_close();
   test_smallest(1);
   test_smallest(4);
   test_budget(1 << 20, 1, (1 << 20) / 270, 40);
