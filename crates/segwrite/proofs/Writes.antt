@@ -237,7 +237,8 @@ module _ (b : Board) (w : When) (request : Request) (key value words : List ℕ)
             } in
             (there.ready.moved.pass, (keeps, (row_is, (requests, (key_of_words, (tagged, (there.ready.clean, there.target_is)))))))
 
-        pub ends_stored : ¬ (has_room b.shape p ≡ false) → refusal ≡ None → (segment row : ℕ) (t s : Pass) → StoresUnderBit b request segment row r t → KeepsSegments b t → UsesRows segment (rows_of request) r t
+        pub ends_stored : ¬ (has_room b.shape p ≡ false) → refusal ≡ None → (segment row : ℕ) (t s : Pass)
+            → StoresUnderBit b request segment row r t → KeepsSegments b t → UsesRows segment (rows_of request) r t
             → AddsAtOnce b (Freed (number t) bucket true ∷ []) t s
             → (bucket_after b.shape (trace s) bucket).holder ≡ None → s.plain ≡ t.plain → memo s ≡ memo t
             → (TakesAtMost 0 g r → TakesAtMost (most_steps_of_write request) p s)

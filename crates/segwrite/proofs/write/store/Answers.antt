@@ -55,7 +55,8 @@ link-requires g c = let b = c.args.board.now in let r = c.requires in let w = c.
     (pair.0.pass, ((r.1.1.1.1.1.0 ∙ ap tag_of (sym asks.of.0), refl), (target, may_store b g.request c.args.target s row _ clean_now target stored w.own pair.1 pair.2 pair.3)))
 
 pub returns-clause-stores : goal.returns-clause-stores
-returns-clause-stores g c = let b = c.args.board.now in let r = c.requires in let w = c.fill_row.ensures in let counts = used_all g.request c.args.row.segment c.args.row.row c.span.result _ _ c.link.new.pass _
+returns-clause-stores g c = let b = c.args.board.now in let r = c.requires in let w = c.fill_row.ensures in
+    let counts = used_all g.request c.args.row.segment c.args.row.row c.span.result _ _ c.link.new.pass _
     c.use_rows.ensures c.span.ensures.rows r.1.1.1.0.of.0 r.1.1.1.0.of.1 in
     let asks = r.1.1.1.0 in let clean = r.1.1.1.1.1.1.0 in
     let pair = pair_of b g.request c.args.write.now.sought.key c.args.write.now.value.now w.moved.0 c.args.row.segment c.args.row.row _ _ asks.of.0 asks.of.1 w.moved.1 w.holds r.1.1.1.1.0 w.valid in
@@ -66,14 +67,16 @@ returns-clause-stores g c = let b = c.args.board.now in let r = c.requires in le
     (clean_later b own _ _ (key_of g.request) pair.0 r.0 clean.bit none clean) (target_later b own _ _ (key_of g.request) pair.0 r.0 clean.bit none c.args.target r.1.1.1.1.1.1.1))
 
 pub returns-clause-segments : goal.returns-clause-segments
-returns-clause-segments g c = let b = c.args.board.now in let r = c.requires in let w = c.fill_row.ensures in let counts = used_all g.request c.args.row.segment c.args.row.row c.span.result _ _ c.link.new.pass _
+returns-clause-segments g c = let b = c.args.board.now in let r = c.requires in let w = c.fill_row.ensures in
+    let counts = used_all g.request c.args.row.segment c.args.row.row c.span.result _ _ c.link.new.pass _
     c.use_rows.ensures c.span.ensures.rows r.1.1.1.0.of.0 r.1.1.1.0.of.1 in
     let asks = r.1.1.1.0 in
     let pair = pair_of b g.request c.args.write.now.sought.key c.args.write.now.value.now w.moved.0 c.args.row.segment c.args.row.row _ _ asks.of.0 asks.of.1 w.moved.1 w.holds r.1.1.1.1.0 w.valid in
     subst (KeepsSegments b) counts (keeps_all b g.request c.args.target c.args.row.segment c.args.row.row _ _ _ r.1.1.0 w.moved.0 pair.0 c.link.ensures.did w.plain c.link.ensures.same.0 r.1.0)
 
 pub returns-clause-uses : goal.returns-clause-uses
-returns-clause-uses g c = let b = c.args.board.now in let r = c.requires in let w = c.fill_row.ensures in let counts = used_all g.request c.args.row.segment c.args.row.row c.span.result _ _ c.link.new.pass _
+returns-clause-uses g c = let b = c.args.board.now in let r = c.requires in let w = c.fill_row.ensures in
+    let counts = used_all g.request c.args.row.segment c.args.row.row c.span.result _ _ c.link.new.pass _
     c.use_rows.ensures c.span.ensures.rows r.1.1.1.0.of.0 r.1.1.1.0.of.1 in
     let asks = r.1.1.1.0 in
     let pair = pair_of b g.request c.args.write.now.sought.key c.args.write.now.value.now w.moved.0 c.args.row.segment c.args.row.row _ _ asks.of.0 asks.of.1 w.moved.1 w.holds r.1.1.1.1.0 w.valid in
@@ -81,7 +84,8 @@ returns-clause-uses g c = let b = c.args.board.now in let r = c.requires in let 
     (uses_all b g.request c.args.target c.args.row.segment c.args.row.row _ _ _ r.1.1.0 w.moved.0 pair.0 c.link.ensures.did w.plain c.link.ensures.same.0 w.memo c.link.ensures.same.1)
 
 pub returns-clause-bit : goal.returns-clause-bit
-returns-clause-bit g c = let b = c.args.board.now in let r = c.requires in let w = c.fill_row.ensures in let counts = used_all g.request c.args.row.segment c.args.row.row c.span.result _ _ c.link.new.pass _
+returns-clause-bit g c = let b = c.args.board.now in let r = c.requires in let w = c.fill_row.ensures in
+    let counts = used_all g.request c.args.row.segment c.args.row.row c.span.result _ _ c.link.new.pass _
     c.use_rows.ensures c.span.ensures.rows r.1.1.1.0.of.0 r.1.1.1.0.of.1 in
     let asks = r.1.1.1.0 in let clean = r.1.1.1.1.1.1.0 in
     let pair = pair_of b g.request c.args.write.now.sought.key c.args.write.now.value.now w.moved.0 c.args.row.segment c.args.row.row _ _ asks.of.0 asks.of.1 w.moved.1 w.holds r.1.1.1.1.0 w.valid in
