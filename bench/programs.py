@@ -121,9 +121,10 @@ def build_crate(crate):
 
 
 class Caffeine(Program):
-    """The programs in Java over Caffeine: the measure, and for `bench/hits` the replay of a trace."""
+    """The programs in Java over Caffeine: the measure, and for `bench/hits` and `bench/lives` the replay of a trace."""
 
     JAR = "/usr/share/java/caffeine.jar"
+    MAINS = {"caffeine": "Measure", "caffeine_replay": "Replay", "caffeine_lives": "Lives"}
 
     def build(self):
         sources = sorted((BENCH / self.source).glob("*.java"))
@@ -133,7 +134,7 @@ class Caffeine(Program):
                 raise OSError(f"no {self.JAR}")
             if not is_up_to_date(self.path(), self.source):
                 run_quietly(["javac", "-Xlint:all", "-cp", self.JAR, "-d", classes, *sources])
-                for program, main in (("caffeine", "Measure"), ("caffeine_replay", "Replay")):
+                for program, main in self.MAINS.items():
                     made = OUT / program
                     made.write_text(f'#!/bin/sh\nexec java -Xmx1g -cp {self.JAR}:{shlex.quote(str(classes))} {main} "$@"\n')
                     made.chmod(0o755)
