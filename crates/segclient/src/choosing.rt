@@ -66,12 +66,20 @@ fn open_for(index: &Index, pass: &Pass, segments: &Segments, span: Span) -> Opti
 }
 
 // Whether a put stores only into a segment with a finer deadline, which it opens if there is none:
-// many are free, and at least half of the one that it would store into else is used.
+// plenty are free; or many are, and at least half of the one that it would store into else is used.
+// Where one deadline alone is asked, none is finer.
 #[inline(always)]
 pub(crate) fn is_fine(index: &Index, pass: &Pass, segments: &Segments, span: Span) -> bool
     requires quiet { IsQuiet (board_of index.now) pass.now }
     ensures unqueued { is_some segments.now.queues ≡ false → result ≡ false }
 {
+    if span.earliest == span.latest {
+        return false;
+    }
+    let has_plenty = matches!(&segments.queues, Some(queues) if queues.are_plenty_free());
+    if has_plenty {
+        return true;
+    }
     let has_many = matches!(&segments.queues, Some(queues) if queues.are_many_free());
     if !has_many {
         return false;
@@ -85,6 +93,15 @@ pub(crate) fn is_fine(index: &Index, pass: &Pass, segments: &Segments, span: Spa
         return true;
     };
     pass.used(segment).unwrap_or(0) >= index.shape().rows.div_ceil(2)
+}
+
+// Whether a segment that is opened has a finer deadline, though others are filled before:
+// most of what is given up expires in full segments, so few deadlines have to be equal.
+#[inline(always)]
+pub(crate) fn is_filled_fine(segments: &Segments) -> bool
+    ensures unqueued { is_some segments.now.queues ≡ false → result ≡ false }
+{
+    matches!(&segments.queues, Some(queues) if queues.do_full_ones_expire())
 }
 
 // The pass stores into an open segment with such a deadline, if it has one.

@@ -4,7 +4,7 @@ ghost use Rattle.segindex.specs.Words.{board_of, shape_of};
 ghost use Rattle.segstore.specs.Words.{IsQuiet};
 ghost use Rattle.segclient.specs.Member.{next_draws};
 
-use crate::choosing::{choose, is_fine};
+use crate::choosing::{choose, is_filled_fine, is_fine};
 use crate::clearing::{clear_some, is_due};
 use crate::effort::Effort;
 use crate::lives::{FINE_PARTS, PARTS, deadline_by, span_for};
@@ -296,7 +296,7 @@ impl Member {
     }
 
     // How room is made for what is put now for this time. While many segments are free,
-    // those are opened that have finer deadlines.
+    // or most of what is given up has expired, those are opened that have finer deadlines.
     #[inline(always)]
     fn policy_for(&self, index: &Index, time: u32) -> Policy
         requires member { IsMember index.now self.now }
@@ -314,6 +314,14 @@ impl Member {
             return Policy {
                 cutoff,
                 deadline,
+                span,
+                moment,
+            };
+        }
+        if is_filled_fine(&self.segments) {
+            return Policy {
+                cutoff,
+                deadline: deadline_by(moment, time, time / FINE_PARTS),
                 span,
                 moment,
             };

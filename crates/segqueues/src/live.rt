@@ -17,6 +17,9 @@ const UNSURE: u64 = ALL / 8;
 // What is found counts for one part of so many, and what was found before for the rest.
 const MEMORY: u64 = 8;
 
+// What was given up is kept in mind while the pass gives up so many times its rows.
+const ROUNDS: u64 = 2;
+
 // What a pass knows of a segment of its own.
 #[derive(Clone, Copy)]
 struct Known {
@@ -53,6 +56,8 @@ pub(crate) struct Live {
     is_rate_known: bool,
     // The share of rows that were alive lately in segments that were gone over.
     share: u64,
+    // The share of rows that were given up lately in full segments that had expired.
+    expired: u64,
 }
 
 // The logarithm of a number to base 2, in 2^-16, of lines between the powers of 2.
@@ -84,6 +89,7 @@ impl Live {
             rate: 0,
             is_rate_known: false,
             share: FIRST_SHARE,
+            expired: 0,
         })
     }
 
@@ -175,6 +181,24 @@ impl Live {
     // The share of rows that were found alive lately.
     pub(crate) fn share(&self) -> u64 {
         self.share
+    }
+
+    // The share of rows that were given up lately in full segments that had expired.
+    pub(crate) fn expired(&self) -> u64 {
+        self.expired
+    }
+
+    // A segment of so many rows is given up, since it has expired or by frequencies.
+    pub(crate) fn is_given_up(&mut self, at: u32, rows: u32, has_expired: bool) {
+        let used = self.known(at).used;
+        let all = u64::from(rows).saturating_mul(self.segments.len() as u64);
+        let part = (u64::from(used) * ALL)
+            .checked_div(all.saturating_mul(ROUNDS))
+            .unwrap_or(0)
+            .min(ALL);
+        let fades = self.expired.saturating_mul(part) >> 16;
+        let more = if has_expired && used >= rows { part } else { 0 };
+        self.expired = self.expired.saturating_sub(fades).saturating_add(more);
     }
 
     // A segment was gone over.

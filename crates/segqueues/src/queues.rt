@@ -5,7 +5,7 @@
 ghost use Rattle.std.specs.Prelude.{◌≤◌};
 
 use crate::lists::{Lists, Queue};
-use crate::live::Live;
+use crate::live::{ALL, Live};
 use crate::needs::Needs;
 use crate::open::Open;
 use crate::source::Clearing;
@@ -13,6 +13,9 @@ use std::alloc::{AllocError, Global};
 
 // So many free segments are held ready, so that a put finds one.
 const RESERVE: u32 = 2;
+
+// So many free segments aren't plenty, however few there are in all.
+const PLENTY: u32 = 31;
 
 /// How many segments were free and on probation when a round over all of them began.
 #[derive(Clone, Copy)]
@@ -251,6 +254,16 @@ impl Queues {
     /// Whether more than one segment of eight is free.
     pub fn are_many_free(&self) -> bool {
         self.lists.ready() > self.segments / 8
+    }
+
+    /// Whether more than one segment of four is free, and enough of them for several times to live.
+    pub fn are_plenty_free(&self) -> bool {
+        self.lists.ready() > (self.segments / 4).max(PLENTY)
+    }
+
+    /// Whether of the rows that are given up two of five are in full segments that have expired.
+    pub fn do_full_ones_expire(&self) -> bool {
+        self.live.expired() > ALL / 5 * 2
     }
 
     /// Whether a segment in use may have expired at this moment.

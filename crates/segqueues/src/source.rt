@@ -348,6 +348,7 @@ impl Queues {
     /// A segment that has expired at this moment, the current one left out. It is cleared next.
     pub fn next_expired(&mut self, current: Option<u32>, moment: u32) -> Option<u32> {
         let segment = self.first_expired(current, moment)?;
+        self.live.is_given_up(segment, self.rows, true);
         self.begin(segment, false)
     }
 
@@ -370,7 +371,9 @@ impl Queues {
             return self.begin(segment, true);
         }
         self.may_try = true;
-        self.begin(self.next_in_order(current)?, false)
+        let segment = self.next_in_order(current)?;
+        self.live.is_given_up(segment, self.rows, false);
+        self.begin(segment, false)
     }
 
     /// Whether all moves on from the source that can be read, however seldom it was.
