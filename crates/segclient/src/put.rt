@@ -208,9 +208,9 @@ fn put_once(
     put_at_last(index, pass, segments, order, first)
 }
 
-// A put of a client that keeps by queues. They note it, and which row it replaced.
+// A put. If the client keeps by queues, they note it, and which row it replaced.
 #[inline(always)]
-fn put_in_queues(
+pub(crate) fn put_by(
     index: &Index,
     pass: &mut Pass,
     segments: &mut Segments,
@@ -236,31 +236,6 @@ fn put_in_queues(
     };
     note_stored(index, pass, queues, hash(order.key), segments.replaced);
     (told, effort)
-}
-
-// A put.
-#[inline(always)]
-pub(crate) fn put_by(
-    index: &Index,
-    pass: &mut Pass,
-    segments: &mut Segments,
-    order: Order<'_>,
-) -> (PutAnswer, Effort)
-    requires quiet { IsQuiet (board_of index.now) pass.old }
-    requires own { IsOwnRing (shape_of index.now) (number pass.old) segments.old.ring }
-    requires cleared { IsCleared (shape_of index.now) segments.old.source pass.old }
-    requires timely { IsInSpan order.policy.span order.policy.deadline }
-    ensures on { GoesOn (board_of index.now) pass.old pass.new }
-    ensures own { IsOwnRing (shape_of index.now) (number pass.new) segments.new.ring }
-    ensures queues { is_some segments.new.queues ≡ is_some segments.old.queues }
-    ensures cleared { IsCleared (shape_of index.now) segments.new.source pass.new }
-    ensures puts { PutsWhole (board_of index.now) (plan_of order.entry)
-        (most_calls (shape_of index.now)) result.0 result.1 pass.old pass.new }
-{
-    if segments.queues.is_some() {
-        return put_in_queues(index, pass, segments, order);
-    }
-    put_once(index, pass, segments, order)
 }
 
 // After a put that was stored, a client with queues clears some rows of another segment.

@@ -251,6 +251,7 @@ pub(crate) fn note_dead(index: &Index, pass: &Pass, queues: &mut Queues, row: Ro
 }
 
 // A key of this hash was stored into the row that was used last, in place of this one.
+#[inline(always)]
 pub(crate) fn note_stored(
     index: &Index,
     pass: &Pass,

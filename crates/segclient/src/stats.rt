@@ -72,15 +72,25 @@ impl Stats {
     }
 
     // Counts what calls of a put came to.
+    #[inline(always)]
     pub(crate) fn count_effort(&mut self, effort: Effort)
         ensures { self.new ≡ with_effort effort self.old }
     {
-        self.segments_refilled = self
-            .segments_refilled
-            .saturating_add(u64::from(effort.refilled));
-        self.items_kept = self.items_kept.saturating_add(effort.kept);
-        self.keys_evicted = self.keys_evicted.saturating_add(effort.keys);
+        self.segments_refilled = with_more(self.segments_refilled, u64::from(effort.refilled));
+        self.items_kept = with_more(self.items_kept, effort.kept);
+        self.keys_evicted = with_more(self.keys_evicted, effort.keys);
     }
+}
+
+// So many more, but for the largest number. A put that makes no room has nothing to add.
+#[inline(always)]
+fn with_more(number: u64, more: u64) -> u64
+    ensures { result ≡ with_more number more }
+{
+    if more == 0 {
+        return number;
+    }
+    number.saturating_add(more)
 }
 
 // One more, but for the largest number.
