@@ -102,7 +102,22 @@ impl<'i> Worker<'i> {
     }
 
     fn work_one_by_one<R: Clock>(&mut self, rt: &R, task: Task<'_>) -> io::Result<()> {
-        let mut next = if task.sample == 0 { usize::MAX } else { 0 };
+        if task.sample > 0 {
+            return self.work_and_time(rt, task);
+        }
+        for place in 0..self.numbers.len() {
+            let Some(key) = self.key_at(place) else {
+                break;
+            };
+            self.serve(&key, task);
+        }
+        Ok(())
+    }
+
+    // Makes the commands of a round, and times one of so many.
+    #[inline(never)]
+    fn work_and_time<R: Clock>(&mut self, rt: &R, task: Task<'_>) -> io::Result<()> {
+        let mut next = 0;
         for place in 0..self.numbers.len() {
             let Some(key) = self.key_at(place) else {
                 break;
@@ -189,6 +204,7 @@ impl<'i> Worker<'i> {
     }
 
     // A gets, and if it found the key, a cas with the version that it found. They count as one.
+    #[inline(never)]
     fn modify(&mut self, key: &Key, value: &Value) {
         let told = self.gets(key);
         if let GetsAnswer::Found(value_found, _) = &told {
@@ -201,6 +217,7 @@ impl<'i> Worker<'i> {
     }
 
     // A get, and a put if it missed. They count as one: as a miss, unless the put was refused.
+    #[inline(never)]
     fn fetch(&mut self, key: &Key, value: &Value) {
         let told = self.client.get(key);
         if let GetAnswer::Miss = &told {
@@ -222,6 +239,7 @@ impl<'i> Worker<'i> {
     }
 
     // An add, a replace or a cas, which is made once more if it had no room.
+    #[inline(never)]
     fn write(&mut self, kind: Kind, key: &Key, value: &Value) -> WriteAnswer {
         match self.write_once(kind, key, value) {
             WriteAnswer::NoRoom if self.client.make_room() => self.write_once(kind, key, value),
