@@ -1,13 +1,30 @@
-use Rattle.std.proofs.Common.{◌≡◌, ◌+◌, ◌*◌, ◌%◌, ◌^◌, ◌∷◌, ◌++◌, ℕ, List, bit_or, get_or, length, replicate, set, sym, subst, ◌∙◌, ap, arith}
-use Rattle.std.specs.Int.Bits.{or_shifted_r}
+use Rattle.std.proofs.Common.{◌≡◌, ◌+◌, ◌-◌, ◌*◌, ◌%◌, ◌^◌, ◌++◌, ℕ, List, bit_or, drop, get_or, length, replicate, set, sym, subst, take, ◌∙◌, ap, arith}
 use borrow.Rule.Slice.PartMut.{put_mid}
-use Rattle.segword.specs.declared.key.TheConstants.{KEY_WORDS}
 use Rattle.segword.specs.declared.row.TheConstants.{HEAD_WORDS}
+use Rattle.segword.specs.declared.spans.TheConstants.{ITEM_WORDS}
 use Rattle.segword.specs.declared.value.TheConstants.{VALUE_WORDS}
 use Rattle.segword.specs.Bytes.{IsKey, IsValue}
 use Rattle.segword.specs.Row.{words_from}
 use Rattle.segword.specs.KeyWords.{key_words}
+use Rattle.segword.proofs.MadeRow.{made_row}
 use Rattle.segword.proofs.key_words.KeyWords.row.Goals as goal
+
+pub returns-then-this-gt-MOST_SPAN-clause-row : goal.returns-then-this-gt-MOST_SPAN-clause-row
+returns-then-this-gt-MOST_SPAN-clause-row c =
+    let key = c.args.self.now in
+    let value = c.args.value.now in
+    let at = c.head-head.result in
+    let is_key : IsKey key = subst IsKey c.self.view_is c.self.invariant.is_key in
+    let front : c.copy_from_slice.new.self ≡ take at (key_words key) = c.copy_from_slice.ensures.after
+    ∙ ap (take at) (sym (ap key_words (sym c.self.view_is) ∙ c.self.invariant.same_words)) in
+    let long : c.len.result ≡ length value = c.len.ensures in
+    let back : c.copy_from_slice-then-this-gt-MOST_SPAN.new.self ≡ words_from VALUE_WORDS value 0 =
+    c.copy_from_slice-then-this-gt-MOST_SPAN.ensures.after ∙ c.words.ensures.value in
+    let made = λ (head : List ℕ) (n : ℕ) (tail : List ℕ).
+    put_mid at (at + VALUE_WORDS - at) (set (head ++ drop at (replicate ITEM_WORDS 0)) 0
+    (bit_or (get_or (head ++ drop at (replicate ITEM_WORDS 0)) 0 0) (n * 2 ^ 8 % 2 ^ 64))) tail in
+    (λ i. made (front i) (long i) (back i))
+    ∙ made_row key value at (at + VALUE_WORDS - at) is_key c.words.ensures.valid c.head-head.ensures (omega arith)
 
 pub returns-clause-row : goal.returns-clause-row
 returns-clause-row c =
@@ -19,9 +36,9 @@ returns-clause-row c =
     let long : c.len-2.result ≡ length value = c.len-2.ensures in
     let back : c.copy_from_slice-3.new.self ≡ words_from VALUE_WORDS value 0 =
     c.copy_from_slice-3.ensures.after ∙ c.words-2.ensures.value in
-    let header : bit_or (length key) (length value * 2 ^ 8 % 2 ^ 64) ≡ length value * 256 + length key =
-    ap (bit_or (length key)) (let small : length value * 2 ^ 8 % 2 ^ 64 ≡ length value * 2 ^ 8 = omega (arith, is_value.fits) in small)
-    ∙ or_shifted_r (length value) 8 (length key) (omega (arith, is_key.fits)) in
     let made = λ (head : List ℕ) (n : ℕ) (tail : List ℕ).
-    put_mid HEAD_WORDS VALUE_WORDS (set (head ++ replicate VALUE_WORDS 0) 0 (bit_or (get_or (head ++ replicate VALUE_WORDS 0) 0 0) (n * 2 ^ 8 % 2 ^ 64))) tail in
-    (λ i. made (front i) (long i) (back i)) ∙ ap (λ (n : ℕ). n ∷ (words_from KEY_WORDS key 0 ++ words_from VALUE_WORDS value 0)) header
+    put_mid HEAD_WORDS (ITEM_WORDS - HEAD_WORDS) (set (head ++ drop HEAD_WORDS (replicate ITEM_WORDS 0)) 0
+    (bit_or (get_or (head ++ drop HEAD_WORDS (replicate ITEM_WORDS 0)) 0 0) (n * 2 ^ 8 % 2 ^ 64))) tail in
+    let one = c.if-this-gt-MOST_SPAN.false in
+    (λ i. made (front i) (long i) (back i))
+    ∙ made_row key value HEAD_WORDS (ITEM_WORDS - HEAD_WORDS) is_key is_value (omega (arith, one)) (omega (arith, one))
