@@ -1,13 +1,13 @@
 -- What the chains of a lawful trace and the cache have to do with one another, as it is proved by induction.
-use Rattle.std.specs.Prelude.{◌≡◌, ℕ, ◌+◌, ◌*◌, ◌<◌, ◌≤◌, ◌==◌, ◌⊎◌, List, [], ◌∷◌, Option, Some, None, if◌then◌else◌}
-use Rattle.segword.specs.Words.{IsKey, IsValue, Shape}
+use Rattle.std.specs.Prelude.{◌≡◌, ℕ, ◌+◌, ◌*◌, ◌<◌, ◌≤◌, ◌==◌, ◌⊎◌, true, List, [], ◌∷◌, Option, Some, None, if◌then◌else◌}
+use Rattle.segword.specs.Words.{covers, IsKey, IsValue, Shape, span_of}
 use Rattle.segmodel.specs.Words.{after, bucket_of, Cached, key_of, standing}
 use Rattle.segcore.specs.Words.{Event}
 use Rattle.segcore.specs.declared.event.Event.TheVariants.{Linked, Relinked, Chained}
 use Rattle.segcore.specs.Event.{seen}
 use Rattle.segcore.specs.Bucket.{Slot, slot, Content, nothing, item, next, copy, Bucket, last, fresh_position, IsPosition, bucket_after}
 use Rattle.segcore.specs.Overflow.{home_of}
-use Rattle.segcore.specs.Row.{Holds, row_after}
+use Rattle.segcore.specs.Row.{Holds, row_after, row_alone}
 use Rattle.segcore.specs.Mark.{same_key, marked, last_at}
 use Rattle.segcore.specs.Standing.{cached}
 
@@ -38,6 +38,8 @@ pub record IsStanding (z : Shape) (h : List Event) (b n : ℕ) (a : Slot) : Type
   pub value : List ℕ
   pub valid : IsKey a.key × IsValue value
   pub holds : Holds (row_after h a.segment a.row) a.key value
+  -- all rows of the item are linked to the key
+  pub rows : (i : ℕ) → covers a.row (span_of a.key value) i ≡ true → (row_alone h a.segment i).linked ≡ Some a.key
   pub stands : standing (after z (seen h)) a.key ≡ Some (cached value a.segment)
   pub last : last_at (marked h) a.key ≡ Some (slot a.key a.segment a.row)
 

@@ -6,28 +6,24 @@ use Rattle.segword.specs.Words.{Shape}
 use Rattle.segcore.specs.Words.{Event}
 use Rattle.segcore.specs.declared.event.Event.TheVariants.{Filled, Linked, Relinked, Refilled}
 use Rattle.segcore.specs.Event.{NoneBy}
-use Rattle.segcore.specs.Lawful.{IsLawful}
-use Rattle.segcore.specs.Row.{row_at, writes_row, row_after}
+use Rattle.segcore.specs.Lawful.{IsLawful, Suits}
+use Rattle.segcore.specs.Row.{row_alone, writes_row}
 use Rattle.segcore.specs.Segment.{inside, NoneRefills}
-use Rattle.segcore.proofs.Quiet.{at_unlinked, quiet_inside}
+use Rattle.segcore.proofs.Quiet.{at_unlinked, of_row, quiet_inside}
 use Rattle.segcore.proofs.Readers.{is_counted}
 
 -- an event that doesn't refill the segment leaves a linked row alone
+touches_no : (z : Shape) (e : Event) (h : List Event) (s r : ℕ) (k : List ℕ) → Suits z h e → ((p t d : ℕ) → e ≢ Refilled p t d)
+    → (row_alone h s r).linked ≡ Some k → row_alone (e ∷ h) s r ≡ row_alone h s r
+touches_no z e h s r k u ne on = cond-false (of_row h e s r) (writes_row e (row_alone h s r)) (row_alone h s r)
+    (false_from_ne_true (of_row h e s r) (λ y. none-some k (sym (at_unlinked z h e s r u ne y) ∙ on)))
+
 pub row_stays : (z : Shape) (e : Event) (h : List Event) (s r : ℕ) (k : List ℕ) → IsLawful z (e ∷ h)
-    → ((p d : ℕ) → e ≢ Refilled p s d) → (row_after h s r).linked ≡ Some k → row_after (e ∷ h) s r ≡ row_after h s r
-row_stays z (Refilled p t d) h s r k l ne on = cond-false (eqb t s) (writes_row (Refilled p t d) (row_after h s r)) (row_after h s r) (ne_eqb t s (λ e. ne p d (ap (λ x. Refilled p x d) e)))
-row_stays z (Filled p t i j w) h s r k l ne on =
-    cond-false (row_at (Filled p t i j w) s r) (writes_row (Filled p t i j w) (row_after h s r)) (row_after h s r)
-    (false_from_ne_true (row_at (Filled p t i j w) s r)
-    (λ y. none-some k (sym (at_unlinked z h (Filled p t i j w) s r l.1.suits (λ p' t' d' same. cc) y) ∙ on)))
-row_stays z (Linked p q t i n) h s r k l ne on =
-    cond-false (row_at (Linked p q t i n) s r) (writes_row (Linked p q t i n) (row_after h s r)) (row_after h s r)
-    (false_from_ne_true (row_at (Linked p q t i n) s r)
-    (λ y. none-some k (sym (at_unlinked z h (Linked p q t i n) s r l.1.suits (λ p' t' d' same. cc) y) ∙ on)))
-row_stays z (Relinked p q a b t i n) h s r k l ne on =
-    cond-false (row_at (Relinked p q a b t i n) s r) (writes_row (Relinked p q a b t i n) (row_after h s r))
-    (row_after h s r) (false_from_ne_true (row_at (Relinked p q a b t i n) s r)
-    (λ y. none-some k (sym (at_unlinked z h (Relinked p q a b t i n) s r l.1.suits (λ p' t' d' same. cc) y) ∙ on)))
+    → ((p d : ℕ) → e ≢ Refilled p s d) → (row_alone h s r).linked ≡ Some k → row_alone (e ∷ h) s r ≡ row_alone h s r
+row_stays z (Refilled p t d) h s r k l ne on = cond-false (eqb t s) (writes_row (Refilled p t d) (row_alone h s r)) (row_alone h s r) (ne_eqb t s (λ e. ne p d (ap (λ x. Refilled p x d) e)))
+row_stays z (Filled p t i j w) h s r k l ne on = touches_no z (Filled p t i j w) h s r k l.1.suits (λ p' t' d' same. cc) on
+row_stays z (Linked p q t i n) h s r k l ne on = touches_no z (Linked p q t i n) h s r k l.1.suits (λ p' t' d' same. cc) on
+row_stays z (Relinked p q a b t i n) h s r k l ne on = touches_no z (Relinked p q a b t i n) h s r k l.1.suits (λ p' t' d' same. cc) on
 row_stays z e h s r k l ne on = refl
 
 pub not_refilled : (z : Shape) (e : Event) (h : List Event) (p s : ℕ) → p < z.passes → IsLawful z (e ∷ h) → 0 < inside h p s → (q d : ℕ) → e ≢ Refilled q s d
@@ -40,8 +36,8 @@ no_refill z (e ∷ more) h p s few l n in' = (not_refilled z e (more ++ h) p s f
 
 -- what a pass has read in a segment that it is in stays so
 pub entered_row : (z : Shape) (more h : List Event) (p s r : ℕ) (k : List ℕ) → p < z.passes → IsLawful z (more ++ h)
-    → NoneBy p more → 0 < inside h p s → (row_after h s r).linked ≡ Some k
-    → row_after (more ++ h) s r ≡ row_after h s r
+    → NoneBy p more → 0 < inside h p s → (row_alone h s r).linked ≡ Some k
+    → row_alone (more ++ h) s r ≡ row_alone h s r
 entered_row z [] h p s r k few l n in' on = refl
 entered_row z (e ∷ more) h p s r k few l n in' on = let i = entered_row z more h p s r k few l.0 n.1 in' on in
     row_stays z e (more ++ h) s r k l (not_refilled z e (more ++ h) p s few l (subst (λ x. 0 < x) (sym (quiet_inside more h p s n.1)) in')) (ap (λ u. u.linked) i ∙ on) ∙ i

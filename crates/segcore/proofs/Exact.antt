@@ -1,10 +1,14 @@
 -- Item words and the keys that stand: a key stands with a value in a segment exactly where the item word at its place says so, and chains have no other item words.
-use Rattle.std.proofs.Common.{◌^◌, ◌≡◌, ℕ, ◌+◌, ◌<◌, List, [], ◌∷◌, take, drop, Some, sym, refl, ap, ◌∙◌, subst, inl, inr, arith}
+use Rattle.std.proofs.Common.{◌^◌, ◌≡◌, ℕ, ◌+◌, ◌-◌, ◌*◌, ◌<◌, ◌≤◌, List, [], ◌∷◌, get_or, length, take, drop, Some, sym, refl, ap, ◌∙◌, subst, inl, inr, ⊎_elim, arith}
 use Rattle.std.specs.Prelude.{slice_index, fold}
+use Rattle.std.proofs.lemmas.Bool.{cases_lt}
+use Rattle.std.proofs.lemmas.List.{drop_all, get_or-drop, get_or_past}
 use Rattle.std.proofs.lemmas.Option.{same_Some}
 use Rattle.std.proofs.lemmas.Grind.{same_number_lists}
-use Rattle.segword.specs.Words.{hash_of, head_width, IsKey, IsValid, IsValue, row_of, row_width, Shape, with_byte}
-use Rattle.segword.proofs.RowLemmas.{key_of_row, length-row_of, value_of_row}
+use Rattle.segword.specs.Row.{value_width, word_of, words_from}
+use Rattle.segword.specs.Words.{hash_of, head_width, IsKey, IsValid, IsValue, key_width, row_of, row_width}
+use Rattle.segword.specs.Words.{Shape, span_of, value_place, value_width as value_words, with_byte}
+use Rattle.segword.proofs.RowLemmas.{get_or-words_from, key_of_row, length-row_of, length-words_from, value_in_row, value_of_row}
 use Rattle.segmodel.specs.Words.{bucket_of, Cached, tag_of}
 use Rattle.segcore.specs.Words.{Cell, Event}
 use Rattle.segcore.specs.Bucket.{Slot, slot, Content, nothing, item, next, copy, bucket_after}
@@ -21,6 +25,7 @@ use Rattle.segcore.proofs.Chains.{chain_of}
 use Rattle.segcore.proofs.Standing.{coherent}
 use Rattle.segcore.proofs.Marked.{chained_marked, place_marked}
 use Rattle.segcore.proofs.Orderly.{frequency_marked}
+use Rattle.segcore.proofs.Spans.{header_span}
 use Rattle.segcore.proofs.Cells.{one_cell, at_word}
 use Rattle.segcore.proofs.Homes.{cell_of}
 use Rattle.segcore.proofs.Limits.{low_row, low_segment, low_frequency, bucket_in, home_in}
@@ -28,23 +33,51 @@ use Rattle.segcore.proofs.StepKinds.Words.{word_content, cell_in}
 use Rattle.segcore.proofs.StepKinds.Items.{above}
 use Rattle.segcore.proofs.StepKinds.Frequencies.{Named, names, one_place}
 
-same_words : (k v k' v' : List ℕ) → ((j : ℕ) → j < row_width → slice_index (row_of k v) j ≡ slice_index (row_of k' v') j) → row_of k v ≡ row_of k' v'
-same_words k v k' v' e =
-    same_number_lists (row_of k v) (row_of k' v') (length-row_of k v ∙ sym (length-row_of k' v')) (λ j lt. e j (subst (λ n. j < n) (length-row_of k v) lt))
+-- behind the rows of an item its words are 0
+past_row : (k v : List ℕ) (j : ℕ) → IsValue v → row_width * span_of k v ≤ j → slice_index (row_of k v) j ≡ 0
+past_row k v j m le =
+    let n = length k in let len = length v in
+    let at = j - (1 + key_width n) in
+    let behind : 1 + key_width n ≤ j = omega (arith, le) in
+    let ended : len ≤ 0 + 8 * at = omega (arith, le, m.fits) in
+    let there : 1 + key_width n + at ≡ j = omega (arith, behind) in
+    ap (λ i. slice_index (row_of k v) i) (sym there)
+    ∙ sym (get_or-drop (1 + key_width n) (row_of k v) at 0)
+    ∙ ap (λ ws. get_or ws at 0) (value_in_row k v)
+    ∙ no_word (value_width n) v at ended
+  where
+    no_word : (count : ℕ) (v : List ℕ) (at : ℕ) → length v ≤ 0 + 8 * at → get_or (words_from count v 0) at 0 ≡ 0
+    no_word count v at ended = ⊎_elim
+        (λ lt. get_or-words_from count v 0 at lt ∙ ap (λ xs. word_of (take 8 xs)) (drop_all (0 + 8 * at) v ended))
+        (λ ge. get_or_past (words_from count v 0) at 0 (omega (arith, ge, length-words_from count v 0)))
+        (cases_lt at count)
 
-pub same_row : (u : Row) (k v k' v' : List ℕ) → Holds u k v → Holds u k' v' → row_of k v ≡ row_of k' v'
-same_row u k v k' v' a b = same_words k v k' v' (λ j lt. sym (a j lt) ∙ b j lt)
+-- words that agree in the rows of an item are the same
+same_words : (k v k' v' : List ℕ) → IsValue v → IsValue v' → span_of k v ≡ span_of k' v'
+    → ((j : ℕ) → j < row_width * span_of k v → slice_index (row_of k v) j ≡ slice_index (row_of k' v') j) → row_of k v ≡ row_of k' v'
+same_words k v k' v' m m' same e =
+    same_number_lists (row_of k v) (row_of k' v') (length-row_of k v ∙ sym (length-row_of k' v')) (λ j lt. ⊎_elim
+    (λ near. e j near)
+    (λ far. past_row k v j m far ∙ sym (past_row k' v' j m' (subst (λ n. row_width * n ≤ j) same far)))
+    (cases_lt j (row_width * span_of k v)))
+
+pub same_row : (u : Row) (k v k' v' : List ℕ) → IsKey k → IsKey k' → IsValue v → IsValue v' → Holds u k v → Holds u k' v' → row_of k v ≡ row_of k' v'
+same_row u k v k' v' l l' m m' a b =
+    let same : span_of k v ≡ span_of k' v' = sym (header_span u k v l m a) ∙ header_span u k' v' l' m' b in
+    same_words k v k' v' m m' same (λ j lt. sym (a j lt) ∙ b j (subst (λ n. j < row_width * n) same lt))
 
 -- a row holds one pair
 pub one_key : (u : Row) (k v k' v' : List ℕ) → IsKey k → IsKey k' → IsValue v → IsValue v' → Holds u k v → Holds u k' v' → k ≡ k'
 one_key u k v k' v' l l' m m' a b =
-    sym (key_of_row k v (take head_width (row_of k v)) l m refl) ∙ key_of_row k' v' (take head_width (row_of k v)) l' m' (ap (take head_width) (sym (same_row u k v k' v' a b)))
+    sym (key_of_row k v (take head_width (row_of k v)) l m refl) ∙ key_of_row k' v' (take head_width (row_of k v)) l' m' (ap (take head_width) (sym (same_row u k v k' v' l l' m m' a b)))
 
 pub one_value : (u : Row) (k v k' v' : List ℕ) → IsKey k → IsKey k' → IsValue v → IsValue v' → Holds u k v → Holds u k' v' → v ≡ v'
 one_value u k v k' v' l l' m m' a b =
-    let same = sym (same_row u k v k' v' a b) in
-    sym (value_of_row k v (drop head_width (row_of k v)) (slice_index (row_of k v) 0) l m refl refl)
-    ∙ value_of_row k' v' (drop head_width (row_of k v)) (slice_index (row_of k v) 0) l' m' (ap (λ w. slice_index w 0) same) (ap (drop head_width) same)
+    let same = sym (same_row u k v k' v' l l' m m' a b) in
+    let header = slice_index (row_of k v) 0 in
+    let part : List ℕ → List ℕ = λ ws. take value_words (drop (value_place header) ws) in
+    sym (value_of_row k v (part (row_of k v)) header l m refl refl)
+    ∙ value_of_row k' v' (part (row_of k v)) header l' m' (ap (λ w. slice_index w 0) same) (ap part same)
 
 -- ---- words that name rows
 
@@ -97,7 +130,7 @@ stands_at z h k v s valid l is' =
           (item_names z h b n d.0 a l (cell_in z h b n d.0 l (bucket_in z k valid) d.1) (i.position, d.1) w.2)));
       holds = (let f : Holds (row_after h a.segment a.row) a.key i.value = i.holds in
           λ j lt. ap (λ x. (row_after h x a.row).words j) (sym es)
-          ∙ (f j lt ∙ (λ t. slice_index (row_of (w.3 t) (ev t)) j)));
+          ∙ (f j (subst (λ n. j < row_width * n) (sym (λ t. span_of (w.3 t) (ev t))) lt) ∙ (λ t. slice_index (row_of (w.3 t) (ev t)) j)));
     }
 
 pub stands_there : (z : Shape) (h : List Event) (k v : List ℕ) (s : ℕ) → IsValid z → IsLawful z h → StandsAt z h k v s → stands z (seen h) k ≡ Some (cached v s)

@@ -3,6 +3,7 @@ pub mod Moments
 pub mod Ahead
 pub mod Keys
 pub mod Caches
+pub mod Spans
 pub mod Quiet
 pub mod Addresses
 pub mod Chains

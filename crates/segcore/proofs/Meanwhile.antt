@@ -19,7 +19,8 @@ use Rattle.segcore.specs.World.{Told}
 use Rattle.segcore.specs.Count.{CountsStep}
 use Rattle.segcore.specs.Meanwhile.{FindsKnown, Meanwhile}
 use Rattle.segcore.proofs.Moments.{lawful_before, seen_begins, marked_begins}
-use Rattle.segcore.proofs.Quiet.{own_deadline, quiet, quiet_none, quiet_at, quiet_inside, not_mine, later}
+use Rattle.segcore.proofs.Quiet.{own_deadline, quiet, quiet_none, quiet_at, linked_first, moved_first, quiet_inside, not_mine, later}
+use Rattle.segcore.proofs.Spans.{first_words}
 use Rattle.segcore.proofs.Entered.{no_refill}
 use Rattle.segcore.proofs.Readers.{empty_stays}
 use Rattle.segcore.proofs.Segments.{is_pass}
@@ -46,12 +47,12 @@ same_deadline (e ∷ more) h s n = deadline_event e (more ++ h) s n.0 ∙ same_d
 pub one_rise : (z : Shape) (e : Event) (h : List Event) (s r : ℕ) (k : List ℕ) → IsLawful z (e ∷ h) → (row_after h s r).linked ≡ Some k → frequency_of h s r ≤ frequency_of (e ∷ h) s r
 one_rise z (Linked p q t i n) h s r k l on = ⊎_elim
     (λ y. let w = and_parts (eqb t s) (eqb i r) y in
-    absurd (none-some k (sym l.1.suits.0.3 ∙ ((λ j. (row_after h (eqb-true t s w.0 j) (eqb-true i r w.1 j)).linked) ∙ on))))
+    absurd (none-some k (sym (linked_first z h p q t i n l.1.suits).3 ∙ ((λ j. (row_after h (eqb-true t s w.0 j) (eqb-true i r w.1 j)).linked) ∙ on))))
     (λ f. rw f (omega arith))
     (cases_Bool (eqb t s && eqb i r))
 one_rise z (Relinked p q a b t i n) h s r k l on = ⊎_elim
     (λ y. let w = and_parts (eqb t s) (eqb i r) y in
-    absurd (none-some k (sym l.1.suits.0.3 ∙ ((λ j. (row_after h (eqb-true t s w.0 j) (eqb-true i r w.1 j)).linked) ∙ on))))
+    absurd (none-some k (sym (moved_first z h p q a b t i n l.1.suits).3 ∙ ((λ j. (row_after h (eqb-true t s w.0 j) (eqb-true i r w.1 j)).linked) ∙ on))))
     (λ f. rw f (omega arith))
     (cases_Bool (eqb t s && eqb i r))
 one_rise z (Bumped p t i f) h s r k l on = ⊎_elim
@@ -73,7 +74,8 @@ rise z (e ∷ more) h p b n a l none held is' =
 known_word : (z : Shape) (p : ℕ) (more h : List Event) → IsLawful z (more ++ h) → NoneBy p more → (step : Step)
     → FindsKnown step → May z h p step → word z (more ++ h) (cell step) ≡ word z h (cell step)
 known_word z p more h l n (info_look b) is may = ap (bucket_info_word z) (quiet z more h p b l n may.1)
-known_word z p more h l n (row_load s r j) is may = ap (λ u. u.words j) (read_row z more h p s r l n may.3)
+known_word z p more h l n (row_load s r j) is may =
+    first_words (more ++ h) s r j may.2 ∙ ap (λ u. u.words j) (read_row z more h p s r l n may.3) ∙ sym (first_words h s r j may.2)
 known_word z p more h l n _ is may = absurd is
 
 pub meanwhile : (z : Shape) (p : ℕ) (more h : List Event) → IsLawful z (more ++ h) → NoneBy p more → Meanwhile z p more h

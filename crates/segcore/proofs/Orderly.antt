@@ -1,18 +1,22 @@
 -- What a lawful trace's marks count is what its events do: readers, rows, frequencies and drawn buckets; and they come in order.
-use Rattle.std.proofs.Common.{◌≡◌, ℕ, ◌+◌, ◌<◌, ◌≤◌, Bool, true, false, cond, eqb, ◌&&◌, ◌||◌, List, [], ◌∷◌, Some, None, sym, refl, ap, ◌∙◌, subst, ⊎_elim, arith}
-use Rattle.std.proofs.lemmas.Bool.{cases_Bool, eqb-true, and_parts}
-use Rattle.segword.specs.Words.{Shape}
+use Rattle.std.proofs.Common.{◌≡◌, ℕ, ◌+◌, ◌<◌, ◌≤◌, Bool, true, false, cond, eqb, ◌&&◌, ◌||◌, List, [], ◌∷◌, Some, None, MatchBool, ◌==◌, sym, refl, ap, ◌∙◌, subst, ⊎_elim, arith}
+use Rattle.std.proofs.lemmas.Bool.{and_from, and_parts, cases_Bool, cond-false, cond-true, eqb-true, false≢true}
+use Rattle.std.proofs.lemmas.Option.{none-some}
+use Rattle.segword.specs.RowLayout.{key_length, value_length}
+use Rattle.segword.specs.Words.{covers, most_span, Shape, span_of_header}
 use Rattle.segmodel.specs.Words.{key_of}
 use Rattle.segcore.specs.Words.{Event, Leaving}
 use Rattle.segcore.specs.declared.event.Event.TheVariants.{Replied, Filled, Linked, Relinked, Unlinked, Drew, Chained, Bumped, Entered, Left, Refilled}
 use Rattle.segcore.specs.Event.{removal}
 use Rattle.segcore.specs.Overflow.{drawn_in}
-use Rattle.segcore.specs.Row.{Row, writes_row, row_after, frequency_of}
+use Rattle.segcore.specs.Row.{frequency_of, Row, row_after, row_alone, writes_row}
 use Rattle.segcore.specs.Segment.{inside, readers, was_used}
 use Rattle.segcore.specs.Lawful.{IsLawful}
 use Rattle.segcore.specs.Mark.{Mark, enters, marked, all_drawn, all_entered, all_left, times_entered, times_left, is_segment_named, linked_in, frequency_in, IsOrderly}
 use Rattle.segcore.specs.declared.event.Leaving.TheVariants.{Deletes, Evicts}
+use Rattle.segcore.proofs.Quiet.{linked_first, moved_first, of_row}
 use Rattle.segcore.proofs.Readers.{is_counted}
+use Rattle.segcore.proofs.Spans.{covers-first, header_some, span_one}
 
 pub all_drawn_marked : (h : List Event) → all_drawn (marked h) ≡ drawn_in h
 all_drawn_marked [] = refl
@@ -34,6 +38,10 @@ named_marked (e ∷ h) s = named_marked h s
 
 -- ---- rows
 
+-- where an item takes one row, it is that row
+one_row : (first header r : ℕ) → eqb most_span 1 ≡ true → covers first (span_of_header header) r ≡ eqb first r
+one_row first header r one = ap (λ n. covers first n r) (span_one (key_length header) (value_length header) one)
+
 linked_cond : (t : Bool) (u : Row) (k : List ℕ) → cond t (Some k) u.linked ≡ (cond t (record u { linked = Some k }) u).linked
 linked_cond true u k = refl
 linked_cond false u k = refl
@@ -50,14 +58,65 @@ removed_rows : (p : ℕ) (k : List ℕ) (why : Leaving) (h : List Mark) (s r : �
 removed_rows p k (Deletes m) h s r = refl
 removed_rows p k (Evicts t) h s r = refl
 
-pub linked_marked : (h : List Event) (s r : ℕ) → linked_in (marked h) s r ≡ (row_after h s r).linked
-linked_marked [] s r = refl
-linked_marked (Linked p q t i n ∷ h) s r = ap (cond (eqb t s && eqb i r) (Some (key_of q))) (linked_marked h s r) ∙ linked_cond (eqb t s && eqb i r) (row_after h s r) (key_of q)
-linked_marked (Relinked p k a b t i n ∷ h) s r = ap (cond (eqb t s && eqb i r) (Some k)) (linked_marked h s r) ∙ linked_cond (eqb t s && eqb i r) (row_after h s r) k
-linked_marked (Refilled p t d ∷ h) s r = ap (cond (eqb t s) None) (linked_marked h s r) ∙ unlinked_cond (eqb t s) (row_after h s r)
-linked_marked (Filled p t i j w ∷ h) s r = linked_marked h s r ∙ filled_cond (eqb t s && eqb i r) (row_after h s r) (writes_row (Filled p t i j w) (row_after h s r)) refl
-linked_marked (Unlinked p k n why ∷ h) s r = removed_rows p k why (marked h) s r ∙ linked_marked h s r
-linked_marked (e ∷ h) s r = linked_marked h s r
+linked_each : (h : List Event) (s r : ℕ) → eqb most_span 1 ≡ true → linked_in (marked h) s r ≡ (row_alone h s r).linked
+linked_each [] s r one = refl
+linked_each (Linked p q t i n ∷ h) s r one =
+    ap (cond (eqb t s && eqb i r) (Some (key_of q))) (linked_each h s r one)
+    ∙ ap (λ b. cond (eqb t s && b) (Some (key_of q)) (row_alone h s r).linked) (sym (one_row i ((row_alone h t i).words 0) r one))
+    ∙ linked_cond (of_row h (Linked p q t i n) s r) (row_alone h s r) (key_of q)
+linked_each (Relinked p k a b t i n ∷ h) s r one =
+    ap (cond (eqb t s && eqb i r) (Some k)) (linked_each h s r one)
+    ∙ ap (λ b. cond (eqb t s && b) (Some k) (row_alone h s r).linked) (sym (one_row i ((row_alone h t i).words 0) r one))
+    ∙ linked_cond (of_row h (Relinked p k a b t i n) s r) (row_alone h s r) k
+linked_each (Refilled p t d ∷ h) s r one = ap (cond (eqb t s) None) (linked_each h s r one) ∙ unlinked_cond (eqb t s) (row_alone h s r)
+linked_each (Filled p t i j w ∷ h) s r one = linked_each h s r one ∙ filled_cond (eqb t s && eqb i r) (row_alone h s r) (writes_row (Filled p t i j w) (row_alone h s r)) refl
+linked_each (Unlinked p k n why ∷ h) s r one = removed_rows p k why (marked h) s r ∙ linked_each h s r one
+linked_each (e ∷ h) s r one = linked_each h s r one
+
+-- what is linked isn't unlinked, and what an item takes has its first row
+never : {A : Type 0} (t : Bool) (u : Row) (k : List ℕ) → t ≡ true → (cond t (record u { linked = Some k }) u).linked ≡ None → A
+never true u k e none = absurd (none-some k (sym none))
+never false u k e none = absurd (false≢true e)
+
+before : (t : Bool) (u : Row) (k : List ℕ) → (cond t (record u { linked = Some k }) u).linked ≡ None → u.linked ≡ None
+before true u k none = absurd (none-some k (sym none))
+before false u k none = none
+
+first_of : (h : List Event) (s r t i : ℕ) → (eqb t s && eqb i r) ≡ true → (eqb t s && covers i (span_of_header ((row_alone h t i).words 0)) r) ≡ true
+first_of h s r t i y = let q = and_parts (eqb t s) (eqb i r) y in let header = (row_alone h t i).words 0 in
+    and_from (eqb t s) (covers i (span_of_header header) r) q.0
+    (subst (λ x. covers i (span_of_header header) x ≡ true) (eqb-true i r q.1) (covers-first i (span_of_header header) (header_some header)))
+
+-- a row that isn't linked isn't the first of an item either
+pub unlinked_marked : (h : List Event) (s r : ℕ) → (row_alone h s r).linked ≡ None → linked_in (marked h) s r ≡ None
+unlinked_marked [] s r none = refl
+unlinked_marked (Linked p q t i n ∷ h) s r none = ⊎_elim
+    (λ y. never (of_row h (Linked p q t i n) s r) (row_alone h s r) (key_of q) (first_of h s r t i y) none)
+    (λ f. cond-false (eqb t s && eqb i r) (Some (key_of q)) (linked_in (marked h) s r) f
+    ∙ unlinked_marked h s r (before (of_row h (Linked p q t i n) s r) (row_alone h s r) (key_of q) none))
+    (cases_Bool (eqb t s && eqb i r))
+unlinked_marked (Relinked p k a b t i n ∷ h) s r none = ⊎_elim
+    (λ y. never (of_row h (Relinked p k a b t i n) s r) (row_alone h s r) k (first_of h s r t i y) none)
+    (λ f. cond-false (eqb t s && eqb i r) (Some k) (linked_in (marked h) s r) f
+    ∙ unlinked_marked h s r (before (of_row h (Relinked p k a b t i n) s r) (row_alone h s r) k none))
+    (cases_Bool (eqb t s && eqb i r))
+unlinked_marked (Refilled p t d ∷ h) s r none = ⊎_elim
+    (λ y. cond-true (eqb t s) None (linked_in (marked h) s r) y)
+    (λ f. cond-false (eqb t s) None (linked_in (marked h) s r) f ∙ unlinked_marked h s r
+    (sym (ap (λ (u : Row). u.linked) (cond-false (eqb t s) (writes_row (Refilled p t d) (row_alone h s r)) (row_alone h s r) f)) ∙ none))
+    (cases_Bool (eqb t s))
+unlinked_marked (Filled p t i j w ∷ h) s r none = unlinked_marked h s r (filled_cond (eqb t s && eqb i r) (row_alone h s r) (writes_row (Filled p t i j w) (row_alone h s r)) refl ∙ none)
+unlinked_marked (Unlinked p k n why ∷ h) s r none = removed_rows p k why (marked h) s r ∙ unlinked_marked h s r none
+unlinked_marked (e ∷ h) s r none = unlinked_marked h s r none
+
+either_says : (b : Bool) {A B : Type 0} → (b ≡ true → A) → B → MatchBool b A B
+either_says true f g = f refl
+either_says false f g = g
+
+-- where each item takes one row, the marks say of each row whether it is linked
+pub linked_marked : (h : List Event) (s r : ℕ) → MatchBool (most_span == 1) (linked_in (marked h) s r ≡ (row_after h s r).linked)
+    ((row_after h s r).linked ≡ None → linked_in (marked h) s r ≡ None)
+linked_marked h s r = either_says (eqb most_span 1) (linked_each h s r) (unlinked_marked h s r)
 
 -- ---- readers
 
@@ -87,8 +146,8 @@ removed_order p k (Evicts s) h i = (i, tt)
 pub orderly : (z : Shape) (h : List Event) → IsLawful z h → IsOrderly (marked h)
 orderly z [] l = tt
 orderly z (Replied p q y ∷ h) l = (orderly z h l.0, tt)
-orderly z (Linked p q s r n ∷ h) l = ((orderly z h l.0, linked_marked h s r ∙ l.1.suits.0.3), tt)
-orderly z (Relinked p k a b s r n ∷ h) l = ((orderly z h l.0, linked_marked h s r ∙ l.1.suits.0.3), tt)
+orderly z (Linked p q s r n ∷ h) l = ((orderly z h l.0, unlinked_marked h s r (linked_first z h p q s r n l.1.suits).3), tt)
+orderly z (Relinked p k a b s r n ∷ h) l = ((orderly z h l.0, unlinked_marked h s r (moved_first z h p k a b s r n l.1.suits).3), tt)
 orderly z (Unlinked p k n why ∷ h) l = removed_order p k why (marked h) (orderly z h l.0)
 orderly z (Refilled p s d ∷ h) l = (orderly z h l.0, (let a = readers_marked z h s l.0 in let b = l.1.suits.2 in omega arith))
 orderly z (Drew p b d m ∷ h) l = (orderly z h l.0, tt)

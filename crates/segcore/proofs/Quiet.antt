@@ -1,19 +1,20 @@
 -- What a pass knows of a bucket whose bit it has, and of its own rows, stays so whatever others do.
-use Rattle.std.proofs.Common.{◌≡◌, ◌≢◌, ℕ, ◌+◌, ◌<◌, ◌≤◌, Bool, true, false, cond, eqb, ◌&&◌, ◌||◌, List, [], ◌∷◌, ◌++◌, Option, Some, None, MatchOption, sym, refl, ap, ◌∙◌, subst, ⊎_elim, arith}
+use Rattle.std.proofs.Common.{◌≡◌, ◌≢◌, ℕ, ◌+◌, ◌<◌, ◌≤◌, Bool, true, false, cond, eqb, ◌&&◌, ◌||◌, List, [], ◌∷◌, ◌++◌, length, Option, Some, None, MatchOption, sym, refl, ap, ◌∙◌, subst, ⊎_elim, arith}
 use Rattle.std.proofs.lemmas.Bool.{cases_Bool, cond-false, eqb-true, ne_eqb, and_parts, false≢true, false_from_ne_true}
 use Rattle.std.proofs.lemmas.Option.{same_Some, none-some}
-use Rattle.segword.specs.Words.{Shape}
+use Rattle.segword.specs.Words.{covers, Shape, span_of, span_of_header}
 use Rattle.segmodel.specs.declared.request.Request.TheVariants.{Delete}
 use Rattle.segmodel.specs.declared.request.Reply.TheVariants.{Stored, Deleted}
 use Rattle.segmodel.specs.declared.entry.Entry.TheVariants as entry
-use Rattle.segmodel.specs.Words.{after, bucket_of, Follows, IsSameAt, key_of, moment_of, owner, Reply}
+use Rattle.segmodel.specs.Words.{after, bucket_of, Follows, IsSameAt, key_of, moment_of, owner, Reply, value_of}
 use Rattle.segmodel.specs.Words.{reply_to, Request}
 use Rattle.segcore.proofs.Caches.{stands}
 use Rattle.segcore.specs.Bucket.{bucket_at, is, acts, bucket_after, IsPosition, Bucket}
 use Rattle.segcore.specs.Event.{by, removal, seen, NoneBy}
-use Rattle.segcore.specs.Lawful.{NoneAt, needs, Suits, Fits, IsLawful, is_of_now}
+use Rattle.segcore.specs.Lawful.{AreOwnRows, HasRoomFor, IsOwnRow, NoneAt, needs, Suits, Fits, IsLawful, is_of_now}
 use Rattle.segcore.specs.Overflow.{drawn_in, Home, home_of}
-use Rattle.segcore.specs.Row.{row_at, row_after}
+use Rattle.segcore.specs.Row.{is_of_row, Row, row_after, row_alone, span_in, writes_row}
+use Rattle.segcore.proofs.Spans.{alone_span, first_words, header_some, own_first, own_row, own_rows_same, same_after, span_some}
 use Rattle.segcore.specs.Segment.{inside, was_used, deadline_of}
 use Rattle.segmodel.proofs.HistoryLemmas.{next_other, kept-deadlines}
 use Rattle.std.specs.Prelude.{is_some, IsSomeAnd}
@@ -75,26 +76,63 @@ quiet_stands z more h p k l n held = (quiet_at z more h p k l n held).stands
 
 -- ---- rows
 
-at_row : (z : Shape) (h : List Event) (e : Event) (s r : ℕ) → Suits z h e → row_at e s r ≡ true → owner z s ≡ by e
+-- whether an event is of a row, or of an item that the row is of
+abbrev pub of_row : List Event → Event → ℕ → ℕ → Bool
+of_row h e s r = is_of_row (λ t i. (row_alone h t i).words 0) e s r
+
+-- the rows of an item that is linked, or moved there, are the pass's own
+pub linked_own : (z : Shape) (h : List Event) (p : ℕ) (q : Request) (s r n i : ℕ) → Suits z h (Linked p q s r n)
+    → covers r (span_of_header ((row_alone h s r).words 0)) i ≡ true → IsOwnRow z h p s i
+linked_own z h p q s r n i u c =
+    own_row z h p s r (span_of (key_of q) (value_of q)) i u.0
+    (subst (λ m. covers r m i ≡ true) (alone_span h s r (key_of q) (value_of q) u.5 u.6 u.1) c)
+
+pub moved_own : (z : Shape) (h : List Event) (p : ℕ) (k : List ℕ) (a f s r n i : ℕ) → Suits z h (Relinked p k a f s r n)
+    → covers r (span_of_header ((row_alone h s r).words 0)) i ≡ true → IsOwnRow z h p s i
+moved_own z h p k a f s r n i u c =
+    own_row z h p s r (span_in h s r) i u.0
+    (subst (λ w. covers r (span_of_header w) i ≡ true) (sym (first_words h s r 0 (omega arith))) c)
+
+-- and so is the first of them
+pub linked_first : (z : Shape) (h : List Event) (p : ℕ) (q : Request) (s r n : ℕ) → Suits z h (Linked p q s r n) → IsOwnRow z h p s r
+linked_first z h p q s r n u =
+    own_first z h p s r (span_of (key_of q) (value_of q)) (span_some (length (key_of q)) (length (value_of q))) u.0
+
+pub moved_first : (z : Shape) (h : List Event) (p : ℕ) (k : List ℕ) (a f s r n : ℕ) → Suits z h (Relinked p k a f s r n) → IsOwnRow z h p s r
+moved_first z h p k a f s r n u = own_first z h p s r (span_in h s r) (header_some ((row_after h s r).words 0)) u.0
+
+at_row : (z : Shape) (h : List Event) (e : Event) (s r : ℕ) → Suits z h e → of_row h e s r ≡ true → owner z s ≡ by e
 at_row z h (Filled p s' r' j w) s r u t = let q = and_parts (eqb s' s) (eqb r' r) t in rw (← eqb-true s' s q.0) u.0.2
-at_row z h (Linked p q' s' r' n) s r u t = let q = and_parts (eqb s' s) (eqb r' r) t in rw (← eqb-true s' s q.0) u.0.2
-at_row z h (Relinked p k a i s' r' n) s r u t = let q = and_parts (eqb s' s) (eqb r' r) t in rw (← eqb-true s' s q.0) u.0.2
+at_row z h (Linked p q' s' r' n) s r u t =
+    let q = and_parts (eqb s' s) (covers r' (span_of_header ((row_alone h s' r').words 0)) r) t in
+    rw (← eqb-true s' s q.0) (linked_first z h p q' s' r' n u).2
+at_row z h (Relinked p k a i s' r' n) s r u t =
+    let q = and_parts (eqb s' s) (covers r' (span_of_header ((row_alone h s' r').words 0)) r) t in
+    rw (← eqb-true s' s q.0) (moved_first z h p k a i s' r' n u).2
 at_row z h (Refilled p s' d) s r u t = rw (← eqb-true s' s t) u.1
 at_row z h e s r u t = absurd (false≢true t)
 
 -- a row whose words an event writes or links isn't linked
-pub at_unlinked : (z : Shape) (h : List Event) (e : Event) (s r : ℕ) → Suits z h e → ((p t d : ℕ) → e ≢ Refilled p t d) → row_at e s r ≡ true → (row_after h s r).linked ≡ None
+pub at_unlinked : (z : Shape) (h : List Event) (e : Event) (s r : ℕ) → Suits z h e → ((p t d : ℕ) → e ≢ Refilled p t d) → of_row h e s r ≡ true → (row_alone h s r).linked ≡ None
 at_unlinked z h (Filled p s' r' j w) s r u other t = let q = and_parts (eqb s' s) (eqb r' r) t in rw (← eqb-true s' s q.0, ← eqb-true r' r q.1) u.0.3
-at_unlinked z h (Linked p q' s' r' n) s r u other t = let q = and_parts (eqb s' s) (eqb r' r) t in rw (← eqb-true s' s q.0, ← eqb-true r' r q.1) u.0.3
-at_unlinked z h (Relinked p k a i s' r' n) s r u other t = let q = and_parts (eqb s' s) (eqb r' r) t in rw (← eqb-true s' s q.0, ← eqb-true r' r q.1) u.0.3
+at_unlinked z h (Linked p q' s' r' n) s r u other t =
+    let q = and_parts (eqb s' s) (covers r' (span_of_header ((row_alone h s' r').words 0)) r) t in
+    subst (λ x. (row_alone h x r).linked ≡ None) (eqb-true s' s q.0) (linked_own z h p q' s' r' n r u q.1).3
+at_unlinked z h (Relinked p k a i s' r' n) s r u other t =
+    let q = and_parts (eqb s' s) (covers r' (span_of_header ((row_alone h s' r').words 0)) r) t in
+    subst (λ x. (row_alone h x r).linked ≡ None) (eqb-true s' s q.0) (moved_own z h p k a i s' r' n r u q.1).3
 at_unlinked z h (Refilled p s' d) s r u other t = absurd (other p s' d refl)
 at_unlinked z h e s r u other t = absurd (false≢true t)
 
+pub quiet_alone : (z : Shape) (more h : List Event) (s r : ℕ) → IsLawful z (more ++ h) → NoneBy (owner z s) more → row_alone (more ++ h) s r ≡ row_alone h s r
+quiet_alone z [] h s r l n = refl
+quiet_alone z (e ∷ more) h s r l n =
+    let off = false_from_ne_true (of_row (more ++ h) e s r) (λ t. n.0 (sym (at_row z (more ++ h) e s r l.1.suits t))) in
+    cond-false (of_row (more ++ h) e s r) (writes_row e (row_alone (more ++ h) s r)) (row_alone (more ++ h) s r) off
+    ∙ quiet_alone z more h s r l.0 n.1
+
 pub quiet_row : (z : Shape) (more h : List Event) (s r : ℕ) → IsLawful z (more ++ h) → NoneBy (owner z s) more → row_after (more ++ h) s r ≡ row_after h s r
-quiet_row z [] h s r l n = refl
-quiet_row z (e ∷ more) h s r l n =
-    let off = false_from_ne_true (row_at e s r) (λ t. n.0 (sym (at_row z (more ++ h) e s r l.1.suits t))) in
-    rw off (quiet_row z more h s r l.0 n.1)
+quiet_row z more h s r l n = same_after h (more ++ h) s r (λ i _. quiet_alone z more h s i l n)
 
 -- ---- readers
 
@@ -217,19 +255,34 @@ later z more h (Freed p b c) l n t f =
 later z more h (Replied p q y) l n t f =
     let same = quiet z more h p (bucket_of z (key_of q)) l n f.guarded.1 in
     record { guarded = (f.guarded.0, rw same f.guarded.1); follows = later_follows z more h p q y None l n f.guarded.1 f.follows; suits = f.suits }
-later z more h (Filled p s r j w) l n t f = let own = f.suits.0 in
-    record { guarded = tt; follows = tt; suits = rw (quiet_row z more h s r l (rw own.2 n)) f.suits }
+later z more h (Filled p s r j w) l n t f =
+    let own = f.suits.0 in
+    let same = quiet_row z more h s r l (rw own.2 n) in
+    record { guarded = tt; follows = tt; suits = ((own.0, own.1, own.2, ap (λ (u : Row). u.linked) same ∙ own.3), f.suits.1) }
 later z more h (Linked p q s r m) l n t f =
-    let same = quiet z more h p (bucket_of z (key_of q)) l n f.guarded.1 in
+    let k = key_of q in let u = f.suits in
+    let same = quiet z more h p (bucket_of z k) l n f.guarded.1 in
+    let others : NoneBy (owner z s) more = rw (linked_first z h p q s r m u).2 n in
+    let room : HasRoomFor z (more ++ h) k m = rw (same, quiet_stands z more h p k l n f.guarded.1) u.4 in
     record {
       guarded = (f.guarded.0, rw same f.guarded.1);
       follows = later_follows z more h p q Stored (Some s) l n f.guarded.1 f.follows;
-      suits = rw (same, quiet_stands z more h p (key_of q) l n f.guarded.1, quiet_row z more h s r l (rw f.suits.0.2 n)) f.suits;
+      suits = (
+        own_rows_same z h (more ++ h) p s r (span_of k (value_of q)) (λ i. ap (λ (u : Row). u.linked) (quiet_row z more h s i l others)) u.0,
+        λ j lt. ap (λ (u : Row). u.words j) (quiet_row z more h s r l others) ∙ u.1 j lt,
+        ap (λ (u : Bucket). u.written) same ∙ u.2,
+        subst (λ (u : Bucket). IsPosition u m) (sym same) u.3,
+        room,
+        u.5,
+        u.6,
+      );
     }
 later z more h (Relinked p k a i s r m) l n t f =
     let same = quiet z more h p (bucket_of z k) l n f.guarded.1 in
     let same_stands = quiet_stands z more h p k l n f.guarded.1 in
     let x = f.follows in
+    let others : NoneBy (owner z s) more = rw x.2 n in
+    let same_row = quiet_row z more h s r l others in
     record {
       guarded = (f.guarded.0, rw same f.guarded.1);
       follows = (
@@ -239,7 +292,12 @@ later z more h (Relinked p k a i s r m) l n t f =
         x.3,
         same_own_deadline z more h a l (rw x.1 n) ∙ (x.4 ∙ sym (same_own_deadline z more h s l (rw x.2 n))),
       );
-      suits = rw (same, same_stands, quiet_row z more h s r l (rw x.2 n)) f.suits;
+      suits = (
+        subst (λ w. AreOwnRows z (more ++ h) p s r (span_of_header w)) (sym (ap (λ (u : Row). u.words 0) same_row))
+            (own_rows_same z h (more ++ h) p s r (span_in h s r) (λ i. ap (λ (u : Row). u.linked) (quiet_row z more h s i l others)) f.suits.0),
+        (f.suits.1.0, same_stands ∙ f.suits.1.1, λ j lt. ap (λ (u : Row). u.words j) same_row ∙ f.suits.1.2 j lt),
+        ap (λ (u : Bucket). u.items m) same ∙ f.suits.2,
+      );
     }
 later z more h (Unlinked p k m why) l n t f =
     let same = quiet z more h p (bucket_of z k) l n f.guarded.1 in

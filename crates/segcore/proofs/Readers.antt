@@ -14,6 +14,7 @@ use Rattle.segcore.specs.Standing.{cached}
 use Rattle.segcore.specs.Segment.{inside, readers}
 use Rattle.segcore.specs.Words.{Event}
 use Rattle.segcore.specs.declared.event.Event.TheVariants.{Replied, Linked, Relinked, Unlinked, Entered, Left}
+use Rattle.segcore.proofs.Quiet.{linked_first, moved_first}
 use Rattle.segcore.proofs.Standing.{same_cond, refused, gone}
 
 abbrev total : (ℕ → ℕ) → ℕ → ℕ
@@ -133,10 +134,10 @@ still_empty z h e s k f ne ne' is' = is'
 
 -- others link nothing into a segment of one's own, and move nothing there
 linked_by_owner : (z : Shape) (h : List Event) (e : Event) (s : ℕ) → Fits z h e → owner z s ≢ by e → (p : ℕ) (q : Request) (row n : ℕ) → e ≢ Linked p q s row n
-linked_by_owner z h e s f ne p q row n is' = ne ((subst (Fits z h) is' f).suits.0.2 ∙ sym (ap by is'))
+linked_by_owner z h e s f ne p q row n is' = ne ((linked_first z h p q s row n (subst (Fits z h) is' f).suits).2 ∙ sym (ap by is'))
 
 moved_by_owner : (z : Shape) (h : List Event) (e : Event) (s : ℕ) → Fits z h e → owner z s ≢ by e → (p : ℕ) (k : List ℕ) (a i row n : ℕ) → e ≢ Relinked p k a i s row n
-moved_by_owner z h e s f ne p k a i row n is' = ne ((subst (Fits z h) is' f).suits.0.2 ∙ sym (ap by is'))
+moved_by_owner z h e s f ne p k a i row n is' = ne ((moved_first z h p k a i s row n (subst (Fits z h) is' f).suits).2 ∙ sym (ap by is'))
 
 pub empty_stays : (z : Shape) (more h : List Event) (s : ℕ) → IsLawful z (more ++ h) → NoneBy (owner z s) more → NoneStandsIn (after z (seen h)) s → NoneStandsIn (after z (seen (more ++ h))) s
 empty_stays z [] h s l n none k is' = none k is'

@@ -7,7 +7,7 @@ use Rattle.segcore.specs.Words.{Cell, Event, Leaving}
 use Rattle.segcore.specs.declared.event.Event.TheVariants.{Linked, Relinked, Unlinked, Chained}
 use Rattle.segcore.specs.Event.{seen}
 use Rattle.segcore.specs.Bucket.{Slot, slot, item, nothing, last, fresh_position, IsPosition, acts, bucket_after}
-use Rattle.segcore.specs.Row.{row_after}
+use Rattle.segcore.specs.Row.{row_after, row_alone}
 use Rattle.segcore.specs.Lawful.{IsLawful}
 use Rattle.segcore.specs.Mark.{marked, same_key, last_at}
 use Rattle.segcore.specs.Standing.{cached, Names}
@@ -16,6 +16,7 @@ use Rattle.segcore.specs.Search.{KeyGone, KeyAt, KeyAhead, RowGone, RowAt, Sough
 use Rattle.segcore.proofs.Keys.{same_true}
 use Rattle.segcore.proofs.Caches.{stands}
 use Rattle.segcore.proofs.Chains.{same_item, copy_item}
+use Rattle.segcore.proofs.Quiet.{linked_first, moved_first}
 use Rattle.segcore.proofs.Standing.{coherent, links, unlinks, relinks, here, there, gone, rows_stay, is_calm, grown, at_fresh, elsewhere, others_same}
 use Rattle.segword.specs.Words.{IsValid, Shape}
 use Rattle.segcore.specs.Word.{IsAt}
@@ -39,12 +40,12 @@ pub record Replaced (z : Shape) (h : List Event) (e : Event) (b n : ℕ) (a : Sl
   pub here : (bucket_after z (e ∷ h) b).items n ≡ item (slot a.key segment row)
   pub last : last_at (marked (e ∷ h)) a.key ≡ Some (slot a.key segment row)
   pub fresh : (row_after h segment row).linked ≡ None
-  pub rows : row_after (e ∷ h) a.segment a.row ≡ row_after h a.segment a.row
+  pub rows : row_alone (e ∷ h) a.segment a.row ≡ row_alone h a.segment a.row
 
 -- or it goes
 pub record Removed (z : Shape) (h : List Event) (e : Event) (a : Slot) : Type 0 where
   pub absent : stands z (seen (e ∷ h)) a.key ≡ None
-  pub rows : row_after (e ∷ h) a.segment a.row ≡ row_after h a.segment a.row
+  pub rows : row_alone (e ∷ h) a.segment a.row ≡ row_alone h a.segment a.row
 
 abbrev Fate : Shape → List Event → Event → ℕ → ℕ → Slot → Type 0
 Fate z h e b n a = Onward z h e b n a ⊎ (Replaced z h e b n a ⊎ Removed z h e a)
@@ -71,7 +72,7 @@ linked_fate z h p q s r n' b n a l is' =
       here = subst (λ t. (bucket_after z (e ∷ h) t).items n ≡ item (slot a.key s r)) eb (here z h e k n' o x w n
           ∙ (cond-true (eqb n' n) o ((bucket_after z h b0).items n) hit ∙ ap (λ t. item (slot t s r)) (sym own)));
       last = cond-true (same_key k a.key) (Some (slot a.key s r)) (last_at (marked h) a.key) (same_true k a.key (sym own));
-      fresh = l.1.suits.0.3;
+      fresh = (linked_first z h p q s r n' l.1.suits).3;
       rows = rows_stay z h e l.1.suits (λ p' t' d' same. cc) a.segment a.row a.key ((c.items b n a is').value) (c.items b n a is').linked (c.items b n a is').stands;
     })))
     (λ miss. inl (n, omega arith, subst (λ t. (bucket_after z (e ∷ h) t).items n ≡ item a) eb (here z h e k n' o x w n ∙ (cond-false (eqb n' n) o ((bucket_after z h b0).items n) miss ∙ old))))
@@ -102,7 +103,7 @@ relinked_fate z h p k f i s r n' b n a l is' =
       here = subst (λ t. (bucket_after z (e ∷ h) t).items n ≡ item (slot a.key s r)) eb (here z h e k n' o x w n
           ∙ (cond-true (eqb n' n) o ((bucket_after z h b0).items n) hit ∙ ap (λ t. item (slot t s r)) (sym own)));
       last = cond-true (same_key k a.key) (Some (slot a.key s r)) (last_at (marked h) a.key) (same_true k a.key (sym own));
-      fresh = u.0.3;
+      fresh = (moved_first z h p k f i s r n' u).3;
       rows = rows_stay z h e u (λ p' t' d' same. cc) a.segment a.row a.key ((c.items b n a is').value) (c.items b n a is').linked (c.items b n a is').stands;
     })))
     (λ miss. inl (n, omega arith, subst (λ t. (bucket_after z (e ∷ h) t).items n ≡ item a) eb (here z h e k n' o x w n ∙ (cond-false (eqb n' n) o ((bucket_after z h b0).items n) miss ∙ old))))
@@ -156,7 +157,7 @@ fate z e h b n a l is' = inl (n, omega arith, (is_calm z e h refl l (coherent z 
 -- ---- it moves forward until it is gone
 
 -- after its item went, no word names a row
-row_gone : (z : Shape) (e : Event) (h : List Event) (b n : ℕ) (a : Slot) → IsLawful z (e ∷ h) → (bucket_after z h b).items n ≡ item a → row_after (e ∷ h) a.segment a.row ≡ row_after h a.segment a.row
+row_gone : (z : Shape) (e : Event) (h : List Event) (b n : ℕ) (a : Slot) → IsLawful z (e ∷ h) → (bucket_after z h b).items n ≡ item a → row_alone (e ∷ h) a.segment a.row ≡ row_alone h a.segment a.row
     → ((c : Slot) → c.key ≡ a.key → c.segment ≡ a.segment → c.row ≡ a.row
     → ((x : Cached) → stands z (seen (e ∷ h)) a.key ≡ Some x → ⊥)
     ⊎ (last_at (marked (e ∷ h)) a.key ≢ Some (slot a.key a.segment a.row)))

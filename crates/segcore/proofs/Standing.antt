@@ -1,8 +1,8 @@
 -- In a lawful history the chains and the map agree, by induction on its events.
 use Rattle.std.proofs.Common.{◌≡◌, ◌≢◌, ℕ, Bool, true, false, cond, eqb, ◌⊎◌, List, [], ◌∷◌, Option, Some, None, sym, refl, ap, ◌∙◌, subst, inl, inr, ⊎_elim, option_map, arith}
-use Rattle.std.proofs.lemmas.Bool.{cases_Bool, cond-true, cond-false, eqb-true, eqb-false, eq-eqb, ne_eqb, false≢true, false_from_ne_true}
+use Rattle.std.proofs.lemmas.Bool.{and_from, cases_Bool, cond-true, cond-false, eqb-true, eqb-false, eq-eqb, ne_eqb, false≢true, false_from_ne_true}
 use Rattle.std.proofs.lemmas.Option.{same_Some, none-some}
-use Rattle.segword.specs.Words.{IsValue, Shape}
+use Rattle.segword.specs.Words.{covers, IsValue, Shape, span_of, span_of_header}
 use Rattle.segmodel.specs.declared.request.Reply.TheVariants.{Stored, NotStored, Exists, NotFound, Deleted}
 use Rattle.segmodel.specs.Words.{bucket_of, Cached, IsLegal, key_of, Reply, Request, value_of}
 use Rattle.segmodel.specs.Cache.{with_segment}
@@ -13,34 +13,50 @@ use Rattle.segcore.specs.Bucket.{Slot, slot, Content, nothing, item, next, copy,
 use Rattle.segcore.specs.Event.{removal, seen}
 use Rattle.segcore.specs.Lawful.{IsRefusal, HasRoomFor, Suits, IsLawful}
 use Rattle.segcore.specs.Mark.{same_key, marked, last_at}
-use Rattle.segcore.specs.Row.{Row, row_at, writes_row, row_after}
+use Rattle.segcore.specs.Row.{Row, row_after, row_alone, writes_row}
 use Rattle.segcore.specs.Standing.{cached}
 use Rattle.segcore.specs.Words.{Event, Leaving}
 use Rattle.segcore.specs.declared.event.Event.TheVariants.{Replied, Filled, Linked, Relinked, Unlinked, Put, Chained, Refilled}
 use Rattle.segcore.specs.declared.event.Leaving.TheVariants.{Deletes, Evicts}
 use Rattle.segcore.proofs.Keys.{key_true, same_true, key_false, same_false}
-use Rattle.segcore.proofs.Quiet.{at_unlinked}
+use Rattle.segcore.proofs.Quiet.{at_unlinked, linked_first, moved_first, of_row}
+use Rattle.segcore.proofs.Spans.{alone_span, covers-first, header_some, same_after, same_words_after}
 use Rattle.segcore.proofs.Chains.{same_item, no_item, next_item, copy_item, chain_of}
 
+-- the rows of an item that stands are as before
+abbrev SameRows : (z : Shape) (h : List Event) (e : Event) (b n : ℕ) (a : Slot) → IsStanding z h b n a → Type 0
+SameRows z h e b n a s = (i : ℕ) → covers a.row (span_of a.key s.value) i ≡ true → row_alone (e ∷ h) a.segment i ≡ row_alone h a.segment i
+
+-- so it is the same item
+same_item_after : (z : Shape) (h : List Event) (e : Event) (b n : ℕ) (a : Slot) (s : IsStanding z h b n a) → SameRows z h e b n a s
+    → row_after (e ∷ h) a.segment a.row ≡ row_after h a.segment a.row
+same_item_after z h e b n a s w = same_after h (e ∷ h) a.segment a.row (λ i c. w i
+    (subst (λ m. covers a.row m i ≡ true) (alone_span h a.segment a.row a.key s.value s.valid.0 s.valid.1 s.holds) c))
+
 -- an item stands after the event as before, at the position n'
-stood : (z : Shape) (h : List Event) (e : Event) (b n n' : ℕ) (a : Slot) → IsStanding z h b n a
-    → IsPosition (bucket_after z (e ∷ h) b) n' → row_after (e ∷ h) a.segment a.row ≡ row_after h a.segment a.row
+stood : (z : Shape) (h : List Event) (e : Event) (b n n' : ℕ) (a : Slot) (s : IsStanding z h b n a)
+    → IsPosition (bucket_after z (e ∷ h) b) n' → SameRows z h e b n a s
     → stands z (seen (e ∷ h)) a.key ≡ stands z (seen h) a.key
     → last_at (marked (e ∷ h)) a.key ≡ last_at (marked h) a.key → IsStanding z (e ∷ h) b n' a
-stood z h e b n n' a s i w k m = record {
+stood z h e b n n' a s i w k m = let same = same_item_after z h e b n a s w in record {
   here = s.here;
   position = i;
   within = s.within;
-  linked = ap (λ u. u.linked) w ∙ s.linked;
+  linked = ap (λ (u : Row). u.linked) same ∙ s.linked;
   value = s.value;
   valid = s.valid;
-  holds = λ j lt. ap (λ (u : Row). u.words j) w ∙ s.holds j lt;
+  holds = λ j lt. ap (λ (u : Row). u.words j) same ∙ s.holds j lt;
+  rows = λ i c. ap (λ (u : Row). u.linked) (w i c) ∙ s.rows i c;
   stands = k ∙ s.stands;
   last = m ∙ s.last;
 }
 
 abbrev LinkedRowsStay : Shape → List Event → Event → Type 0
-LinkedRowsStay z h e = (s r : ℕ) (k v : List ℕ) → (row_after h s r).linked ≡ Some k → stands z (seen h) k ≡ Some (cached v s) → row_after (e ∷ h) s r ≡ row_after h s r
+LinkedRowsStay z h e = (s r : ℕ) (k v : List ℕ) → (row_alone h s r).linked ≡ Some k → stands z (seen h) k ≡ Some (cached v s) → row_alone (e ∷ h) s r ≡ row_alone h s r
+
+-- which says it of the rows of an item that stands
+rows_of : (z : Shape) (h : List Event) (e : Event) (b n : ℕ) (a : Slot) (s : IsStanding z h b n a) → LinkedRowsStay z h e → SameRows z h e b n a s
+rows_of z h e b n a s stay i c = stay a.segment i a.key s.value (s.rows i c) s.stands
 
 -- an event that changes no item, no key and no row that is linked
 pub record Calm (z : Shape) (h : List Event) (e : Event) : Type 0 where
@@ -56,7 +72,7 @@ calm : (z : Shape) (h : List Event) (e : Event) → IsLawful z (e ∷ h) → Cal
 calm z h e l q c = record {
   chains = chain_of z (e ∷ h) l;
   items = λ b n a at. let s = c.items b n a (q.back b n a at) in let w = q.chains b in let lt = s.position.0 in
-      stood z h e b n n a s (omega arith, s.position.1) (q.rows a.segment a.row a.key s.value s.linked s.stands) (q.keys a.key) (q.lasts a.key);
+      stood z h e b n n a s (omega arith, s.position.1) (rows_of z h e b n a s q.rows) (q.keys a.key) (q.lasts a.key);
   placed = λ b n a at. q.places a.key ∙ c.placed b n a (q.back b n a at);
   all = λ k x at. let s = c.all k x (sym (q.keys k) ∙ at) in (s.0, s.1, q.on (bucket_of z k) s.0 s.1 s.2, s.3);
 }
@@ -125,7 +141,7 @@ module _ (z : Shape) (h : List Event) (e : Event) (k0 : List ℕ) (n : ℕ) (o :
 
   stays : (b m : ℕ) (a : Slot) → IsStanding z h b m a → a.key ≢ k0 → IsStanding z (e ∷ h) b m a
   stays b m a s ne = let q = same_chained b in let lt = s.position.0 in
-      stood z h e b m m a s (omega arith, s.position.1) (p.rows a.segment a.row a.key s.value s.linked s.stands)
+      stood z h e b m m a s (omega arith, s.position.1) (rows_of z h e b m a s p.rows)
       (p.keys a.key ∙ cond-false (same_key k0 a.key) x (stands z (seen h) a.key) (same_false k0 a.key (λ q. ne (sym q))))
       (p.lasts a.key (same_false k0 a.key (λ q. ne (sym q))))
 
@@ -163,23 +179,52 @@ module _ (z : Shape) (h : List Event) (e : Event) (k0 : List ℕ) (n : ℕ) (o :
 
 -- a linked row is no row that an event touches
 pub rows_stay : (z : Shape) (h : List Event) (e : Event) → Suits z h e → ((p t d : ℕ) → e ≢ Refilled p t d) → LinkedRowsStay z h e
-rows_stay z h e u other s r k v on _ = cond-false (row_at e s r) (writes_row e (row_after h s r)) (row_after h s r)
-    (false_from_ne_true (row_at e s r) (λ t. none-some k (sym (at_unlinked z h e s r u other t) ∙ on)))
+rows_stay z h e u other s r k v on _ = cond-false (of_row h e s r) (writes_row e (row_alone h s r)) (row_alone h s r)
+    (false_from_ne_true (of_row h e s r) (λ t. none-some k (sym (at_unlinked z h e s r u other t) ∙ on)))
+
+linked_then : (t : Bool) (u : Row) (k : List ℕ) → t ≡ true → (cond t (record u { linked = Some k }) u).linked ≡ Some k
+linked_then true u k e = refl
+linked_then false u k e = absurd (false≢true e)
+
+linked_words : (t : Bool) (u : Row) (k : List ℕ) (j : ℕ) → (cond t (record u { linked = Some k }) u).words j ≡ u.words j
+linked_words true u k j = refl
+linked_words false u k j = refl
+
+-- all rows of an item that is linked, or moved, are linked to its key, and no word of a row changes
+module _ (h : List Event) (p : ℕ) (q : Request) (s r n : ℕ) where
+  pub now_linked : (i : ℕ) → covers r (span_of_header ((row_alone h s r).words 0)) i ≡ true → (row_alone (Linked p q s r n ∷ h) s i).linked ≡ Some (key_of q)
+  now_linked i c = linked_then (of_row h (Linked p q s r n) s i) (row_alone h s i) (key_of q)
+      (and_from (eqb s s) (covers r (span_of_header ((row_alone h s r).words 0)) i) (eq-eqb s s refl) c)
+
+  pub link_words : (t i j : ℕ) → (row_after (Linked p q s r n ∷ h) t i).words j ≡ (row_after h t i).words j
+  link_words t i j = same_words_after h (Linked p q s r n ∷ h) t i (λ x y. linked_words (of_row h (Linked p q s r n) t x) (row_alone h t x) (key_of q) y) j
+
+module _ (h : List Event) (p : ℕ) (k : List ℕ) (f o s r n : ℕ) where
+  pub now_moved : (i : ℕ) → covers r (span_of_header ((row_alone h s r).words 0)) i ≡ true → (row_alone (Relinked p k f o s r n ∷ h) s i).linked ≡ Some k
+  now_moved i c = linked_then (of_row h (Relinked p k f o s r n) s i) (row_alone h s i) k
+      (and_from (eqb s s) (covers r (span_of_header ((row_alone h s r).words 0)) i) (eq-eqb s s refl) c)
+
+  pub move_words : (t i j : ℕ) → (row_after (Relinked p k f o s r n ∷ h) t i).words j ≡ (row_after h t i).words j
+  move_words t i j = same_words_after h (Relinked p k f o s r n ∷ h) t i (λ x y. linked_words (of_row h (Relinked p k f o s r n) t x) (row_alone h t x) k y) j
+
+-- the first row is one of them
+pub row_itself : (h : List Event) (s r : ℕ) → covers r (span_of_header ((row_alone h s r).words 0)) r ≡ true
+row_itself h s r = covers-first r (span_of_header ((row_alone h s r).words 0)) (header_some ((row_alone h s r).words 0))
 
 pub links : (z : Shape) (h : List Event) (p : ℕ) (q : Request) (s r n : ℕ) → Suits z h (Linked p q s r n)
     → Puts z h (Linked p q s r n) (key_of q) n (item (slot (key_of q) s r)) (Some (cached (value_of q) s))
-links z h p q s r n u = let e = Linked p q s r n in let k = key_of q in
-    let same_row : row_after (e ∷ h) s r ≡ record (row_after h s r) { linked = Some k } = rw (eq-eqb s s refl, eq-eqb r r refl) refl in
+links z h p q s r n u = let e = Linked p q s r n in let k = key_of q in let own = linked_first z h p q s r n u in
     let b0 = bucket_of z k in
     let same_bucket : bucket_after z (e ∷ h) b0 ≡ acts e (bucket_after z h b0) = cond-true (eqb b0 b0) (acts e (bucket_after z h b0)) (bucket_after z h b0) (eq-eqb b0 b0 refl) in
     let new : IsStanding z (e ∷ h) b0 n (slot k s r) = record {
       here = refl;
       position = subst (λ w. IsPosition w n) (sym same_bucket) u.3;
-      within = (u.0.0, u.0.1);
-      linked = ap (λ w. w.linked) same_row;
+      within = (own.0, own.1);
+      linked = now_linked h p q s r n r (row_itself h s r);
       value = value_of q;
       valid = (u.5, u.6);
-      holds = λ j lt. ap (λ (w : Row). w.words j) same_row ∙ u.1 j lt;
+      holds = λ j lt. link_words h p q s r n s r j ∙ u.1 j lt;
+      rows = λ i c. now_linked h p q s r n i (subst (λ m. covers r m i ≡ true) (sym (alone_span h s r k (value_of q) u.5 u.6 u.1)) c);
       stands = stands_wrote z p q Stored (Some s) (seen h) k ∙ cond-true (same_key k k) (Some (cached (value_of q) s)) (stands z (seen h) k) (same_true k k refl);
       last = cond-true (same_key k k) (Some (slot k s r)) (last_at (marked h) k) (same_true k k refl);
     } in
@@ -201,9 +246,8 @@ links z h p q s r n u = let e = Linked p q s r n in let k = key_of q in
 pub relinks : (z : Shape) (h : List Event) (p : ℕ) (k : List ℕ) (f i s r n : ℕ)
     → (u : Suits z h (Relinked p k f i s r n)) → Coherent z h
     → Puts z h (Relinked p k f i s r n) k n (item (slot k s r)) (Some (cached u.1.0 s))
-relinks z h p k f i s r n u c = let e = Relinked p k f i s r n in
+relinks z h p k f i s r n u c = let e = Relinked p k f i s r n in let own = moved_first z h p k f i s r n u in
     let old = c.items (bucket_of z k) n (slot k f i) u.2 in
-    let same_row : row_after (e ∷ h) s r ≡ record (row_after h s r) { linked = Some k } = rw (eq-eqb s s refl, eq-eqb r r refl) refl in
     let b0 = bucket_of z k in
     let same_bucket : bucket_after z (e ∷ h) b0 ≡ acts e (bucket_after z h b0) = cond-true (eqb b0 b0) (acts e (bucket_after z h b0)) (bucket_after z h b0) (eq-eqb b0 b0 refl) in
     let on : (k' : List ℕ) → stands z (seen (e ∷ h)) k' ≡ cond (same_key k k') (Some (cached u.1.0 s)) (stands z (seen h) k') =
@@ -212,14 +256,16 @@ relinks z h p k f i s r n u c = let e = Relinked p k f i s r n in
     (λ g. rw g refl)
     (cases_Bool (same_key k k'))) in
     let same_value : Some (cached u.1.0 f) ≡ Some (cached old.value f) = sym u.1.1 ∙ old.stands in
+    let is_value : IsValue u.1.0 = subst IsValue (sym (ap (λ (x : Cached). x.value) (same_Some (cached u.1.0 f) (cached old.value f) same_value))) old.valid.1 in
     let new : IsStanding z (e ∷ h) b0 n (slot k s r) = record {
       here = refl;
       position = subst (λ w. IsPosition w n) (sym same_bucket) old.position;
-      within = (u.0.0, u.0.1);
-      linked = ap (λ w. w.linked) same_row;
+      within = (own.0, own.1);
+      linked = now_moved h p k f i s r n r (row_itself h s r);
       value = u.1.0;
-      valid = (old.valid.0, subst IsValue (sym (ap (λ (x : Cached). x.value) (same_Some (cached u.1.0 f) (cached old.value f) same_value))) old.valid.1);
-      holds = λ j lt. ap (λ (w : Row). w.words j) same_row ∙ u.1.2 j lt;
+      valid = (old.valid.0, is_value);
+      holds = λ j lt. move_words h p k f i s r n s r j ∙ u.1.2 j lt;
+      rows = λ x c. now_moved h p k f i s r n x (subst (λ m. covers r m x ≡ true) (sym (alone_span h s r k u.1.0 old.valid.0 is_value u.1.2)) c);
       stands = on k ∙ cond-true (same_key k k) (Some (cached u.1.0 s)) (stands z (seen h) k) (same_true k k refl);
       last = cond-true (same_key k k) (Some (slot k s r)) (last_at (marked h) k) (same_true k k refl);
     } in
@@ -289,8 +335,8 @@ module _ (z : Shape) (h : List Event) (p b m : ℕ) (l : IsLawful z (Chained p b
 
   standing : (n : ℕ) (a : Slot) → (acts e u).items n ≡ item a → IsStanding z (e ∷ h) b n a
   standing n a is' = ⊎_elim
-      (λ w. let q = w.0 in stood z h e b (last u) n a (c.items b (last u) a w.1) (subst (λ v. IsPosition v n) (sym grown) (omega arith, omega arith)) refl refl refl)
-      (λ w. let s = c.items b n a w.1 in let lt = s.position.0 in stood z h e b n n a s (subst (λ v. IsPosition v n) (sym grown) (omega arith, s.position.1)) refl refl refl)
+      (λ w. let q = w.0 in stood z h e b (last u) n a (c.items b (last u) a w.1) (subst (λ v. IsPosition v n) (sym grown) (omega arith, omega arith)) (λ i c. refl) refl refl)
+      (λ w. let s = c.items b n a w.1 in let lt = s.position.0 in stood z h e b n n a s (subst (λ v. IsPosition v n) (sym grown) (omega arith, s.position.1)) (λ i c. refl) refl refl)
       (from n a is')
 
   here_place : (n : ℕ) (a : Slot) → (acts e u).items n ≡ item a → moved u (place z h a.key) ≡ Some n
@@ -307,7 +353,7 @@ module _ (z : Shape) (h : List Event) (p b m : ℕ) (l : IsLawful z (Chained p b
         (standing n x (ap (λ v. v.items n) (sym grown)
         ∙ subst (λ (y : ℕ). (bucket_after z (e ∷ h) y).items n ≡ item x) (sym eb) is')))
         (λ f. let s = others_same a f in let o = c.items a n x (ap (λ v. v.items n) (sym s) ∙ is') in
-        stood z h e a n n x o (subst (λ v. IsPosition v n) (sym s) o.position) refl refl refl)
+        stood z h e a n n x o (subst (λ v. IsPosition v n) (sym s) o.position) (λ i c. refl) refl refl)
         (cases_Bool (eqb b a));
     placed = λ a n x is'. ⊎_elim
         (λ t. let eb = eqb-true b a t in let at : (acts e u).items n ≡ item x = ap (λ v. v.items n) (sym grown) ∙ subst (λ (y : ℕ). (bucket_after z (e ∷ h) y).items n ≡ item x) (sym eb) is' in
@@ -401,7 +447,7 @@ same_lasts e h k t = refl
 
 calm_rows : (z : Shape) (e : Event) (h : List Event) → IsLawful z (e ∷ h) → LinkedRowsStay z h e
 calm_rows z (Refilled p s d) h l t r k v on is' =
-    cond-false (eqb s t) (writes_row (Refilled p s d) (row_after h t r)) (row_after h t r)
+    cond-false (eqb s t) (writes_row (Refilled p s d) (row_alone h t r)) (row_alone h t r)
     (ne_eqb s t (λ e. l.1.follows.0 k (stands_in z (seen h) k s (v, is' ∙ ap (λ q. Some (cached v q)) (sym e)))))
 calm_rows z (Filled p s r j w) h l t i k v on is' = rows_stay z h (Filled p s r j w) l.1.suits (λ p' t' d' same. cc) t i k v on is'
 calm_rows z (Linked p q s r n) h l t i k v on is' = rows_stay z h (Linked p q s r n) l.1.suits (λ p' t' d' same. cc) t i k v on is'

@@ -6,7 +6,7 @@ use Rattle.segmodel.specs.Words.{after, bucket_of, IsSameAt, mine, NoneStandsIn,
 use Rattle.segcore.specs.declared.event.Event.{Event}
 use Rattle.segcore.specs.Event.{by, seen}
 use Rattle.segcore.specs.Bucket.{Slot, item, bucket_after}
-use Rattle.segcore.specs.Row.{row_after, frequency_of}
+use Rattle.segcore.specs.Row.{row_alone, frequency_of}
 use Rattle.segcore.specs.Segment.{inside, refills, NoneRefills, deadline_of}
 use Rattle.segcore.specs.Lawful.{Fits, is_of_now, NoneAt}
 use Rattle.segcore.specs.Count.{Counted, count}
@@ -41,7 +41,7 @@ pub record Meanwhile (shape : Shape) (pass : ℕ) (more old : List Event) : Type
   -- a row that the pass may read stays as it is, and the pass may go on reading it
   pub readable : (segment row : ℕ)
       → MayRead shape old pass segment row
-      → (row_after (more ++ old) segment row ≡ row_after old segment row)
+      → (row_alone (more ++ old) segment row ≡ row_alone old segment row)
       × MayRead shape (more ++ old) pass segment row
   -- a step that loads a word that others leave alone finds what the pass knows
   pub known : (step : Step)

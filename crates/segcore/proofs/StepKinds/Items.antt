@@ -1,5 +1,5 @@
 -- The steps that put an item into a word of a chain, or take it out: link, relink, clear.
-use Rattle.std.proofs.Common.{◌≡◌, ℕ, zero, suc, ◌<◌, Bool, true, false, cond, eqb, ◌&&◌, List, [], ◌∷◌, Some, None, sym, refl, ap, ◌∙◌, subst, ⊎_elim, arith}
+use Rattle.std.proofs.Common.{◌≡◌, ℕ, zero, suc, ◌<◌, true, false, cond, eqb, ◌&&◌, List, [], ◌∷◌, Some, None, sym, refl, ap, ◌∙◌, subst, ⊎_elim, arith}
 use Rattle.std.proofs.lemmas.Bool.{cases_Bool, cond-true, cond-false, eqb-true, eq-eqb, ne_eqb, and_parts, and_from, false_from_ne_true}
 use Rattle.std.proofs.lemmas.Option.{none-some}
 use prog.Atomic.{either}
@@ -9,11 +9,12 @@ use Rattle.segcore.specs.Bucket.{Bucket, Slot, Content, nothing, item, next, cop
 use Rattle.segcore.specs.ItemWord.{packed}
 use Rattle.segcore.specs.Kind.{link, relink, clear, KeepsLaw}
 use Rattle.segcore.specs.Lawful.{Fits, IsLawful}
-use Rattle.segcore.specs.Row.{Row, row_at, row_after, frequency_of}
+use Rattle.segcore.specs.Row.{frequency_of, row_after}
 use Rattle.segcore.specs.Word.{content_word, bucket_info_word, word_in, word, IsAt}
 use Rattle.segcore.specs.Words.{Cell, Event, Leaving}
 use Rattle.segcore.specs.declared.event.Event.TheVariants.{Linked, Relinked, Unlinked, Bumped}
-use Rattle.segcore.proofs.Standing.{coherent}
+use Rattle.segcore.proofs.Quiet.{linked_first, moved_first}
+use Rattle.segcore.proofs.Standing.{coherent, link_words, move_words}
 use Rattle.segcore.proofs.Cells.{touch, change_at, at_word}
 use Rattle.segcore.proofs.StepKinds.Words.{made, nothing_new, word_content, cell_in}
 
@@ -30,11 +31,6 @@ either_hit n old x t = rw t refl
 
 pub either_miss : (n old x : ℕ) → eqb n old ≡ false → either (eqb n old) x n ≡ n
 either_miss n old x f = rw f refl
-
-linked_words : (t : Bool) (u : Row) (k : List ℕ) (j : ℕ)
-    → (cond t (record u { linked = Some k }) u).words j ≡ u.words j
-linked_words true u k j = refl
-linked_words false u k j = refl
 
 -- the frequency of one row changes: what names another row keeps its word
 linked_kept : (h : List Event) (p : ℕ) (q : Request) (s r n : ℕ) (c : Content)
@@ -84,14 +80,14 @@ link_at z p q s r n c old h f i l =
     let inside' = cell_in z h b n c l f.guarded.0 i in
     let kept : (a m : ℕ) → content_word (e ∷ h) ((bucket_after z h a).items m) ≡ content_word h
     ((bucket_after z h a).items m) = (λ a m. linked_kept h p q s r n ((bucket_after z h a).items m)
-    (unnamed z h s r a m l f.suits.0.3)) in
+    (unnamed z h s r a m l (linked_first z h p q s r n f.suits).3)) in
     let new : content_word (e ∷ h) (item (slot (key_of q) s r)) ≡ x =
     ap (λ y. packed (tag_of (key_of q)) y s r)
     (cond-true (eqb s s && eqb r r) 1 (frequency_of h s r)
     (and_from (eqb s s) (eqb r r) (eq-eqb s s refl) (eq-eqb r r refl))) in
     ⊎_elim
     (λ t. made z (link q s r n c old) p h (e ∷ []) x (cond-true (eqb found old) (e ∷ []) [] t) (either_hit found old x t) inside' (refl, tt) (l, f)
-    (λ d i'. touch z h e b n x c l i (record { homes = λ m. refl; drawn = refl; rows = λ s' r' j. linked_words (row_at e s' r') (row_after h s' r') (key_of q) j; segments = λ s'. refl })
+    (λ d i'. touch z h e b n x c l i (record { homes = λ m. refl; drawn = refl; rows = link_words h p q s r n; segments = λ s'. refl })
     (change_at z h e b n x (λ k. refl)
     (λ m. put_content z h e u (acts e u) n (item (slot (key_of q) s r)) (above u n f.suits.3) refl refl (kept b) m ∙ ap (λ y. cond (eqb n m) y (word_in z h u m)) new)
     (λ a m g. others a m)) d i'))
@@ -100,7 +96,7 @@ link_at z p q s r n c old h f i l =
   where
     others : (a m : ℕ) → word_in z (Linked p q s r n ∷ h) (bucket_after z h a) m ≡ word_in z h (bucket_after z h a) m
     others a zero = refl
-    others a (suc m) = linked_kept h p q s r n ((bucket_after z h a).items (suc m)) (unnamed z h s r a (suc m) l f.suits.0.3)
+    others a (suc m) = linked_kept h p q s r n ((bucket_after z h a).items (suc m)) (unnamed z h s r a (suc m) l (linked_first z h p q s r n f.suits).3)
 
 -- two item words that differ in the frequency alone
 same_frequency : (t f g s r : ℕ) → packed t f s r ≡ packed t g s r → f ≡ g
@@ -120,7 +116,7 @@ relink_at z p k x i f s r n c h g at l =
     let inside' = cell_in z h b n c l g.guarded.0 at in
     let kept : (a m : ℕ) → content_word (e ∷ h) ((bucket_after z h a).items m) ≡ content_word h
     ((bucket_after z h a).items m) = (λ a m. moved_kept h p k x i s r n ((bucket_after z h a).items m)
-    (unnamed z h s r a m l g.suits.0.3)) in
+    (unnamed z h s r a m l (moved_first z h p k x i s r n g.suits).3)) in
     let was : found ≡ packed (tag_of k) (frequency_of h x i) x i = at_word z h b n c at ∙ (word_content z h u n lt ∙ ap (content_word h) g.suits.2) in
     ⊎_elim
     (λ t. let ef : frequency_of h x i ≡ f = same_frequency (tag_of k) (frequency_of h x i) f x i (sym was ∙ eqb-true found old t) in
@@ -128,7 +124,7 @@ relink_at z p k x i f s r n c h g at l =
     ap (λ q. packed (tag_of k) q s r) (cond-true (eqb s s && eqb r r) (frequency_of h x i) (frequency_of h s r)
     (and_from (eqb s s) (eqb r r) (eq-eqb s s refl) (eq-eqb r r refl)) ∙ ef) in
     made z (relink k x i f s r n c) p h (e ∷ []) y (cond-true (eqb found old) (e ∷ []) [] t) (either_hit found old y t) inside' (refl, tt) (l, g)
-    (λ d i'. touch z h e b n y c l at (record { homes = λ m. refl; drawn = refl; rows = λ s' r' j. linked_words (row_at e s' r') (row_after h s' r') k j; segments = λ s'. refl })
+    (λ d i'. touch z h e b n y c l at (record { homes = λ m. refl; drawn = refl; rows = move_words h p k x i s r n; segments = λ s'. refl })
     (change_at z h e b n y (λ k. refl)
     (λ m. put_content z h e u (acts e u) n (item (slot k s r)) lt refl refl (kept b) m ∙ ap (λ y. cond (eqb n m) y (word_in z h u m)) new)
     (λ a m g. others a m)) d i'))
@@ -137,7 +133,7 @@ relink_at z p k x i f s r n c h g at l =
   where
     others : (a m : ℕ) → word_in z (Relinked p k x i s r n ∷ h) (bucket_after z h a) m ≡ word_in z h (bucket_after z h a) m
     others a zero = refl
-    others a (suc m) = moved_kept h p k x i s r n ((bucket_after z h a).items (suc m)) (unnamed z h s r a (suc m) l g.suits.0.3)
+    others a (suc m) = moved_kept h p k x i s r n ((bucket_after z h a).items (suc m)) (unnamed z h s r a (suc m) l (moved_first z h p k x i s r n g.suits).3)
 
 pub clear_at : (z : Shape) (p : ℕ) (k : List ℕ) (n : ℕ) (c : Cell) (old : ℕ) (why : Leaving) (h : List Event)
     → Fits z h (Unlinked p k n why) → 0 < n → IsAt h (bucket_of z k) n c → IsLawful z h

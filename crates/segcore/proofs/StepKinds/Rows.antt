@@ -1,14 +1,15 @@
 -- The step that stores a word of a row.
-use Rattle.std.proofs.Common.{◌≡◌, ℕ, Bool, true, false, cond, eqb, ◌&&◌, List, [], ◌∷◌, refl}
+use Rattle.std.proofs.Common.{◌≡◌, ℕ, Bool, true, false, cond, eqb, ◌&&◌, List, [], ◌∷◌, refl, sym, ap, ◌∙◌}
 use Rattle.segword.specs.Words.{Shape}
 use Rattle.segcore.specs.Kind.{row_store, KeepsLaw}
 use Rattle.segcore.specs.Lawful.{Fits, IsLawful}
 use Rattle.segcore.specs.Overflow.{home_of}
-use Rattle.segcore.specs.Row.{Row, row_after}
+use Rattle.segcore.specs.Row.{Row, row_alone}
 use Rattle.segcore.specs.Word.{IsCell, same_cell, word}
 use Rattle.segcore.specs.Words.{Cell, Event}
 use Rattle.segcore.specs.declared.event.Event.TheVariants.{Filled}
 use Rattle.segcore.specs.declared.cell.Cell.TheVariants.{OfCounter, OfBucket, OfOverflow, OfSegment, OfRow}
+use Rattle.segcore.proofs.Spans.{first_words}
 use Rattle.segcore.proofs.StepKinds.Words.{made, over_still}
 
 stored_row : (a b : Bool) (u : Row) (j w m : ℕ)
@@ -27,4 +28,7 @@ store_at z p s r j w h f l = made z (row_store s r j w) p h (Filled p s r j w �
     words (OfBucket b n) i = refl
     words (OfOverflow m n) i = over_still z h (Filled p s r j w) (λ a b. refl) n (home_of h m)
     words (OfSegment t) i = refl
-    words (OfRow t k m) i = stored_row (eqb s t) (eqb r k) (row_after h t k) j w m
+    words (OfRow t k m) i =
+        first_words (Filled p s r j w ∷ h) t k m i.2
+        ∙ stored_row (eqb s t) (eqb r k) (row_alone h t k) j w m
+        ∙ ap (cond (same_cell (OfRow s r j) (OfRow t k m)) w) (sym (first_words h t k m i.2))

@@ -7,7 +7,7 @@ use Rattle.segcore.specs.Event.{seen}
 use Rattle.segcore.specs.Kind.{enter, leave, none_reading, KeepsLaw}
 use Rattle.segcore.specs.Lawful.{Fits, IsLawful}
 use Rattle.segcore.specs.Overflow.{drawn_in, home_of}
-use Rattle.segcore.specs.Row.{Row, row_after}
+use Rattle.segcore.specs.Row.{Row, row_after, row_alone}
 use Rattle.segcore.specs.Segment.{readers, deadline_of}
 use Rattle.segcore.specs.Word.{same_cell, segment_word, word_in, overflow_word, word}
 use Rattle.segmodel.specs.Words.{after, NoneStandsIn, owner}
@@ -18,6 +18,7 @@ use Rattle.segcore.proofs.StepKinds.Items.{either_hit, either_miss}
 use Rattle.segcore.proofs.Readers.{counted, is_counted}
 use Rattle.segcore.proofs.Limits.{few_passes}
 use Rattle.segcore.proofs.Deadlines.{low_deadline}
+use Rattle.segcore.proofs.Spans.{same_words_after}
 use Rattle.segcore.proofs.StepKinds.Words.{made, nothing_new, over_still}
 
 -- an event that changes the word of its segment alone
@@ -71,7 +72,8 @@ none_at z p s old d h v lt own small none l = let few = few_passes z v in let c 
     made z (none_reading s old d) p h (Refilled p s d ∷ []) (d * 2 ^ 32) (cond-true (eqb found (old * 2 ^ 32)) (Refilled p s d ∷ []) [] y)
     (either_hit found (old * 2 ^ 32) (d * 2 ^ 32) y) lt (refl, tt)
     (l, record { guarded = tt; follows = (none, own); suits = (lt, own, e, small) })
-    (λ c' _. of_segment z h (Refilled p s d) s (d * 2 ^ 32) (λ m. refl) refl (λ b n. refl) (λ t r j. unlinked_words (eqb s t) (row_after h t r) j) (words e) c'))
+    (λ c' _. of_segment z h (Refilled p s d) s (d * 2 ^ 32) (λ m. refl) refl (λ b n. refl)
+    (λ t r j. same_words_after h (Refilled p s d ∷ h) t r (λ i x. unlinked_words (eqb s t) (row_alone h t i) x) j) (words e) c'))
     (λ n. nothing_new z (none_reading s old d) p h (cond-false (eqb found (old * 2 ^ 32)) (Refilled p s d ∷ []) [] n)
     (either_miss found (old * 2 ^ 32) (d * 2 ^ 32) n) lt l)
     (cases_Bool (eqb found (old * 2 ^ 32)))

@@ -8,10 +8,11 @@ use Rattle.segcore.specs.declared.event.Event.TheVariants.{Took}
 use Rattle.segcore.specs.Words.{Cell, View}
 use Rattle.segcore.specs.declared.cell.Cell.TheVariants.{OfCounter, OfBucket, OfOverflow, OfSegment, OfRow}
 use Rattle.segcore.specs.Kind.{Step, May, take}
-use Rattle.segcore.specs.Word.{address, word}
+use Rattle.segcore.specs.Word.{IsCell, address, word}
 use Rattle.segcore.specs.World.{IsFresh, IsOpening, Reaches, ReachesOn}
 use Rattle.segcore.specs.Example.{shape, a, b, moved, view_of, opening, view_in, after_steps, to_opened, to_stored, to_bumped, to_moved, to_added, refusing, to_refused, to_replaced, to_relinked, to_evicted, to_refilled}
 use Rattle.segcore.proofs.Addresses.{in_count}
+use Rattle.segcore.proofs.Spans.{first_words}
 use Rattle.segcore.proofs.WorkedExample.Trace.{filled, stored_first, bumped_next, moved_next, added_next, refused_next, replaced_next, move_fits, relinked_next, evicted_next, elsewhere_next}
 
 -- ---- the start
@@ -19,13 +20,13 @@ use Rattle.segcore.proofs.WorkedExample.Trace.{filled, stored_first, bumped_next
 valid : IsValid shape
 valid = (((((((0, refl), omega arith), omega arith), (omega arith, omega arith)), (omega arith, omega arith)), (omega arith, omega arith)), omega arith)
 
-start_word : (c : Cell) → word shape [] c ≡ 0
-start_word OfCounter = refl
-start_word (OfBucket b zero) = refl
-start_word (OfBucket b (suc w)) = refl
-start_word (OfOverflow m w) = refl
-start_word (OfSegment s) = refl
-start_word (OfRow s r j) = refl
+start_word : (c : Cell) → IsCell shape c → word shape [] c ≡ 0
+start_word OfCounter i = refl
+start_word (OfBucket b zero) i = refl
+start_word (OfBucket b (suc w)) i = refl
+start_word (OfOverflow m w) i = refl
+start_word (OfSegment s) i = refl
+start_word (OfRow s r j) i = first_words [] s r j i.2
 
 first_view : (p : ℕ) (v : View) → get_elem? opening.views p ≡ some v → IsFresh 2 p v
 first_view zero v e = subst (IsFresh 2 0) (some-injective (view_of 0 []) v e) (record { number = refl; unseen = refl; unlooked = refl; unturned = refl; dealt = refl })
@@ -37,7 +38,7 @@ opens = record {
   valid = valid;
   untouched = refl;
   long = length-replicate {A = ℕ} (word_count shape) 0;
-  each = λ c i. get_or-replicate {A = ℕ} (word_count shape) (address shape c) 0 0 (in_count shape c i) ∙ sym (start_word c);
+  each = λ c i. get_or-replicate {A = ℕ} (word_count shape) (address shape c) 0 0 (in_count shape c i) ∙ sym (start_word c i);
   new = first_view;
 }
 

@@ -1,13 +1,14 @@
 -- The example is lawful: no rule on the way contradicts another.
 use Rattle.std.proofs.Common.{◌≡◌, ℕ, zero, suc, ◌+◌, ◌*◌, ◌<◌, ◌≤◌, cond, eqb, sym, Bool, true, false, List, [], ◌∷◌, Some, None, refl, ◌∙◌, inl, inr, arith, length, get_or}
 use Rattle.std.proofs.lemmas.Bool.{cond-false, ne_eqb}
-use Rattle.segword.specs.Words.{IsKey, IsValue, row_width, value_width}
-use Rattle.segword.specs.Row.{word_at, words_from}
+use Rattle.segword.specs.Words.{IsKey, IsValue, row_width}
+use Rattle.segword.specs.Row.{value_width, word_at, words_from}
 use Rattle.segword.proofs.RowLemmas.{get_or-words_from}
 use Rattle.segcore.specs.Words.{Event}
 use Rattle.segcore.specs.declared.event.Event.TheVariants.{Took, Bounced, Glanced, Freed, Filled, Relinked}
 use Rattle.segcore.specs.Bucket.{slot, bucket_after}
-use Rattle.segcore.specs.Row.{Row, Holds, row_after}
+use Rattle.segcore.specs.Row.{Row, Holds, row_after, row_alone}
+use Rattle.segcore.proofs.Spans.{first_words}
 use Rattle.segcore.specs.Lawful.{IsOwnRow, Fits, IsLawful}
 use Rattle.segcore.specs.Example.{shape, a, b, opened, stored, bumped, moved, added, refused, replaced, relinked, evicted, elsewhere, refilled, two}
 
@@ -24,8 +25,8 @@ is_value : (x : ℕ) → x < 256 → IsValue (x ∷ [])
 is_value x lt = record { fits = omega arith; all_bytes = small x lt }
 
 -- the words of one byte, past the first
-past_value : (v n : ℕ) → suc n < value_width → get_or (words_from value_width (v ∷ []) 0) (suc n) 0 ≡ 0
-past_value v n lt = get_or-words_from value_width (v ∷ []) 0 (suc n) lt ∙ none (0 + 8 * suc n) (omega arith)
+past_value : (v n : ℕ) → suc n < value_width 1 → get_or (words_from (value_width 1) (v ∷ []) 0) (suc n) 0 ≡ 0
+past_value v n lt = get_or-words_from (value_width 1) (v ∷ []) 0 (suc n) lt ∙ none (0 + 8 * suc n) (omega arith)
   where
     none : (from : ℕ) → 1 ≤ from → word_at (v ∷ []) from ≡ 0
     none zero lt = absurd (omega arith)
@@ -45,13 +46,19 @@ past_stored header key value n =
     ∙ cond-false (eqb 0 m) header 0 (ne_eqb 0 m (λ e. omega (arith, e)))
 
 -- a row of one byte of key and one of value
-holds : (u : Row) (k v : ℕ) → u.words 0 ≡ 257 → u.words 1 ≡ k → u.words 2 ≡ 0 → u.words 3 ≡ 0 → u.words 4 ≡ v → ((n : ℕ) → u.words (suc (suc (suc (suc (suc n))))) ≡ 0) → Holds u (k ∷ []) (v ∷ [])
-holds u k v e0 e1 e2 e3 e4 past zero lt = e0
-holds u k v e0 e1 e2 e3 e4 past (suc zero) lt = e1 ∙ omega arith
-holds u k v e0 e1 e2 e3 e4 past (suc (suc zero)) lt = e2
-holds u k v e0 e1 e2 e3 e4 past (suc (suc (suc zero))) lt = e3
-holds u k v e0 e1 e2 e3 e4 past (suc (suc (suc (suc zero)))) lt = e4 ∙ omega arith
-holds u k v e0 e1 e2 e3 e4 past (suc (suc (suc (suc (suc n))))) lt = past n ∙ sym (past_value v n (omega arith))
+held : (u : Row) (k v : ℕ) → u.words 0 ≡ 257 → u.words 1 ≡ k → u.words 2 ≡ 0 → u.words 3 ≡ 0 → u.words 4 ≡ v → ((n : ℕ) → u.words (suc (suc (suc (suc (suc n))))) ≡ 0) → Holds u (k ∷ []) (v ∷ [])
+held u k v e0 e1 e2 e3 e4 past zero lt = e0
+held u k v e0 e1 e2 e3 e4 past (suc zero) lt = e1 ∙ omega arith
+held u k v e0 e1 e2 e3 e4 past (suc (suc zero)) lt = e2
+held u k v e0 e1 e2 e3 e4 past (suc (suc (suc zero))) lt = e3
+held u k v e0 e1 e2 e3 e4 past (suc (suc (suc (suc zero)))) lt = e4 ∙ omega arith
+held u k v e0 e1 e2 e3 e4 past (suc (suc (suc (suc (suc n))))) lt = past n ∙ sym (past_value v n (omega arith))
+
+-- where the words were stored in the row by itself
+holds : (h : List Event) (s r k v : ℕ) → (row_alone h s r).words 0 ≡ 257 → (row_alone h s r).words 1 ≡ k → (row_alone h s r).words 2 ≡ 0 → (row_alone h s r).words 3 ≡ 0
+    → (row_alone h s r).words 4 ≡ v → ((n : ℕ) → (row_alone h s r).words (suc (suc (suc (suc (suc n))))) ≡ 0)
+    → Holds (row_after h s r) (k ∷ []) (v ∷ [])
+holds h s r k v e0 e1 e2 e3 e4 past j lt = first_words h s r j lt ∙ held (row_alone h s r) k v e0 e1 e2 e3 e4 past j lt
 
 -- ---- events that ask for little
 
@@ -90,7 +97,7 @@ stored_first = (
       follows = (refl, refl);
       suits = (
         (omega arith, omega arith, refl, refl),
-        holds (row_after (Filled 0 0 0 4 49 ∷ Filled 0 0 0 1 97 ∷ Filled 0 0 0 0 257 ∷ Took 0 0 ∷ opened) 0 0) 97 49 refl refl refl refl refl (past_stored 257 97 49),
+        holds (Filled 0 0 0 4 49 ∷ Filled 0 0 0 1 97 ∷ Filled 0 0 0 0 257 ∷ Took 0 0 ∷ opened) 0 0 97 49 refl refl refl refl refl (past_stored 257 97 49),
         refl,
         (omega arith, omega arith),
         inl (refl, refl),
@@ -150,7 +157,7 @@ added_next = (
       follows = (refl, refl);
       suits = (
         (omega arith, omega arith, refl, refl),
-        holds (row_after (Filled 1 2 0 4 50 ∷ Filled 1 2 0 1 98 ∷ Filled 1 2 0 0 257 ∷ Glanced 0 0 ∷ Bounced 0 0 ∷ Took 1 0 ∷ moved) 2 0) 98 50 refl refl refl refl refl (past_stored 257 98 50),
+        holds (Filled 1 2 0 4 50 ∷ Filled 1 2 0 1 98 ∷ Filled 1 2 0 0 257 ∷ Glanced 0 0 ∷ Bounced 0 0 ∷ Took 1 0 ∷ moved) 2 0 98 50 refl refl refl refl refl (past_stored 257 98 50),
         refl,
         (omega arith, omega arith),
         inl (refl, refl),
@@ -186,7 +193,7 @@ replaced_next = (
       follows = (refl, refl);
       suits = (
         (omega arith, omega arith, refl, refl),
-        holds (row_after (Filled 0 0 1 4 50 ∷ Filled 0 0 1 1 97 ∷ Filled 0 0 1 0 257 ∷ Took 0 0 ∷ refused) 0 1) 97 50 refl refl refl refl refl (past_stored 257 97 50),
+        holds (Filled 0 0 1 4 50 ∷ Filled 0 0 1 1 97 ∷ Filled 0 0 1 0 257 ∷ Took 0 0 ∷ refused) 0 1 97 50 refl refl refl refl refl (past_stored 257 97 50),
         refl,
         (omega arith, omega arith),
         inr (slot a 0 0, refl, refl),
@@ -205,7 +212,7 @@ move_fits = record {
   follows = (refl, refl, refl, (λ e. absurd (omega arith)), refl);
   suits = (
     (omega arith, omega arith, refl, refl),
-    (two, refl, holds (row_after (Filled 0 1 0 4 50 ∷ Filled 0 1 0 1 97 ∷ Filled 0 1 0 0 257 ∷ Took 0 0 ∷ replaced) 1 0) 97 50 refl refl refl refl refl (past_stored 257 97 50)),
+    (two, refl, holds (Filled 0 1 0 4 50 ∷ Filled 0 1 0 1 97 ∷ Filled 0 1 0 0 257 ∷ Took 0 0 ∷ replaced) 1 0 97 50 refl refl refl refl refl (past_stored 257 97 50)),
     refl,
   );
 }
@@ -234,7 +241,7 @@ relinked_next = (
       follows = (refl, refl, refl, (λ e. absurd (omega arith)), refl);
       suits = (
         (omega arith, omega arith, refl, refl),
-        (two, refl, holds (row_after (Filled 0 1 0 4 50 ∷ Filled 0 1 0 1 97 ∷ Filled 0 1 0 0 257 ∷ Took 0 0 ∷ replaced) 1 0) 97 50 refl refl refl refl refl (past_stored 257 97 50)),
+        (two, refl, holds (Filled 0 1 0 4 50 ∷ Filled 0 1 0 1 97 ∷ Filled 0 1 0 0 257 ∷ Took 0 0 ∷ replaced) 1 0 97 50 refl refl refl refl refl (past_stored 257 97 50)),
         refl,
       );
     },
