@@ -24,6 +24,7 @@ pub mod Exact
 pub mod Deadlines
 pub mod Entered
 pub mod Facts
+pub mod SeenRuns
 pub mod Whole
 pub mod LookFacts
 pub mod WorkedExample

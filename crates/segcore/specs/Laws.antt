@@ -26,7 +26,7 @@ use Rattle.segcore.specs.Filled.{items_below, HasNoEmptyWord}
 use Rattle.segcore.specs.Kind.{Step, May, KeepsLaw}
 use Rattle.segcore.specs.Meanwhile.{Meanwhile}
 use Rattle.segcore.specs.World.{Told, World, SeeMore, Reaches, ReachesOn, IsLawfulWorld}
-use Rattle.segcore.specs.Run.{IsStepOf}
+use Rattle.segcore.specs.Run.{IsRun, IsSeenRun, IsSeenStep, IsSeenWorld, IsStepOf}
 use mathlib.Core.Option.{some}
 use lib.ListN.{get_elem?}
 
@@ -66,6 +66,21 @@ abbrev pub ToldStepSeesAll : Type 0
 ToldStepSeesAll = (shape : Shape) (pass : ℕ) (before after : World)
     → IsLawfulWorld shape before → (taken : IsStepOf shape pass before after)
     → (taken.new.looks ≡ before.trace ∷ taken.old.looks) × (taken.new.trace ≡ after.trace)
+
+-- Each lawful world, each step of which a pass is told, and so each run, is one by what its passes
+-- see alone.
+abbrev pub LawfulWorldsAreSeen : Type 0
+LawfulWorldsAreSeen = (shape : Shape) (world : World)
+    → IsLawfulWorld shape world → IsSeenWorld world
+
+abbrev pub StepsAreSeen : Type 0
+StepsAreSeen = (shape : Shape) (pass : ℕ) (before after : World)
+    → IsLawfulWorld shape before → IsStepOf shape pass before after
+    → IsSeenStep pass before after
+
+abbrev pub RunsAreSeen : Type 0
+RunsAreSeen = (shape : Shape) (world : ℕ → World) (steps : ℕ)
+    → IsRun shape world steps → IsSeenRun world steps
 
 -- Of two calls of any passes, all steps of the one come before all steps of the other. So there is
 -- a world in between, which the one pass reached with all its steps, and the other with none yet.

@@ -22,7 +22,7 @@ pub use Rattle.segcore.specs.Props.{AllBy-prop, Event-set, IsLawful-prop, NoneAt
 pub use Rattle.segcore.specs.Props.{NoneRefills-prop}
 pub use Rattle.segcore.specs.Row.{frequency_of, Holds, is_of_row, Row, row_after, row_alone, row_at}
 pub use Rattle.segcore.specs.Row.{span_in, words_on, writes_row}
-pub use Rattle.segcore.specs.Run.{IsRun, IsStepOf}
+pub use Rattle.segcore.specs.Run.{IsRun, IsSeenRun, IsSeenStep, IsSeenWorld, IsStepOf}
 pub use Rattle.segcore.specs.Search.{KeyAhead, KeyAt, KeyGone, RowAt, RowGone}
 pub use Rattle.segcore.specs.Segment.{inside, NoneRefills, readers, was_used}
 pub use Rattle.segcore.specs.Standing.{cached, ChainsOn, IsOfKey, Names}

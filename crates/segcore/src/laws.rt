@@ -18,6 +18,7 @@ ghost use Rattle.segcore.specs.Example.{refusing, to_added, to_refilled, to_refu
 ghost use Rattle.segcore.specs.Kind.{take};
 ghost use Rattle.segcore.specs.Laws.{EveryScheduleIsLawful, SightOnlyGrows, EveryScheduleSaysAll};
 ghost use Rattle.segcore.specs.Laws.{StepSeesAll, CallsAreInOrder, EveryStepIsTold, ToldStepSeesAll};
+ghost use Rattle.segcore.specs.Laws.{LawfulWorldsAreSeen, StepsAreSeen, RunsAreSeen};
 ghost use Rattle.segcore.specs.Laws.{ScanPassesAMiss, SeenHistoryIsLegal, MarksArePlaced};
 ghost use Rattle.segcore.specs.Laws.{MarksAreOrderly, MarksLeaveTheHistory, MarksCountTheChain};
 ghost use Rattle.segcore.specs.Laws.{LawfulKeyFacts, LawfulBucketFacts, LawfulSegmentFacts};
@@ -52,6 +53,14 @@ pub fn every_schedule()
 /// told of the step, and that the rule holds before and after.
 pub fn told_step()
     ensures { ToldStepSeesAll }
+{}
+
+/// Each run of the table is one by what its passes see alone. So a law that asks for no more of a
+/// run holds of them all.
+pub fn runs_are_seen()
+    ensures world { LawfulWorldsAreSeen }
+    ensures step { StepsAreSeen }
+    ensures run { RunsAreSeen }
 {}
 
 /// A scan looks at all words of a chain. If it finds what it seeks in none of them, it passed a
