@@ -6,7 +6,7 @@ use Rattle.segword.specs.Words.{Shape}
 use Rattle.segmodel.specs.Words.{after, Begins, Entry, reads, reads_version, reply_in}
 use Rattle.segmodel.specs.declared.entry.Entry.TheVariants.{Wrote}
 use Rattle.segcore.specs.Event as event
-use Rattle.segcore.specs.Words.{IsRun, World}
+use Rattle.segcore.specs.Words.{IsSeenRun, World}
 use Rattle.segbase.specs.Words.{seen, view}
 use Rattle.segindex.specs.Linearizable.{Call, CallsAreLinearizable, Effect, gets_value, gets_version, HasEffect, IsCallOf, IsOrdered, IsPlaced, IsRightAt, MayPrecede, Placed, writes}
 use Rattle.segindex.specs.Linearizable as linear
@@ -18,7 +18,7 @@ abbrev writer : List Entry → ℕ
 writer (Wrote pass request said segment ∷ history) = pass
 writer history = 0
 
-module _ (z : Shape) (world : ℕ → World) (n : ℕ) (run : IsRun z world n) where
+module _ (z : Shape) (world : ℕ → World) (n : ℕ) (run : IsSeenRun world n) where
   -- the point of an effect, from the first step of its call on
   record HasPoint (pass from to : ℕ) (effect : Effect) : Type 0 where
     pub point : ℕ
@@ -30,14 +30,14 @@ module _ (z : Shape) (world : ℕ → World) (n : ℕ) (run : IsRun z world n) w
       → history_at world from ≡ old → history_at world to ≡ new → HasEffect z pass effect old new
       → HasPoint pass from to effect
   pointed pass from to (gets_value key now read) old new le in_run is is' e =
-      let at = came z world n run from to e.0 e.1.1.0 le in_run (subst (λ h. Begins h e.0) (sym is) e.1.0) (is' ∙ e.1.1.1) in
+      let at = came world n run from to e.0 e.1.1.0 le in_run (subst (λ h. Begins h e.0) (sym is) e.1.0) (is' ∙ e.1.1.1) in
       let low = at.1 in let high = at.2 in record { point = at.0; since = omega (arith, low); until = omega (arith, high); right = ap (λ h. reads (after z h) now key) at.3 ∙ e.2 }
   pointed pass from to (gets_version key now read) old new le in_run is is' e =
-      let at = came z world n run from to e.0 e.1.1.0 le in_run (subst (λ h. Begins h e.0) (sym is) e.1.0) (is' ∙ e.1.1.1) in
+      let at = came world n run from to e.0 e.1.1.0 le in_run (subst (λ h. Begins h e.0) (sym is) e.1.0) (is' ∙ e.1.1.1) in
       let low = at.1 in let high = at.2 in record { point = at.0; since = omega (arith, low); until = omega (arith, high); right = ap (λ h. reads_version z (after z h) now key) at.3 ∙ e.2 }
   pointed pass from to (writes request said) old new le in_run is is' e =
       let segment = e.0 in let h = e.1.0 in let told = e.1.1 in let entry : Entry = Wrote pass request said segment in
-      let at = entered z world n run from to entry h told.entered.0 le in_run (subst (λ g. Begins g h) (sym is) told.since) (is' ∙ told.entered.1) in
+      let at = entered world n run from to entry h told.entered.0 le in_run (subst (λ g. Begins g h) (sym is) told.since) (is' ∙ told.entered.1) in
       let low = at.1 in let high = at.2 in record {
         point = at.0;
         since = omega (arith, low);
@@ -52,7 +52,7 @@ module _ (z : Shape) (world : ℕ → World) (n : ℕ) (run : IsRun z world n) w
   placed : (call : Call) → IsCallOf z world n call → (it : Placed) × (it.call ≡ call) × IsSound it
   placed call is =
       let start = is.had.0 in let starts = is.had.1 in
-      let steps = takes z world n run call.pass call.began call.returned (view is.before) (view is.after) starts.later start is.in_time.0 is.in_time.1 is.began is.returned starts.looked in
+      let steps = takes world n run call.pass call.began call.returned (view is.before) (view is.after) starts.later start is.in_time.0 is.in_time.1 is.began is.returned starts.looked in
       let since = steps.since in let onward = steps.onward in let until = steps.until in let in_run = is.in_time.1 in
       let at = pointed call.pass steps.first (suc steps.last) call.effect (event.seen start) (seen is.after)
       (omega (arith, onward)) (omega (arith, until, in_run)) (ap event.seen (sym steps.began))

@@ -1,16 +1,15 @@
 -- The moments of a run: which step is a call's first, and where a history or an entry came in.
-use Rattle.std.proofs.Common.{◌≡◌, ◌≢◌, ℕ, zero, suc, ◌+◌, ◌<◌, ◌≤◌, ◌⊎◌, Bool, true, false, cond, eqb, ◌%◌, List, [], ◌∷◌, ◌++◌, length, set, Option, Some, None, sym, refl, ap, ◌∙◌, subst, inl, inr, ⊎_elim, arith, length-append}
+use Rattle.std.proofs.Common.{◌≡◌, ◌≢◌, ℕ, zero, suc, ◌+◌, ◌<◌, ◌≤◌, ◌⊎◌, List, [], ◌∷◌, ◌++◌, length, set, sym, ap, ◌∙◌, subst, inl, inr, ⊎_elim, arith, length-append}
 use Rattle.std.proofs.lemmas.Bool.{cases_eq}
 use mathlib.Core.Option.{some, some-injective}
 use lib.ListN.{get_elem?}
 use Rattle.atomic_table.proofs.Lists.{set_here, set_else}
-use Rattle.segword.specs.Words.{Shape}
 use Rattle.segmodel.specs.Words.{Begins, Entry}
 use Rattle.segcore.specs.Event as event
-use Rattle.segcore.specs.Kind as kind
-use Rattle.segcore.specs.Words.{adds, entry_of, Event, IsLawfulWorld, IsRun, IsStepOf, Step, View, with_entry, World}
+use Rattle.segcore.specs.Words.{Event, IsSeenRun, IsSeenStep, IsSeenWorld, View, World}
 use Rattle.segcore.proofs.KeepsLaw.{inside_list}
-use Rattle.segcore.proofs.Whole.{step_sees_all}
+use Rattle.segcore.proofs.Moments.{seen_begins}
+use Rattle.segcore.proofs.Whole.{seen_step_sees_all}
 
 -- the history of a moment of a run
 abbrev pub history_at : (ℕ → World) → ℕ → List Entry
@@ -24,46 +23,11 @@ same_head x y xs ys e = cc
 
 -- ---- a step adds one entry at most
 
-record HasOne (es : List Event) : Type 0 where
-  pub has : (h : List Event) → (event.seen (es ++ h) ≡ event.seen h) ⊎ ((e : Entry) × (event.seen (es ++ h) ≡ e ∷ event.seen h))
-
-with_one : (o : Option Entry) (h : List Entry) → (with_entry o h ≡ h) ⊎ ((e : Entry) × (with_entry o h ≡ e ∷ h))
-with_one None h = inl refl
-with_one (Some e) h = inr (e, refl)
-
-none : HasOne []
-none = record { has = λ h. inl refl }
-
-one : (e : Event) → HasOne (e ∷ [])
-one e = record { has = λ h. with_one (entry_of e) (event.seen h) }
-
-either_one : (t : Bool) (xs ys : List Event) → HasOne xs → HasOne ys → HasOne (cond t xs ys)
-either_one true xs ys a b = a
-either_one false xs ys a b = b
-
-unless_one : (own : Bool) (e : Event) → HasOne (kind.unless_own own e)
-unless_one true e = none
-unless_one false e = one e
-
-one_entry : (st : Step) (p f : ℕ) → HasOne (adds st p f)
-one_entry (kind.take b own) p f = either_one (eqb (f % 2) 0) _ _ (one _) (unless_one own _)
-one_entry (kind.release b c None) p f = one _
-one_entry (kind.release b c (Some said)) p f = record { has = λ h. inr (_, refl) }
-one_entry (kind.glance b own) p f = either_one (eqb (f % 2) 0) _ _ none (unless_one own _)
-one_entry (kind.link q s r m c old) p f = either_one _ _ _ (one _) none
-one_entry (kind.relink k a i g s r m c) p f = either_one _ _ _ (one _) none
-one_entry (kind.clear k m c old why) p f = either_one _ _ _ (one _) none
-one_entry (kind.draw b d from) p f = either_one _ _ _ (one _) none
-one_entry (kind.fill b m w) p f = one _
-one_entry (kind.chain b c old m) p f = either_one _ _ _ (one _) none
-one_entry (kind.bump b m c t s r g h) p f = either_one _ _ _ (one _) none
-one_entry (kind.row_store s r j w) p f = one _
-one_entry (kind.enter s) p f = one _
-one_entry (kind.leave s) p f = one _
-one_entry (kind.none_reading s old d) p f = either_one _ _ _ (one _) none
-one_entry (kind.info_look b) p f = none
-one_entry (kind.look c) p f = none
-one_entry (kind.row_load s r j) p f = none
+one_more : (more h g : List Entry) → length g ≤ suc (length h) → g ≡ more ++ h → (g ≡ h) ⊎ ((e : Entry) × (g ≡ e ∷ h))
+one_more [] h g few is = inl is
+one_more (e ∷ []) h g few is = inr (e, is)
+one_more (e ∷ (x ∷ more)) h g few is =
+    let long : length g ≡ suc (suc (length more)) + length h = ap length is ∙ length-append (e ∷ (x ∷ more)) h in absurd (omega (arith, few, long))
 
 -- ---- lists
 
@@ -73,26 +37,24 @@ not_longer x more h g is b =
     let long : length g ≡ suc (length more + length h) = ap length is ∙ ap suc (length-append more h) in
     let short : length h ≡ length b.0 + length g = ap length b.1 ∙ length-append b.0 g in absurd (omega (arith, long, short))
 
-module _ (z : Shape) (world : ℕ → World) (n : ℕ) (run : IsRun z world n) where
-  lawful_at : (t : ℕ) → t ≤ n → IsLawfulWorld z (world t)
-  lawful_at zero le = run.begins
-  lawful_at (suc t) le = (run.each t (omega (arith, le))).1.lawful
+module _ (world : ℕ → World) (n : ℕ) (run : IsSeenRun world n) where
+  seen_at : (t : ℕ) → t ≤ n → IsSeenWorld (world t)
+  seen_at zero le = run.begins
+  seen_at (suc t) le = (run.each t (omega (arith, le))).1.still
 
   sees : (t : ℕ) (lt : t < n) → let s = run.each t lt in (s.1.new.looks ≡ (world t).trace ∷ s.1.old.looks) × (s.1.new.trace ≡ (world (suc t)).trace)
-  sees t lt = let s = run.each t lt in step_sees_all z s.0 (world t) (world (suc t)) (lawful_at t (omega (arith, lt))) s.1
+  sees t lt = let s = run.each t lt in seen_step_sees_all s.0 (world t) (world (suc t)) (seen_at t (omega (arith, lt))) s.1
 
   -- a step leaves the history as it was, or adds an entry
   grows : (t : ℕ) → t < n → (history_at world (suc t) ≡ history_at world t) ⊎ ((e : Entry) × (history_at world (suc t) ≡ e ∷ history_at world t))
   grows t lt =
-      let s = run.each t lt in let told = s.1.told in let saw = sees t lt in
-      let look : List Event = told.more ++ s.1.old.trace in
-      let same : look ≡ (world t).trace = same_head look (world t).trace s.1.old.looks s.1.old.looks (sym (ap (λ (v : View). v.looks) told.now) ∙ saw.0) in
-      let es : List Event = adds s.1.step s.1.old.number s.1.found in
-      let next : (world (suc t)).trace ≡ es ++ (world t).trace = sym saw.1 ∙ (ap (λ (v : View). v.trace) told.now ∙ ap (λ h. es ++ h) same) in
-      let is : history_at world (suc t) ≡ event.seen (es ++ (world t).trace) = ap event.seen next in ⊎_elim
-      (λ k. inl (is ∙ k))
-      (λ k. inr (k.0, is ∙ k.1))
-      ((one_entry s.1.step s.1.old.number s.1.found).has (world t).trace)
+      let s = run.each t lt in let saw = sees t lt in
+      let look : List Event = s.1.more ++ s.1.old.trace in
+      let same : look ≡ (world t).trace = same_head look (world t).trace s.1.old.looks s.1.old.looks (sym s.1.looked ∙ saw.0) in
+      let next : (world (suc t)).trace ≡ s.1.own ++ (world t).trace = sym saw.1 ∙ (s.1.now ∙ ap (λ h. s.1.own ++ h) same) in
+      let before = ap (λ h. length (event.seen h)) same in let after = ap (λ h. length (event.seen h)) saw.1 in let few = s.1.few in
+      let more = seen_begins (world t).trace (world (suc t)).trace (s.1.own, next) in
+      one_more more.0 (history_at world t) (history_at world (suc t)) (omega (arith, before, after, few)) more.1
 
   -- ---- where a history came, and where an entry came in
 
@@ -170,7 +132,7 @@ module _ (z : Shape) (world : ℕ → World) (n : ℕ) (run : IsRun z world n) w
       lt : t < n
       lt = omega (arith, in_run)
 
-      s : (pass : ℕ) × IsStepOf z pass (world t) (world (suc t))
+      s : (pass : ℕ) × IsSeenStep pass (world t) (world (suc t))
       s = run.each t lt
 
       by_looks : (later : List (List Event)) (old : View) → from ≤ t → Again p from t v start

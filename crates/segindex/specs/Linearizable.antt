@@ -10,7 +10,7 @@ use Rattle.segmodel.specs.Words.{after, DeleteAnswer, Entry, GetAnswer, GetsAnsw
 use Rattle.segmodel.specs.Words.{reads_version, Reply, reply_in, reply_of_delete, reply_of_write}
 use Rattle.segmodel.specs.Words.{Request, WriteAnswer}
 use Rattle.segcore.specs.Event as event
-use Rattle.segcore.specs.Words.{IsRun, World}
+use Rattle.segcore.specs.Words.{IsSeenRun, World}
 use Rattle.segbase.specs.Words.{Board, holding, number, Pass, seen, SinceFirst, view}
 use Rattle.segread.specs.declared.held.HoldAnswer.TheVariants as hold
 use Rattle.segread.specs.Words.{HoldAnswer, HoldsItem, ReadsBetween, ReadsKey, ReadsVersion}
@@ -171,9 +171,9 @@ pub record Linearizable (shape : Shape) (world : ℕ → World) (calls : List Ca
 
 -- ---- the law
 
--- In each run, any calls of any passes are linearizable.
+-- In each run, of which it asks only what passes see, any calls of any passes are linearizable.
 abbrev pub CallsAreLinearizable : Type 0
 CallsAreLinearizable = (shape : Shape) (world : ℕ → World) (steps : ℕ) (calls : List Call)
-    → IsRun shape world steps
+    → IsSeenRun world steps
     → All (IsCallOf shape world steps) calls
     → Linearizable shape world calls
