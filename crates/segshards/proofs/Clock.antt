@@ -1,8 +1,7 @@
 -- The steps of one shard among those of all: how many came, when each came, and its run by them.
 use Rattle.std.proofs.Common.{◌≡◌, ◌≢◌, ℕ, zero, suc, ◌<◌, ◌≤◌, ◌⊎◌, cond, eqb, sym, refl, ap, ◌∙◌, subst, inl, inr, ⊎_elim, arith}
 use Rattle.std.proofs.lemmas.Bool.{cases_eq, cases_lt, eq-eqb, ne_eqb}
-use Rattle.segword.specs.Words.{Shape}
-use Rattle.segcore.specs.Words.{IsLawfulWorld, IsRun, IsStepOf, World}
+use Rattle.segcore.specs.Words.{IsSeenRun, IsSeenStep, IsSeenWorld, World}
 use Rattle.segshards.specs.Locality.{IsRunOfShards}
 
 -- so many steps of a shard came before a moment
@@ -82,7 +81,7 @@ module _ (taken : ℕ → ℕ) (n : ℕ) where
       (λ ge. let until = is.until in let e : t ≡ bound = omega (arith, until, ge) in let same = ap (came taken n) e in let at = is.is in absurd (omega (arith, same, at, more)))
       (cases_lt t bound)
 
-module _ (z : Shape) (count : ℕ) (world : ℕ → ℕ → World) (steps : ℕ) (run : IsRunOfShards z count world steps) (n : ℕ) where
+module _ (count : ℕ) (world : ℕ → ℕ → World) (steps : ℕ) (run : IsRunOfShards count world steps) (n : ℕ) where
   still : (s t : ℕ) → s ≤ t → t ≤ steps → came run.taken n s ≡ came run.taken n t → world n t ≡ world n s
   still s zero le in_run e = let x : 0 ≡ s = omega (arith, le) in ap (world n) x
   still s (suc t) le in_run e = ⊎_elim
@@ -107,10 +106,10 @@ module _ (z : Shape) (count : ℕ) (world : ℕ → ℕ → World) (steps : ℕ)
   pub here : (t : ℕ) → t ≤ steps → world n t ≡ own_world (came run.taken n t)
   here t in_run = let is = latest run.taken n steps (came run.taken n t) (grows run.taken n t steps in_run) in same_world t (when run.taken n steps (came run.taken n t)) in_run is.until (sym is.is)
 
-  pub own_run : n < count → IsRun z own_world (came run.taken n steps)
+  pub own_run : n < count → IsSeenRun own_world (came run.taken n steps)
   own_run below = record {
     begins = let start = at_start run.taken n in let is = latest run.taken n steps 0 (omega arith) in
-        subst (IsLawfulWorld z) (same_world 0 (when run.taken n steps 0) (omega arith) is.until (start ∙ sym is.is)) (run.begins n below);
+        subst IsSeenWorld (same_world 0 (when run.taken n steps 0) (omega arith) is.until (start ∙ sym is.is)) (run.begins n below);
     each = λ k lt.
         let t = when run.taken n steps k in
         let is = latest run.taken n steps k (omega (arith, lt)) in
@@ -118,8 +117,8 @@ module _ (z : Shape) (count : ℕ) (world : ℕ → ℕ → World) (steps : ℕ)
         let step = run.each t in_run in
         let after = latest run.taken n steps (suc k) lt in (
           step.0,
-          subst (IsStepOf z step.0 (world n t)) (same_world (suc t) (when run.taken n steps (suc k)) in_run after.until (is.next in_run ∙ sym after.is))
-              (subst (λ m. IsStepOf z step.0 (world m t) (world m (suc t))) (sym (own_step t k is.is (is.next in_run))) step.1),
+          subst (IsSeenStep step.0 (world n t)) (same_world (suc t) (when run.taken n steps (suc k)) in_run after.until (is.next in_run ∙ sym after.is))
+              (subst (λ m. IsSeenStep step.0 (world m t) (world m (suc t))) (sym (own_step t k is.is (is.next in_run))) step.1),
         );
   }
     where

@@ -53,14 +53,14 @@ takes_step z world steps call is = ⊎_elim
     absurd (not_same is.had.1.later is.had.0 (view is.before).looks (ap (λ (v : View). v.looks) same ∙ is.had.1.looked)))
     (cases_lt call.began call.returned)
 
-module _ (z : Shape) (count : ℕ) (world : ℕ → ℕ → World) (steps : ℕ) (run : IsRunOfShards z count world steps) where
+module _ (z : Shape) (count : ℕ) (world : ℕ → ℕ → World) (steps : ℕ) (run : IsRunOfShards count world steps) where
   -- ---- a call in the run of its shard
 
   abbrev steps_of : ℕ → ℕ → ℕ
   steps_of n t = came run.taken n t
 
   abbrev worlds_of : ℕ → ℕ → World
-  worlds_of n = own_world z count world steps run n
+  worlds_of n = own_world count world steps run n
 
   abbrev own_call : ShardCall → Call
   own_call it = record {
@@ -77,8 +77,8 @@ module _ (z : Shape) (count : ℕ) (world : ℕ → ℕ → World) (steps : ℕ)
         before = call.before;
         after = call.after;
         number = call.number;
-        began = subst (λ (w : World). get_elem? w.views it.call.pass ≡ some (view call.before)) (here z count world steps run it.shard it.call.began (omega (arith, le, in_run))) call.began;
-        returned = subst (λ (w : World). get_elem? w.views it.call.pass ≡ some (view call.after)) (here z count world steps run it.shard it.call.returned in_run) call.returned;
+        began = subst (λ (w : World). get_elem? w.views it.call.pass ≡ some (view call.before)) (here count world steps run it.shard it.call.began (omega (arith, le, in_run))) call.began;
+        returned = subst (λ (w : World). get_elem? w.views it.call.pass ≡ some (view call.after)) (here count world steps run it.shard it.call.returned in_run) call.returned;
         had = call.had;
       }
 
@@ -86,7 +86,7 @@ module _ (z : Shape) (count : ℕ) (world : ℕ → ℕ → World) (steps : ℕ)
   own_point it is =
       let n = it.shard in
       let all = linearizable z (worlds_of n) (steps_of n steps) (own_call it ∷ [])
-      (own_run z count world steps run n is.0) (All-cons (IsCallOf z (worlds_of n) (steps_of n steps))
+      (own_run count world steps run n is.0) (All-cons (IsCallOf z (worlds_of n) (steps_of n steps))
       (own_call it) [] (is_own it is) (All-nil (IsCallOf z (worlds_of n) (steps_of n steps)))) in
       All-head (Pointed z (worlds_of n)) (own_call it) []
       (All-permutation (Pointed z (worlds_of n)) (map (λ (p : Placed). p.call) all.order) (own_call it ∷ [])
@@ -109,7 +109,7 @@ module _ (z : Shape) (count : ℕ) (world : ℕ → ℕ → World) (steps : ℕ)
   there n to k in_run le =
       let up = grows run.taken n to steps in_run in
       let own = latest run.taken n steps k (omega (arith, le, up)) in let is = latest run.taken n to k le in let until = is.until in
-      same_world z count world steps run n (when run.taken n steps k) (when run.taken n to k) own.until (omega (arith, until, in_run)) (own.is ∙ sym is.is)
+      same_world count world steps run n (when run.taken n steps k) (when run.taken n to k) own.until (omega (arith, until, in_run)) (own.is ∙ sym is.is)
 
   all_point : (n pass from to : ℕ) (effect : Effect) (k : ℕ) → from ≤ to → to ≤ steps
       → 2 * steps_of n from ≤ linear.place effect k → linear.place effect k ≤ 2 * steps_of n to
@@ -140,7 +140,7 @@ module _ (z : Shape) (count : ℕ) (world : ℕ → ℕ → World) (steps : ℕ)
       let onward = since run.taken n to k t from is le (omega (arith, low)) in
       let own = latest run.taken n steps (suc k) (let up = grows run.taken n to steps in_run in omega (arith, few, up)) in
       let next : worlds_of n (suc k) ≡ world n (suc t) =
-      same_world z count world steps run n (when run.taken n steps (suc k)) (suc t) own.until
+      same_world count world steps run n (when run.taken n steps (suc k)) (suc t) own.until
       (omega (arith, early, in_run)) (own.is ∙ sym (is.next early)) in record {
         point = t;
         since = omega (arith, onward);

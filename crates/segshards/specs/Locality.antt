@@ -1,21 +1,21 @@
 -- Calls of all shards in one order. The law is proved as the contract of a function in src/laws.rt.
 use Rattle.std.specs.Prelude.{◌≡◌, ◌≢◌, ℕ, suc, ◌<◌, ◌==◌, Bool, true, false, All, IsPermutation, List, [], ◌∷◌, map}
 use Rattle.segword.specs.Words.{Shape}
-use Rattle.segcore.specs.Words.{IsLawfulWorld, IsStepOf, World}
+use Rattle.segcore.specs.Words.{IsSeenStep, IsSeenWorld, World}
 use Rattle.segindex.specs.Linearizable.{Call, IsCallOf, IsOrdered, Linearizable, Placed}
 
 -- Steps of the passes of all shards come one after the other. A moment is how many steps came
 -- before it, and `world shard moment` is the world of a shard then.
 -- Each step is one of a pass of one shard, and leaves the worlds of the other shards.
-pub record IsRunOfShards (shape : Shape) (count : ℕ) (world : ℕ → ℕ → World) (steps : ℕ)
-    : Type 0 where
-  pub begins : (shard : ℕ) → shard < count → IsLawfulWorld shape (world shard 0)
+-- Only what passes see of it is asked.
+pub record IsRunOfShards (count : ℕ) (world : ℕ → ℕ → World) (steps : ℕ) : Type 0 where
+  pub begins : (shard : ℕ) → shard < count → IsSeenWorld (world shard 0)
   -- the shard of the step at this moment
   pub taken : ℕ → ℕ
   pub each : (moment : ℕ)
       → moment < steps
       → (pass : ℕ)
-      × IsStepOf shape pass (world (taken moment) moment) (world (taken moment) (suc moment))
+      × IsSeenStep pass (world (taken moment) moment) (world (taken moment) (suc moment))
   pub apart : (moment shard : ℕ)
       → moment < steps
       → shard ≢ taken moment
@@ -69,6 +69,6 @@ pub record InOneOrder (shape : Shape) (world : ℕ → ℕ → World) (calls : L
 abbrev pub CallsAreInOneOrder : Type 0
 CallsAreInOneOrder = (shape : Shape) (count : ℕ) (world : ℕ → ℕ → World) (steps : ℕ)
     (calls : List ShardCall)
-    → IsRunOfShards shape count world steps
+    → IsRunOfShards count world steps
     → All (IsShardCallOf shape count world steps) calls
     → InOneOrder shape world calls
