@@ -2,9 +2,8 @@
 use Rattle.std.proofs.Common.{◌≡◌, ℕ, ◌<◌, List, [], ◌++◌, sym, ap, ◌∙◌, subst, append_assoc, refl}
 use Rattle.segword.specs.Words.{IsKey, IsValue, Item, item_word, Shape}
 use Rattle.segmodel.specs.Words.{Begins}
-use Rattle.segcore.specs.Words.{Event, Holds, inside, IsLawful, NoneRefills, Row, row_after}
-use Rattle.segcore.proofs.Moments.{begins_on}
-use Rattle.segcore.proofs.Segments.{row_since}
+use Rattle.segcore.specs.Words.{Event, Holds, inside, IsLawful, NoneRefills, row_after}
+use Rattle.segcore.proofs.Moments.{begins_on, lawful_before}
 use Rattle.segbase.specs.Words.{AddsEvents, Board, number, Pass, Place, trace}
 use Rattle.segbase.proofs.Alone.{moved_alone}
 use Rattle.segbase.proofs.Moves.{moved_on, is_inside}
@@ -14,6 +13,7 @@ use Rattle.segstore.specs.Words.{LeavesSegment, RaisesNothing, ReadsRow, row_par
 use Rattle.segstore.proofs.Readers.{looks, then_reader, leave_then}
 use Rattle.segstore.proofs.Seconds.{segment_of_item, found_holds, found_readable, found_value}
 use Rattle.segread.specs.Hits.{RaisesFrom}
+use Rattle.segread.proofs.ItemRows.{found_rows, item_stays}
 use Rattle.segread.proofs.Raising.{raises_after, raises_sooner}
 
 -- with p the pass before the scan, q in the item's segment, and v after its row was read
@@ -52,12 +52,13 @@ pub found_on : (b : Board) (p q : Pass) (place : Place) (item : Item) (key value
     → FoundItem b.shape place (item_word item) key value h (trace q)
 found_on b p q place item key value h there m f =
     let s = segment_part (item_word item) in let r = row_part (item_word item) in
+    let lawful : IsLawful b.shape (m.more ++ trace p) = subst (IsLawful b.shape) m.goes_on m.pass.lawful in
     let none : NoneRefills s m.more = subst (λ s. NoneRefills s m.more) (segment_of_item item) (m.kept item.seg there) in record {
       saw = record { at = f.saw.at; between = (f.saw.between.0, begins_on f.saw.at (trace p) (trace q) f.saw.between.1 (moved_on b [] p q m)); was = f.saw.was };
       kept = (m.more ++ f.kept.0, m.goes_on ∙ (ap (λ x. m.more ++ x) f.kept.1 ∙ sym (append_assoc m.more f.kept.0 f.saw.at)), none_both s m.more f.kept.0 none f.kept.2);
       still = ap (λ g. row_after g s r) m.goes_on
-          ∙ (row_since b.shape m.more (trace p) s r key (subst (IsLawful b.shape) m.goes_on m.pass.lawful) none
-          (ap (λ (x : Row). x.linked) f.still ∙ f.saw.was.linked) ∙ f.still);
+          ∙ (item_stays b.shape m.more (trace p) s r key lawful none
+          (found_rows b.shape h (trace p) place (item_word item) key value m.pass.valid (lawful_before b.shape m.more (trace p) lawful) f) ∙ f.still);
       alone = λ one. moved_alone b [] p q m one ∙ f.alone one;
     }
 

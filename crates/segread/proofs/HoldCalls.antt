@@ -1,5 +1,5 @@
 -- A quiet pass that takes a hold, reads it, or ends it, is quiet.
-use Rattle.std.proofs.Common.{◌≡◌, ◌≢◌, ◌↔◌, ℕ, ◌+◌, ◌-◌, ◌<◌, Bool, true, false, cond, eqb, ◌&&◌, is_some, List, [], ◌∷◌, ◌++◌, Option, Some, None, IfSome, option_map, refl, sym, ap, ◌∙◌, subst, inl, inr, append_assoc, arith}
+use Rattle.std.proofs.Common.{◌≡◌, ◌≢◌, ◌↔◌, ℕ, ◌+◌, ◌-◌, ◌<◌, Bool, true, false, cond, eqb, ◌&&◌, is_some, List, [], ◌∷◌, ◌++◌, Option, Some, None, IfSome, option_map, refl, sym, ap, ◌∙◌, subst, append_assoc, arith}
 use Rattle.std.proofs.lemmas.Bool.{cond-true, eq-eqb, false≢true}
 use Rattle.std.proofs.lemmas.Option.{none-some, same_Some}
 use Rattle.segword.specs.Words.{Item, item_word, Shape}
@@ -30,7 +30,7 @@ use Rattle.segstore.proofs.Seconds.{segment_of_item, row_of_item}
 use Rattle.segread.specs.Words.{HeldRow, HoldAnswer}
 use Rattle.segread.specs.declared.held.HoldAnswer.TheVariants as answer
 use Rattle.segread.specs.Hits.{OnlyScans, TriesFew}
-use Rattle.segread.specs.Holds.{IsRowOf, IsHeldRow, TakesHold, IsHoldAnswer, HoldsItem, NoneFills, IsUnfilled, Releases, SetsHold}
+use Rattle.segread.specs.Holds.{AreLinked, IsRowOf, IsHeldRow, TakesHold, IsHoldAnswer, HoldsItem, NoneFills, IsUnfilled, Releases, SetsHold}
 use Rattle.segstore.proofs.Still.{then_minds}
 use Rattle.segstore.proofs.Bits.{none_at_both, bit_before}
 use Rattle.segstore.proofs.Draws.{moved_undrawn, reads_undrawn}
@@ -39,7 +39,8 @@ use Rattle.segread.specs.Looking.{LooksFirst}
 use Rattle.segread.proofs.Looking.{out, reads_from}
 use Rattle.segread.proofs.Answered.{costs_from, unset_from}
 use Rattle.segstore.proofs.TakenBits.{reader_takes_none}
-use Rattle.segread.proofs.Holding.{held_at, held_from, held_past, held_deadline, held_stood, has_held, is_hold, held_row, row_of_hold}
+use Rattle.segread.proofs.Holding.{held_at, held_from, held_past, held_deadline, held_stood, has_held, is_hold, held_row, held_rows, row_of_hold, rows_of_hold}
+use Rattle.segread.proofs.ItemRows.{all_linked, AllLinked, are_linked, at_item, may_read_linked, was_linked}
 use Rattle.segstore.proofs.Quiet.{has_lock, goes_on, reads_none}
 use Rattle.segread.proofs.Reading.{reads_calm, reads_unseen, read_on}
 use Rattle.segstore.proofs.UnderBit.{moved_none}
@@ -74,17 +75,24 @@ no_hold (Some held) e = absurd (false≢true e)
 pub hold_of : (b : Board) (p : Pass) (hold : HeldRow) → IsQuiet b p → (is : IsHeldRow b.shape hold p) → IsHold b.shape (trace p) is.held
 hold_of b p hold quiet is = quiet.hold is.held is.holds
 
-pub row_now : (b : Board) (p : Pass) (hold : HeldRow) → IsQuiet b p → (is : IsHeldRow b.shape hold p) → row_after (trace p) hold.segment hold.row ≡ row_after is.held.trace hold.segment hold.row
-row_now b p hold quiet is =
-    subst (λ s. row_after (trace p) s hold.row ≡ row_after is.held.trace s hold.row) (sym is.segment)
-    (row_of_hold b.shape (trace p) is.held hold.row quiet.pass.lawful (hold_of b p hold quiet is)
-    (subst (λ s. (row_after is.held.trace s hold.row).linked ≡ Some is.held.key) is.segment is.stands.linked))
+module _ (b : Board) (p : Pass) (hold : HeldRow) (quiet : IsQuiet b p) (is : IsHeldRow b.shape hold p) where
+  rows_then : AllLinked is.held.trace is.held.segment hold.row is.held.key
+  rows_then = subst (λ s. AllLinked is.held.trace s hold.row is.held.key) is.segment
+      (all_linked is.held.trace hold.segment hold.row is.held.key is.stands.linked)
 
-pub has_row : (b : Board) (p : Pass) (hold : HeldRow) → IsQuiet b p → (is : IsHeldRow b.shape hold p) → IsRowOf (trace p) hold is.held
-has_row b p hold quiet is = let same = row_now b p hold quiet is in record {
-  linked = ap (λ (u : Row). u.linked) same ∙ is.stands.linked;
-  pair = λ j lt. ap (λ (u : Row). u.words j) same ∙ is.stands.pair j lt;
-}
+  pub row_now : row_after (trace p) hold.segment hold.row ≡ row_after is.held.trace hold.segment hold.row
+  row_now = subst (λ s. row_after (trace p) s hold.row ≡ row_after is.held.trace s hold.row) (sym is.segment)
+      (row_of_hold b.shape (trace p) is.held hold.row quiet.pass.lawful (hold_of b p hold quiet is) rows_then)
+
+  pub rows_now : AllLinked (trace p) hold.segment hold.row is.held.key
+  rows_now = subst (λ s. AllLinked (trace p) s hold.row is.held.key) (sym is.segment)
+      (rows_of_hold b.shape (trace p) is.held hold.row quiet.pass.lawful (hold_of b p hold quiet is) rows_then)
+
+  pub has_row : IsRowOf (trace p) hold is.held
+  has_row = record {
+    linked = are_linked (trace p) hold.segment hold.row is.held.key rows_now;
+    pair = λ j lt. ap (λ (u : Row). u.words j) row_now ∙ is.stands.pair j lt;
+  }
 
 -- the pass is in the segment
 pub is_inside : (b : Board) (p : Pass) (hold : HeldRow) → IsQuiet b p → IsHeldRow b.shape hold p → 0 < inside (trace p) (number p) hold.segment
@@ -94,7 +102,11 @@ is_inside b p hold quiet is =
     omega arith
 
 pub may_read : (b : Board) (p : Pass) (hold : HeldRow) → IsQuiet b p → IsHeldRow b.shape hold p → IsReadable b p hold.segment hold.row
-may_read b p hold quiet is = (is.in_table.0, is.in_table.1, inr (inl (is_inside b p hold quiet is, (is.held.key, (has_row b p hold quiet is).linked))))
+may_read b p hold quiet is = (
+  is.in_table.0,
+  is.in_table.1,
+  may_read_linked b.shape (trace p) (number p) hold.segment hold.row is.held.key (is_inside b p hold quiet is) (rows_now b p hold quiet is),
+)
 
 pub stays : (shape : Shape) (hold : HeldRow) (p q : Pass) → IsHeldRow shape hold p → holding q ≡ holding p → IsHeldRow shape hold q
 stays shape hold p q is same = record { held = is.held; holds = same ∙ is.holds; segment = is.segment; in_table = is.in_table; valid = is.valid; stands = is.stands }
@@ -181,9 +193,19 @@ module _ (b : Board) (p r q : Pass) (place : Place) (item : Item) (key value : L
   stands : standing (after z (event.seen at)) key ≡ Some (cached value item.seg)
   stands = found.saw.was.stands ∙ ap (λ s. Some (cached value s)) (sym es)
 
+  all_then : AllLinked at item.seg item.row key
+  all_then = at_item item at key
+      (was_linked z at place (item_word item) key value reads.reads.moved.pass.valid found.saw.was)
+
   row_then : row_after held.trace hold.segment hold.row ≡ row_after at (segment_part (item_word item)) (row_part (item_word item))
   row_then = (λ j. row_after held.trace (segment j) (row j))
-      ∙ (held_row z key value item.seg item.row at (trace r) lawful kept stands (ap (λ (u : Row). u.linked) same_row ∙ found.saw.was.linked) ∙ same_row)
+      ∙ (held_row z key value item.seg item.row at (trace r) lawful kept stands all_then ∙ same_row)
+
+  rows_held : AreLinked held.trace hold.segment hold.row key
+  rows_held = are_linked held.trace hold.segment hold.row key
+      (subst (λ s. AllLinked held.trace s hold.row key) (sym segment)
+      (subst (λ n. AllLinked held.trace item.seg n key) (sym row)
+      (held_rows z key value item.seg item.row at (trace r) lawful kept stands all_then)))
 
   abbrev is_hold_of : IsHeldRow z hold q
   is_hold_of = let was = found.saw.was in record {
@@ -192,7 +214,7 @@ module _ (b : Board) (p r q : Pass) (place : Place) (item : Item) (key value : L
     segment = segment;
     in_table = (subst (IsSegment z) (sym (segment ∙ es)) was.in_segment.0, subst (λ n. n < z.rows) (sym (row ∙ row_of_item item)) was.in_segment.1);
     valid = was.valid;
-    stands = record { linked = ap (λ (u : Row). u.linked) row_then ∙ was.linked; pair = λ j lt. ap (λ (u : Row). u.words j) row_then ∙ was.holds j lt };
+    stands = record { linked = rows_held; pair = λ j lt. ap (λ (u : Row). u.words j) row_then ∙ was.holds j lt };
   }
 
   in_no_segment : (s : ℕ) → inside (trace p) (number p) s ≡ 0

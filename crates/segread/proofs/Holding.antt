@@ -6,11 +6,11 @@ use Rattle.segmodel.specs.Words.{after, Begins, Cached, IsStanding, standing}
 use Rattle.segcore.specs.Words.{cached, Event, IsLawful, NoneRefills, row_after, same_key, seen}
 use Rattle.segcore.proofs.Keys.{key_true, same_true}
 use Rattle.segcore.proofs.Moments.{lawful_before}
-use Rattle.segcore.proofs.Segments.{row_since}
 use Rattle.segcore.proofs.Standing.{legal}
 use Rattle.segbase.specs.Words.{HasHeld, Held}
 use Rattle.segstore.specs.Words.{IsHold}
 use Rattle.segread.specs.Scanning.{HasDeadline}
+use Rattle.segread.proofs.ItemRows.{AllLinked, item_stays, linked_since}
 use Rattle.segcore.proofs.Deadlines.{same_deadline}
 
 -- ---- the last moment at which it stood
@@ -103,11 +103,22 @@ module _ (z : Shape) (key value : List ℕ) (segment row : ℕ) (at h : List Eve
   pub is_hold : IsHold z h (held_at z h key value segment)
   is_hold = record { more = the_last.then; since = the_last.now; stood = held_stood; kept = the_last.kept.1 }
 
-  pub held_row : (row_after at segment row).linked ≡ Some key → row_after last segment row ≡ row_after at segment row
-  held_row on = ap (λ g. row_after g segment row) the_last.on ∙ row_since z the_last.first at segment row key (subst (IsLawful z) the_last.on last_lawful) the_last.kept.0 on
+  module _ (on : AllLinked at segment row key) where
+    pub held_row : row_after last segment row ≡ row_after at segment row
+    held_row = ap (λ g. row_after g segment row) the_last.on
+        ∙ item_stays z the_last.first at segment row key (subst (IsLawful z) the_last.on last_lawful) the_last.kept.0 on
 
--- the row stays as it was then
-pub row_of_hold : (z : Shape) (h : List Event) (held : Held) (row : ℕ) → IsLawful z h → IsHold z h held
-    → (row_after held.trace held.segment row).linked ≡ Some held.key
-    → row_after h held.segment row ≡ row_after held.trace held.segment row
-row_of_hold z h held row l is on = ap (λ g. row_after g held.segment row) is.since ∙ row_since z is.more held.trace held.segment row held.key (subst (IsLawful z) is.since l) is.kept on
+    pub held_rows : AllLinked last segment row key
+    held_rows = subst (λ g. AllLinked g segment row key) (sym the_last.on)
+        (linked_since z the_last.first at segment row key (subst (IsLawful z) the_last.on last_lawful) the_last.kept.0 on)
+
+-- the row stays as it was then, and so do those behind it of its item
+module _ (z : Shape) (h : List Event) (held : Held) (row : ℕ) (l : IsLawful z h) (is : IsHold z h held)
+    (on : AllLinked held.trace held.segment row held.key) where
+  pub row_of_hold : row_after h held.segment row ≡ row_after held.trace held.segment row
+  row_of_hold = ap (λ g. row_after g held.segment row) is.since
+      ∙ item_stays z is.more held.trace held.segment row held.key (subst (IsLawful z) is.since l) is.kept on
+
+  pub rows_of_hold : AllLinked h held.segment row held.key
+  rows_of_hold = subst (λ g. AllLinked g held.segment row held.key) (sym is.since)
+      (linked_since z is.more held.trace held.segment row held.key (subst (IsLawful z) is.since l) is.kept on)

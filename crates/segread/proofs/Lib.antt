@@ -1,3 +1,4 @@
+pub mod ItemRows
 pub mod Reading
 pub mod ComingIn
 pub mod Pacing

@@ -11,7 +11,7 @@ use Rattle.segcore.proofs.Buckets.{bit_small, unwritten_version}
 use Rattle.segcore.proofs.Versions.{free}
 use Rattle.segcore.proofs.Standing.{coherent}
 use Rattle.segcore.proofs.Exact.{named_at, one_value}
-use Rattle.segcore.proofs.Segments.{row_since}
+use Rattle.segcore.proofs.Moments.{lawful_before}
 use Rattle.segbase.specs.Words.{Board, cell_at, home_bucket, number, Pass, Place, position, seen}
 use Rattle.segbase.specs.Words.{trace}
 use Rattle.segstore.specs.Words.{FoundItem, IsChained, IsReader, row_part, segment_part}
@@ -21,6 +21,7 @@ use Rattle.segstore.proofs.Before.{stood_before}
 use Rattle.segread.specs.Scanning.{HasDeadline}
 use Rattle.segmodel.proofs.HistoryLemmas.{stands_present}
 use Rattle.segread.proofs.Deadlines.{deadline_since}
+use Rattle.segread.proofs.ItemRows.{AllLinked, first_linked, found_rows, item_stays, linked_since}
 
 same_row_part : (v w : ℕ) → IsSameItem v w → row_part v ≡ row_part w
 same_row_part v w e = low v ∙ (ap (λ n. n % 2 ^ 20) e.2 ∙ sym (low w))
@@ -53,11 +54,17 @@ module _ (z : Shape) (place : Place) (w w' : ℕ) (key value : List ℕ) (h g : 
   abbrev n : ℕ
   n = row_part w
 
+  rows_found : AllLinked g s n key
+  rows_found = found_rows z h g place w key value v (lawful_before z early g lr) found
+
+  rows_then : AllLinked r s n key
+  rows_then = linked_since z early g s n key lr none_early rows_found
+
   linked_then : (row_after r s n).linked ≡ Some key
-  linked_then = let on = ap (λ (u : Row). u.linked) found.still ∙ found.saw.was.linked in ap (λ (u : Row). u.linked) (row_since z early g s n key lr none_early on) ∙ on
+  linked_then = first_linked r s n key rows_then
 
   row_then : row_after r s n ≡ row_after found.saw.at s n
-  row_then = row_since z early g s n key lr none_early (ap (λ (u : Row). u.linked) found.still ∙ found.saw.was.linked) ∙ found.still
+  row_then = item_stays z early g s n key lr none_early rows_found ∙ found.still
 
   pub stands_then : standing (after z (event.seen r)) key ≡ Some (cached value s)
   stands_then =
@@ -68,7 +75,7 @@ module _ (z : Shape) (place : Place) (w w' : ℕ) (key value : List ℕ) (h g : 
       let es : i.slot.segment ≡ s = i.segment ∙ (sym x.is_segment ∙ sym (same_segment w w' same)) in
       let er : i.slot.row ≡ n = i.row ∙ (sym x.is_row ∙ sym (same_row_part w w' same)) in
       let st = (coherent z t l).items b (position z t place) i.slot i.here in
-      let on_t : (row_after t s n).linked ≡ Some key = ap (λ (u : Row). u.linked) (row_since z late r s n key l none_late linked_then) ∙ linked_then in
+      let on_t : (row_after t s n).linked ≡ Some key = first_linked t s n key (linked_since z late r s n key l none_late rows_then) in
       let row_is : (m : List Event) → row_after m i.slot.segment i.slot.row ≡ row_after m s n = λ m. (λ j. row_after m (es j) (er j)) in
       let ek : i.slot.key ≡ key = same_Some i.slot.key key (sym st.linked ∙ (ap (λ (u : Row). u.linked) (row_is t) ∙ on_t)) in
       let old = stood_before z late r b (position z t place) i.slot key l (subst (λ m. NoneRefills m late) (sym es) none_late) (ap (λ (u : Row). u.linked) (row_is r) ∙ linked_then) i.here in

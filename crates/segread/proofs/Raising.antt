@@ -8,7 +8,7 @@ use Rattle.segmodel.specs.Words.{after, Begins, bucket_of, standing, tag_of}
 use Rattle.segcore.specs.declared.event.Event.TheVariants.{Bumped}
 use Rattle.segcore.specs.Words.{bucket_after, bump, cached, content_word, entered, Event}
 use Rattle.segcore.specs.Words.{frequency_of, glanced, Holds, inside, last_at, marked, packed}
-use Rattle.segcore.specs.Words.{raised, Row, row_after, seen, View, word}
+use Rattle.segcore.specs.Words.{NoneRefills, raised, row_after, seen, View, word}
 use Rattle.segcore.specs.Bucket as buckets
 use Rattle.segcore.proofs.Orderly.{frequency_marked}
 use Rattle.segcore.proofs.Entered.{no_refill}
@@ -16,7 +16,6 @@ use Rattle.segcore.proofs.Exact.{content_at, one_value}
 use Rattle.segcore.proofs.Moments.{begins_on}
 use Rattle.segcore.proofs.Limits.{low_row, low_segment, low_frequency}
 use Rattle.segcore.proofs.Searches.{key_placed, placed_key}
-use Rattle.segcore.proofs.Segments.{row_since}
 use Rattle.segcore.proofs.Standing.{coherent}
 use Rattle.segpolicy.specs.Words.{draw_raises, frequency_after_hit}
 use Rattle.segbase.specs.Words.{AddsAtOnce, AddsEvents, Board, cell_at, count, home_bucket}
@@ -29,6 +28,7 @@ use Rattle.segstore.specs.Words.{WasLinked}
 use Rattle.segstore.proofs.Words.{chained_later, same_place, stood_item}
 use Rattle.segstore.proofs.Seconds.{segment_of_item, row_of_item}
 use Rattle.segread.specs.Hits.{HasFrequency, CountsHit, GlancesNothing, IsItemAtPosition, PassesHit, IsOvertaken, RaisesFrom}
+use Rattle.segread.proofs.ItemRows.{AllLinked, at_item, first_linked, found_rows, item_stays, linked_since}
 use Rattle.segread.proofs.Tries.{has_tag}
 
 -- an item whose word stands at a place is its key's, and has the word's frequency
@@ -53,13 +53,6 @@ has_frequency z h place item key value v was =
       had = frequency_marked h item.seg item.row ∙ subst (λ m. frequency_of h m item.row ≡ item.freq) es (subst (λ m. frequency_of h slot.segment m ≡ item.freq) er ef);
     }
 
--- the row of what was found is the key's
-found_linked : (z : Shape) (place : Place) (item : Item) (key value : List ℕ) (h g : List Event) → FoundItem z place (item_word item) key value h g → (row_after g item.seg item.row).linked ≡ Some key
-found_linked z place item key value h g f =
-    ap (λ n. (row_after g n item.row).linked) (segment_of_item item)
-    ∙ (ap (λ n. (row_after g (segment_part (item_word item)) n).linked) (row_of_item item)
-    ∙ (ap (λ (r : Row). r.linked) f.still ∙ f.saw.was.linked))
-
 -- a frequency that the draw makes higher is one more
 one_higher : (f draw : ℕ) (t : Bool) → f < cond t (f + 1) f → (t ≡ true) × (cond t (f + 1) f ≡ f + 1)
 one_higher f draw true up = (refl, refl)
@@ -82,13 +75,14 @@ module _ (b : Board) (p q : Pass) (place : Place) (item : Item) (higher draw fou
         (chained_later b.shape (trace p) at place step.told.before (step.told.more, refl) chained)
         (sym step.told.found_is ∙ same) (has_tag item)
 
-    linked : (row_after (trace p) item.seg item.row).linked ≡ Some key
-    linked = found_linked b.shape place item key value h (trace p) saw
+    linked : AllLinked (trace p) item.seg item.row key
+    linked = at_item item (trace p) key (found_rows b.shape h (trace p) place (item_word item) key value is.valid is.lawful saw)
+
+    none : NoneRefills item.seg step.told.more
+    none = no_refill b.shape step.told.more (trace p) (number p) item.seg is.one_of step.told.before step.told.others there
 
     row_same : row_after (step.told.more ++ trace p) item.seg item.row ≡ row_after (trace p) item.seg item.row
-    row_same = row_since b.shape step.told.more (trace p) item.seg item.row key step.told.before
-        (no_refill b.shape step.told.more (trace p) (number p) item.seg is.one_of step.told.before step.told.others
-        there) linked
+    row_same = item_stays b.shape step.told.more (trace p) item.seg item.row key step.told.before none linked
 
     row_still : row_after at (segment_part (item_word item)) (row_part (item_word item)) ≡ row_after saw.saw.at (segment_part (item_word item)) (row_part (item_word item))
     row_still = subst (λ s. row_after at s (row_part (item_word item)) ≡ row_after (trace p) s
@@ -102,9 +96,8 @@ module _ (b : Board) (p q : Pass) (place : Place) (item : Item) (higher draw fou
         (subst (λ u. Holds u key value) (sym row_still) saw.saw.was.holds)
 
     row_then : (row_after (step.told.more ++ trace p) item.seg item.row).linked ≡ Some key
-    row_then = ap (λ (r : Row). r.linked) (row_since b.shape step.told.more (trace p) item.seg item.row key
-        step.told.before (no_refill b.shape step.told.more (trace p) (number p) item.seg is.one_of step.told.before
-        step.told.others there) linked) ∙ linked
+    row_then = first_linked at item.seg item.row key
+        (linked_since b.shape step.told.more (trace p) item.seg item.row key step.told.before none linked)
 
     is_key : stood.0 ≡ key
     is_key = same_Some stood.0 key (sym stood.2.linked

@@ -1,12 +1,12 @@
 -- A quiet pass that only read goes on quietly, and has changed nothing.
-use Rattle.std.proofs.Common.{◌≡◌, List, [], ◌∷◌, ◌++◌, refl, ap, ◌∙◌}
+use Rattle.std.proofs.Common.{◌≡◌, ◌≤◌, Bool, true, false, cond, List, [], ◌∷◌, ◌++◌, refl, ap, ◌∙◌, arith}
 use Rattle.segmodel.specs.History as history
 use Rattle.segcore.specs.Words.{Event}
 use Rattle.segcore.specs.declared.event.Event.TheVariants.{Glanced, Bumped, Entered, Left}
 use Rattle.segcore.specs.Event as event
-use Rattle.segbase.specs.Words.{Board, IsReaderEvent, number, OnlyReads, Pass, Reads, trace}
+use Rattle.segbase.specs.Words.{Board, holding, IsReaderEvent, number, OnlyReads, Pass, Reads, trace}
 use Rattle.segbase.proofs.Moves.{moved_mine}
-use Rattle.segstore.specs.Words.{ChangesNothing, GoesOn, IsQuiet, KeepsSegments, memo}
+use Rattle.segstore.specs.Words.{ChangesNothing, GoesOn, is_held_in, IsQuiet, KeepsSegments, MayEnterAny, memo}
 use Rattle.segstore.proofs.Keeping.{IsCalm, AreCalm, keeps_plain}
 use Rattle.segstore.proofs.Quiet.{quiet_reads, goes_on}
 
@@ -40,3 +40,11 @@ read_on b p q quiet reads plain same = (
   goes_on b reads.own p q reads.moved (quiet_reads b p q quiet reads plain same (reads_keep b p q reads plain quiet.segments)),
   record { entries = moved_mine b reads.own p q reads.moved ∙ ap (history.mine (number p)) (reads_unseen reads.own (trace p) reads.only); plain = plain; memo = same },
 )
+
+-- a quiet pass is in no segment twice
+at_most_one : (t : Bool) → cond t 1 0 ≤ 1
+at_most_one true = omega arith
+at_most_one false = omega arith
+
+pub quiet_enters : (b : Board) (p : Pass) → IsQuiet b p → MayEnterAny p
+quiet_enters b p quiet s = let is = quiet.inside s in let few = at_most_one (is_held_in (holding p) s) in omega (arith, is, few)

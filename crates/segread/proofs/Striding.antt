@@ -1,5 +1,6 @@
 -- How many steps a gets takes, scan after scan, and that it came into a segment for each look at a set bit.
 use Rattle.std.proofs.Common.{◌≡◌, ℕ, ◌+◌, ◌<◌, ◌≤◌, List, sym, subst, arith}
+use Rattle.segword.specs.Words.{value_width}
 use Rattle.segmodel.specs.Words.{Begins}
 use Rattle.segcore.specs.Words.{entered, IsLawful}
 use Rattle.segbase.specs.Words.{Board, count, Pass, Place, position, trace}
@@ -42,7 +43,8 @@ hit_end b key from tries hit m q i x = let l = i.reads.moved.pass.lawful in let 
 pub strides_seen : (b : Board) (key : List ℕ) (start from tries : ℕ) (hit : Hit) (p m q l : Pass)
     → IsReaderIn b m q hit.item.seg → IsHit b.shape key from tries hit m q → Begins (trace q) (trace l)
     → IsLawful b.shape (trace l)
-    → Paces start (position b.shape (trace q) hit.place + 1) 1 p q → GlancesNothing p q → LooksOnce q l → step_count l ≤ step_count q + 6 → Strides start (position b.shape (trace l) hit.place) 1 p l
+    → Paces start (position b.shape (trace q) hit.place + 1) 1 p q → GlancesNothing p q → LooksOnce q l
+    → step_count l ≤ step_count q + (2 + value_width) → Strides start (position b.shape (trace l) hit.place) 1 p l
 strides_seen b key start from tries hit p m q l i x on lawful paced unset once took =
     let z = b.shape in let was = i.reads.moved.pass.lawful in let at_q = hit_place z key from tries hit m q was x in
     let same = (same_place z (trace q) (trace l) hit.place lawful on at_q.0).1 in let more = word_more (position z (trace q) hit.place) (in_chain z (trace q) hit.place was at_q.0).0 in

@@ -1,10 +1,10 @@
 -- What a hold says of the pass that has it, and what the calls of holds do.
-use Rattle.std.specs.Prelude.{◌≡◌, ◌≢◌, ◌↔◌, ℕ, ◌+◌, ◌<◌, ◌≤◌, true, is_some, List, [], ◌∷◌, ◌++◌, Option, Some, None, IfSome}
-use Rattle.segword.specs.Words.{IsKey, IsValue, Shape, value_width}
+use Rattle.std.specs.Prelude.{◌≡◌, ◌≢◌, ◌↔◌, ℕ, ◌+◌, ◌<◌, ◌≤◌, ◌==◌, true, is_some, List, [], ◌∷◌, ◌++◌, MatchBool, Option, Some, None, IfSome}
+use Rattle.segword.specs.Words.{covers, IsKey, IsValue, most_span, Shape, value_width}
 use Rattle.segmodel.specs.declared.entry.Entry.TheVariants.{Refilled}
 use Rattle.segmodel.specs.Words.{after, Entry, IsBetween, present, stirred}
 use Rattle.segcore.specs.Event as event
-use Rattle.segcore.specs.Words.{Event, Holds, IsSegment, row_after}
+use Rattle.segcore.specs.Words.{Event, Holds, IsSegment, row_after, span_in}
 use Rattle.segbase.specs.Words.{Board, Held, holding, is_holding_of, mine, Pass, seen, SinceFirst}
 use Rattle.segbase.specs.Words.{with_holding}
 use Rattle.segread.specs.declared.held.HeldRow.{HeldRow}
@@ -15,9 +15,18 @@ use Rattle.segstore.specs.Words.{ChangesNothing, CostsNothing, GoesOn, memo, Tak
 use Rattle.segread.specs.Costs.{CostsOfHold}
 use Rattle.segread.specs.Reads.{ReadsBetween}
 
+-- the row is linked to the key, and so are those behind it of the item that begins there
+abbrev pub AreLinked : List Event → ℕ → ℕ → List ℕ → Type 0
+AreLinked trace segment row key =
+    MatchBool (most_span == 1)
+    ((row_after trace segment row).linked ≡ Some key)
+    ((other : ℕ)
+    → covers row (span_in trace segment row) other ≡ true
+    → (row_after trace segment other).linked ≡ Some key)
+
 -- the row is linked to the key of what is held, and holds the pair
 pub record IsRowOf (trace : List Event) (row : HeldRow) (held : Held) : Type 0 where
-  pub linked : (row_after trace row.segment row.row).linked ≡ Some held.key
+  pub linked : AreLinked trace row.segment row.row held.key
   pub pair : Holds (row_after trace row.segment row.row) held.key held.value
 
 -- The row is that of the item that the pass holds.

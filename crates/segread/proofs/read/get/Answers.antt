@@ -85,3 +85,7 @@ returns-in-Busy c = let b = c.args.board.now in let q = c.scan_for.new.pass in l
       omega (arith, most)) x.tries (glances_none m q x.only_scans) (raises_none m q x.only_scans) (let more =
       x.answer in omega (arith, more));
 }
+
+pub leave_segment-requires-clause-inside : goal.leave_segment-requires-clause-inside
+leave_segment-requires-clause-inside c = let f = c.in-Found in let s = f.ensures.scan in
+    is_inside c.args.board.now s.0 c.scan_for.new.pass f.hit.item.seg s.2.reads.reads

@@ -4,6 +4,7 @@ use Rattle.segbase.specs.Words.{Pass, position, trace}
 use Rattle.segread.specs.Looking.{AfterLook}
 use Rattle.segread.specs.Scanning.{place_of, ScansOn}
 use Rattle.segread.proofs.Pacing.{chain_paced, scan_place}
+use Rattle.segread.proofs.Reading.{quiet_enters}
 use Rattle.segread.proofs.Scans.{first_place, whole_scan}
 use Rattle.segread.proofs.scan.scan_for.Goals as goal
 
@@ -20,3 +21,10 @@ returns c =
           (scan_place b c.args.key.now from v.result m v.new.pass scan.2.0 scan.2.1) v.ensures.steps;
       scan = (m, scan.1, record { reads = scan.2.0; tries = x.1; only_scans = x.2; answer = x.0 });
     }
+
+pub scan_from-requires-clause-reader : goal.scan_from-requires-clause-reader
+scan_from-requires-clause-reader c = quiet_enters c.args.board.now c.args.pass.now c.requires.pass
+
+pub scan_from-requires-clause-place : goal.scan_from-requires-clause-place
+scan_from-requires-clause-place c = let s = c.of-sought in
+    (first_place c.args.board.now.shape s.result.key s.result.bucket (trace c.args.pass.now) c.requires.pass.pass.valid s.ensures.sought.bucket).0

@@ -3,7 +3,7 @@ use Rattle.std.proofs.Common.{◌∙◌, inl, inr, ap, arith}
 use Rattle.segword.specs.Words.{item_word}
 use Rattle.segbase.specs.declared.pass.PlainPart.{PlainPart}
 use Rattle.segbase.specs.Words.{trace}
-use Rattle.segbase.proofs.Moves.{moved_on}
+use Rattle.segbase.proofs.Moves.{is_inside, moved_on}
 use Rattle.segstore.proofs.Readers.{leave_then}
 use Rattle.segread.proofs.ComingIn.{leaves, few_out}
 use Rattle.segread.proofs.Answered.{gone_reads}
@@ -74,3 +74,7 @@ returns-in-Passed-clause-steps c = let s = c.in-Passed.ensures.scan in let p = c
 pub returns-in-Busy-clause-steps : goal.returns-in-Busy-clause-steps
 returns-in-Busy-clause-steps c = let s = c.in-Busy.ensures.scan in let p = c.args.pass.now in let q = c.scan_for.new.pass in
     strides 1 32 p q c.in-Busy.ensures.steps (omega arith) (scan_unset c.args.board.now c.args.key.now p s.0 q s.1 s.2.only_scans)
+
+pub leave_segment-requires-clause-inside : goal.leave_segment-requires-clause-inside
+leave_segment-requires-clause-inside c = let f = c.in-Found in let s = f.ensures.scan in
+    is_inside c.args.board.now s.0 c.scan_for.new.pass f.hit.item.seg s.2.reads.reads

@@ -1,4 +1,6 @@
-use Rattle.std.proofs.Common.{◌≡◌, ◌≢◌, ℕ, List, Some, arith, subst, rules}
+use Rattle.std.proofs.Common.{◌≡◌, ◌≢◌, ℕ, eqb, List, Some, refl, sym, ap, ◌∙◌, arith, subst}
+use Rattle.std.proofs.lemmas.Bool.{eq-eqb, false≢true}
+use Rattle.std.specs.Option.{option_eq}
 use Rattle.segmodel.specs.declared.answer.GetsAnswer.TheVariants as gets
 use Rattle.segmodel.specs.Words.{bucket_of}
 use Rattle.segbase.specs.Words.{locked_of, Pass}
@@ -21,7 +23,12 @@ returns-then-eq c = let b = c.args.board.now in let key = c.args.key.now in let 
 
 pub returns : goal.returns
 returns c = let b = c.args.board.now in let key = c.args.key.now in let p = c.args.pass.now in let v = c.find_version in let q = v.new.pass in
-    let unlocked : (value : List ℕ) (version : ℕ) → v.result ≡ gets.Found value version → locked_of p ≢ Some (bucket_of b.shape key) = search rules in
+    let unlocked : (value : List ℕ) (version : ℕ) → v.result ≡ gets.Found value version → locked_of p ≢ Some (bucket_of b.shape key) =
+    λ value version told at.
+    let sought = c.of-sought in
+    let home = sought.ensures.sought.bucket ∙ ap (bucket_of b.shape) sought.ensures.key in
+    let same = c.locked.ensures ∙ (at ∙ ap Some (sym home)) in
+    false≢true (c.if-eq.ensures ∙ (ap (λ o. option_eq eqb o (Some sought.result.bucket)) same ∙ eq-eqb sought.result.bucket sought.result.bucket refl)) in
     let s = subst (λ k. AfterLook b p (λ (first : Pass). FindsVersion b k c.args.draw c.args.now v.result first q)) c.of-sought.ensures.key v.ensures.answer in let m = s.0 in let x = s.2 in record {
       reads = reads_version b key p m q s.1 x.reads c.args.draw c.args.now v.result c.requires.pass v.ensures.steps x.tries x.glances x.raises x.answer unlocked;
     }
