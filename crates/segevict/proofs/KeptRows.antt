@@ -47,7 +47,7 @@ use Rattle.segevict.proofs.KeyTries.{no_tries, one_try, tries_after}
 use Rattle.segevict.proofs.Naming.{unnamed}
 use Rattle.segevict.proofs.RowsOut.{calm_keeps_gone, goes_then}
 use Rattle.segevict.proofs.Seeking.{stored_over}
-use Rattle.segevict.proofs.Unlinking.{named_key}
+use Rattle.segevict.proofs.Unlinking.{named_home, named_key}
 use Rattle.segevict.proofs.Unnamed.{gone_over}
 
 -- the frequency in an item word
@@ -110,8 +110,11 @@ module _ (b : Board) (bucket : ℕ) (sought : Item) (into cutoff : ℕ) (p f : P
     of_key : a.key ≡ stored.key
     of_key = named_key b bucket sought f i.moved.pass stored target n
 
+    home : bucket ≡ bucket_of b.shape stored.key
+    home = named_home b bucket sought f i.moved.pass stored target n
+
     here : (bucket_after b.shape (trace f) (bucket_of b.shape stored.key)).items at ≡ item (slot stored.key sought.seg sought.row)
-    here = subst (λ k. (bucket_after b.shape (trace f) k).items at ≡ item (slot stored.key sought.seg sought.row)) stored.home
+    here = subst (λ k. (bucket_after b.shape (trace f) k).items at ≡ item (slot stored.key sought.seg sought.row)) home
         (n.named.1 ∙ (λ u. item (slot (of_key u) (n.named.2.0 u) (n.named.2.1 u))))
 
     now : target.word ≡ packed (tag_of a.key) (frequency_of (trace f) a.segment a.row) a.segment a.row
@@ -151,7 +154,7 @@ module _ (b : Board) (bucket : ℕ) (sought : Item) (into cutoff : ℕ) (p f : P
         had_seen b sought.seg sought.row (λ n. cutoff ≤ n) p f f seen_often (inr (refl, refl)),
         no_bit,
         on,
-        subst (λ k. Does k f q) stored.home does,
+        subst (λ k. Does k f q) home does,
       )
 
       -- the bit was tried for
@@ -160,8 +163,8 @@ module _ (b : Board) (bucket : ℕ) (sought : Item) (into cutoff : ℕ) (p f : P
           → ((other : ℕ) → other ≢ bucket → count (bounced other) q ≡ count (bounced other) f)
           → TriesFor b.shape (WasOften b.shape sought.seg cutoff p q) 1 p q
       tries_one q steps took met others = tries_after b (WasOften b.shape sought.seg cutoff p q) (WasOften b.shape sought.seg cutoff p q) 1 p f q i.moved (λ key s. s)
-          (one_try b.shape (WasOften b.shape sought.seg cutoff p q) stored.key f q (had q steps) took (subst (λ k. count (bounced k) q ≤ count (bounced k) f + 64) stored.home met)
-          (λ other apart. others other (λ same. apart (same ∙ stored.home))))
+          (one_try b.shape (WasOften b.shape sought.seg cutoff p q) stored.key f q (had q steps) took (subst (λ k. count (bounced k) q ≤ count (bounced k) f + 64) home met)
+          (λ other apart. others other (λ same. apart (same ∙ home))))
 
       pub row_busy : (q : Pass) → has_room_in b.shape into f ≡ true → GoesOn b f q × ChangesNothing f q × IsBusy bucket f q × DrawsNothing f q × ReadsNothing f q → Kept kept.Busy q
       row_busy q room busy = record {
@@ -174,7 +177,7 @@ module _ (b : Board) (bucket : ℕ) (sought : Item) (into cutoff : ℕ) (p f : P
             (λ tried. let same = tried.taken in let met = tried.tries in tries_one q busy.0.steps (omega arith) (omega arith) tried.others)
             busy.2;
         tried = looked IsBusy q busy.0 busy.2;
-        answer = (f, seen_often, busy.0, subst (λ (y : PlainPart). has_room_in b.shape into (record f { plain = y }) ≡ true) i.plain room, busy.1, subst (λ k. IsBusy k f q) stored.home busy.2);
+        answer = (f, seen_often, busy.0, subst (λ (y : PlainPart). has_room_in b.shape into (record f { plain = y }) ≡ true) i.plain room, busy.1, subst (λ k. IsBusy k f q) home busy.2);
       }
 
       -- ---- under the bit
@@ -257,7 +260,7 @@ module _ (b : Board) (bucket : ℕ) (sought : Item) (into cutoff : ℕ) (p f : P
               f,
               seen_often,
               begins.tries,
-              subst (λ k. AddsEvents b (under_bit (number f) k begins.tries []) f s) stored.home
+              subst (λ k. AddsEvents b (under_bit (number f) k begins.tries []) f s) home
                   (events_f r s [] [] m (λ other apart. tt) tt (λ h. refl) tt tt t.segments t.memo
                   (ap (λ (y : PlainPart). y.locked) plain) (ap (λ (y : PlainPart). y.is_holding) plain) freed
                   free plain' same'),
@@ -293,7 +296,7 @@ module _ (b : Board) (bucket : ℕ) (sought : Item) (into cutoff : ℕ) (p f : P
               (subst (λ k. AddsEvents b (moves (number q) k sought.seg sought.row into to position_moved written) q r) same_key t.moves.5)
 
           elsewhere : (other : ℕ) → bucket ≢ other → NoneAt b.shape other own
-          elsewhere other apart = (ne_eqb (bucket_of b.shape stored.key) other (λ e. apart (stored.home ∙ e)), fills_nowhere b.shape other (number f) into to written.0 written.1)
+          elsewhere other apart = (ne_eqb (bucket_of b.shape stored.key) other (λ e. apart (home ∙ e)), fills_nowhere b.shape other (number f) into to written.0 written.1)
 
           abbrev added : List Entry
           added = Moved (number f) stored.key sought.seg into ∷ []
@@ -322,7 +325,7 @@ module _ (b : Board) (bucket : ℕ) (sought : Item) (into cutoff : ℕ) (p f : P
                 written,
                 sym (same_used p f into i.plain) ∙ next.used,
                 next.fits,
-                subst (λ k. AddsEvents b (under_bit (number f) k begins.tries own) f s) stored.home
+                subst (λ k. AddsEvents b (under_bit (number f) k begins.tries own) f s) home
                     (events_f r s own added m elsewhere still adds undrawn none t.segments t.memo locks holds freed
                     free plain' same'),
                 write_adds b bucket f q goes_f.quiet begins r s own added false m elsewhere still adds freed free

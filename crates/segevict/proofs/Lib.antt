@@ -1,3 +1,5 @@
+pub mod IfNamed
+pub mod Tiles
 pub mod Unnamed
 pub mod Seeking
 pub mod Unlinking
@@ -18,3 +20,4 @@ pub mod Keeping
 pub mod UnnamedRows
 pub mod StoodFacts
 pub mod StepFacts
+pub mod FirstRowFacts

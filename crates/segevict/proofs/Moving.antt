@@ -34,7 +34,7 @@ use Rattle.segevict.specs.Rows.{IsNamedAt, IsStoredIn}
 use Rattle.segevict.proofs.Relinking.{relinked_gone}
 use Rattle.segevict.proofs.StoredRows.{may_read_own}
 use Rattle.segevict.proofs.Seeking.{stored_over}
-use Rattle.segevict.proofs.Unlinking.{clean_over, named_key}
+use Rattle.segevict.proofs.Unlinking.{clean_over, named_home, named_key}
 
 -- the key, the segment and the row of the item at a place
 abbrev pub slot_of : Content → Slot
@@ -96,6 +96,9 @@ module _ (b : Board) (bucket : ℕ) (sought : Item) (into to : ℕ) (p f : Pass)
 
     st : IsStanding b.shape (trace f) bucket at a
     st = (coherent b.shape (trace f) i.moved.pass.lawful).items bucket at a n.named.1
+
+    home : bucket ≡ bucket_of b.shape stored_f.key
+    home = named_home b bucket sought f i.moved.pass stored_f t n
 
     pub readable : IsReadable b f sought.seg sought.row
     readable = (
@@ -170,7 +173,7 @@ module _ (b : Board) (bucket : ℕ) (sought : Item) (into to : ℕ) (p f : Pass)
         standing_f = (λ u. stands b.shape (event.seen (trace f)) (sym of_key u)) ∙ (st.stands ∙ ap (λ s. Some (cached st.value s)) n.named.2.0)
 
         still : IsSameAt b.shape (after b.shape (event.seen (trace f))) (after b.shape (event.seen (trace c))) key
-        still = moved_at b written f c key m (subst (λ k. HasBit b.shape (trace f) (number f) k) stored_f.home clean_f.bit) (subst (λ k. NoneAt b.shape k written) stored_f.home nowhere)
+        still = moved_at b written f c key m (subst (λ k. HasBit b.shape (trace f) (number f) k) home clean_f.bit) (subst (λ k. NoneAt b.shape k written) home nowhere)
 
         standing_c : stands b.shape (event.seen (trace c)) key ≡ Some (cached st.value sought.seg)
         standing_c = still.stands ∙ standing_f
@@ -181,7 +184,7 @@ module _ (b : Board) (bucket : ℕ) (sought : Item) (into to : ℕ) (p f : Pass)
 
         fits : Fits b.shape (trace c) (relinked named into to at_c (number c))
         fits = record {
-          guarded = subst (HasBit b.shape (trace c) (number c)) stored_f.home clean_c.bit;
+          guarded = subst (HasBit b.shape (trace c) (number c)) home clean_c.bit;
           follows = (
             stands_in b.shape (event.seen (trace c)) key sought.seg (st.value, standing_c),
             stored_c.own,
@@ -192,14 +195,14 @@ module _ (b : Board) (bucket : ℕ) (sought : Item) (into to : ℕ) (p f : Pass)
                 ∙ (target.deadlines ∙ sym (ap (λ (x : PlainPart). deadline_in (own_segment x into)) (plain
                 ∙ i.plain)))),
           );
-          suits = (own, (st.value, standing_c, copied), subst (λ k. (bucket_after b.shape (trace c) k).items at_c ≡ item named) stored_f.home here);
+          suits = (own, (st.value, standing_c, copied), subst (λ k. (bucket_after b.shape (trace c) k).items at_c ≡ item named) home here);
         }
 
         pub may_move : Relinks b named into to t.place t.word c
         may_move = record {
-          bit = subst (HasBit b.shape (trace c) (number c)) stored_f.home clean_c.bit;
+          bit = subst (HasBit b.shape (trace c) (number c)) home clean_c.bit;
           fits = fits;
-          chain = subst (λ k. IsInChain b k t.place c) stored_f.home chain_c;
+          chain = subst (λ k. IsInChain b k t.place c) home chain_c;
           earlier = earlier_c;
         }
 
@@ -225,7 +228,7 @@ module _ (b : Board) (bucket : ℕ) (sought : Item) (into to : ℕ) (p f : Pass)
           gone_now = subst (RowGone b.shape sought.seg sought.row) (sym done.did.now) (relinked_gone b.shape old (number c) named into to at_c lawful linked_old)
 
           bucket_now : bucket_after b.shape (trace r) bucket ≡ acts e (bucket_after b.shape (trace c) bucket)
-          bucket_now = did_acts b e c r bucket done.did (eq-eqb (bucket_of b.shape key) bucket (sym stored_f.home)) clean_c.bit
+          bucket_now = did_acts b e c r bucket done.did (eq-eqb (bucket_of b.shape key) bucket (sym home)) clean_c.bit
 
           events : AddsEvents b (moves (number p) key sought.seg sought.row into to at_c (words, places)) p r
           events = subst (λ k. AddsEvents b (moves k key sought.seg sought.row into to at_c (words, places)) p r) i.moved.same
@@ -238,7 +241,7 @@ module _ (b : Board) (bucket : ℕ) (sought : Item) (into to : ℕ) (p f : Pass)
               key,
               at_c,
               (words, places),
-              stored_f.home,
+              home,
               sym (ap (λ h. (row_after h sought.seg sought.row).linked) i.moved.goes_on ∙ own_linked b.shape i.moved.more (trace p) (number p) sought.seg sought.row
                   (subst (IsLawful b.shape) i.moved.goes_on i.moved.pass.lawful) (subst (AreCalmIn sought.seg) (sym i.moved.adds) tt) stored.own) ∙ stored_f.linked,
               moved_still b (moves (number p) key sought.seg sought.row into to at_c (words, places)) p r final.plain events (owner_counted r.plain into (to + 1)),

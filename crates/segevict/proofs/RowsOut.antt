@@ -34,7 +34,7 @@ use Rattle.segstore.proofs.Still.{AreStill, no_reader}
 use Rattle.segstore.proofs.TakenBits.{AreNoTries}
 use Rattle.segstore.proofs.Peeking.{unread}
 use Rattle.segstore.proofs.UnderWrite.{HasBegun, begun, tries, took_moved, took_keeps, write_goes_on, write_adds, write_undrawn, write_peeking, write_takes}
-use Rattle.segevict.proofs.Unlinking.{named_stands}
+use Rattle.segevict.proofs.Unlinking.{named_home, named_stands}
 use Rattle.segevict.proofs.Unnamed.{gone_over}
 
 -- ---- calls one after another
@@ -99,6 +99,9 @@ module _ (b : Board) (bucket : ℕ) (sought : Item) (p f : Pass) (quiet : IsQuie
     linked_marked (trace p) sought.seg sought.row ∙ (sym (gone_looking.linked sought.row) ∙ stored.linked),
   )
 
+  home_here : (target : Target) → IsNamedAt b bucket sought target f → bucket ≡ bucket_of b.shape stored.key
+  home_here target n = named_home b bucket sought f i.moved.pass stored target n
+
   -- the bit was tried for, since the key stood then
   tries_one : (target : Target) (q : Pass) → IsNamedAt b bucket sought target f → Begins (seen f) (seen q)
       → TakesSteps f q → count taken q ≤ count taken f + 1
@@ -108,7 +111,7 @@ module _ (b : Board) (bucket : ℕ) (sought : Item) (p f : Pass) (quiet : IsQuie
   tries_one target q n later steps took met others =
       let IsSo = StoodAtRow b.shape sought.seg sought.row p q in
       tries_after b IsSo IsSo 1 p f q i.moved (λ key s. s) (one_try b.shape IsSo stored.key f q (stood_here target q n later steps) took
-      (subst (λ k. count (bounced k) q ≤ count (bounced k) f + 64) stored.home met) (λ other apart. others other (λ same. apart (same ∙ stored.home))))
+      (subst (λ k. count (bounced k) q ≤ count (bounced k) f + 64) (home_here target n) met) (λ other apart. others other (λ same. apart (same ∙ home_here target n))))
 
   -- no word names the row
   pub row_is_gone : RowGone b.shape sought.seg sought.row (trace f) → EvictsRow b sought.seg sought.row evict_row.Left p f
@@ -142,10 +145,10 @@ module _ (b : Board) (bucket : ℕ) (sought : Item) (p f : Pass) (quiet : IsQuie
         stored.key,
         stood_here target q n busy.0.seen busy.0.steps,
         ⊎_elim
-            (λ own. inl (sym (ap (λ (x : PlainPart). x.locked) i.plain) ∙ (own.0 ∙ ap Some stored.home)))
+            (λ own. inl (sym (ap (λ (x : PlainPart). x.locked) i.plain) ∙ (own.0 ∙ ap Some (home_here target n))))
             (λ tried.
             let same : count (bounced bucket) f ≡ count (bounced bucket) p = moved_count b [] p f (bounced bucket) i.moved in
-            inr (subst (λ k. count (bounced k) p + 64 ≤ count (bounced k) q) stored.home (let e = tried.tries in omega arith)))
+            inr (subst (λ k. count (bounced k) p + 64 ≤ count (bounced k) q) (home_here target n) (let e = tried.tries in omega arith)))
             busy.2,
       ),
     );

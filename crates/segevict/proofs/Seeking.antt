@@ -1,14 +1,15 @@
 -- The search for the word that names a row of the pass's own, along a chain, under the bucket's bit or without it.
-use Rattle.std.proofs.Common.{◌≡◌, ℕ, ◌+◌, ◌-◌, ◌*◌, ◌/◌, ◌%◌, ◌^◌, ◌<◌, ◌≤◌, ltb, List, [], ◌++◌, Option, Some, None, sym, ap, ◌∙◌, subst, ⊎_elim, arith}
+use Rattle.std.proofs.Common.{◌≡◌, ℕ, ◌+◌, ◌-◌, ◌*◌, ◌/◌, ◌%◌, ◌^◌, ◌<◌, ◌≤◌, ltb, List, [], ◌++◌, Option, Some, None, sym, ap, ◌∙◌, subst, inl, inr, ⊎_elim, arith}
 use Rattle.std.proofs.lemmas.Bool.{cases_lt, cond-true, lt-ltb}
 use Rattle.std.proofs.lemmas.Option.{none-some, same_Some}
 use Rattle.std.specs.Prelude.{MatchOption}
 use Rattle.segword.specs.Words.{IsSameItem, IsValid, Item, item_word, Shape}
-use Rattle.segmodel.specs.Words.{tag_of}
+use Rattle.segmodel.specs.Words.{bucket_of, tag_of}
 use Rattle.segcore.specs.Words.{bucket_after, Event, home, IsAt, IsItemAt, IsLawful, IsPosition}
 use Rattle.segcore.specs.Words.{item, row_after, RowAt, RowGone}
 use Rattle.segcore.proofs.Chains.{chain_of}
-use Rattle.segcore.proofs.Limits.{bucket_in, home_in, low_row, low_segment}
+use Rattle.segcore.proofs.Limits.{home_in, low_row, low_segment}
+use Rattle.segcore.proofs.Moments.{lawful_before}
 use Rattle.segcore.proofs.Standing.{coherent}
 use Rattle.segbase.specs.Words.{AddsEvents, Board, cell_at, IsPassOf, IsPlace, IsWordOfContent}
 use Rattle.segbase.specs.Words.{number, own_of, Pass, Place, position, trace}
@@ -18,12 +19,13 @@ use Rattle.segstore.proofs.Keeping.{AreCalmIn, own_linked}
 use Rattle.segstore.proofs.Refills.{idles}
 use Rattle.segstore.specs.Words.{first_word, IsNext, LeadsNowhere, LeadsTo, next_word}
 use Rattle.segwrite.specs.Words.{IsInChain}
-use Rattle.segevict.specs.Rows.{IsStoredIn}
+use Rattle.segevict.specs.Rows.{IfNamed, IsStoredIn}
+use Rattle.segevict.proofs.IfNamed.{home_named, home_over, home_within, named_over, so_named}
 use Rattle.segwrite.proofs.Items.{item_here}
 use Rattle.segwrite.proofs.Onward.{depth_of_place, next_at, leads_to, first_at, chain_ends}
 use Rattle.segwrite.proofs.Places.{idles_then, position_at, same_position, chain_later}
 use Rattle.segwrite.proofs.Searching.{begins_at}
-use Rattle.segevict.proofs.Unnamed.{IsAhead, ahead_first, ahead_over, ahead_passed, ahead_skipped, ahead_ended}
+use Rattle.segevict.proofs.Unnamed.{gone_over, IsAhead, ahead_first, ahead_over, ahead_passed, ahead_skipped, ahead_ended}
 
 -- ---- a word and a row
 
@@ -44,18 +46,19 @@ names_row z h b n word sought v l reads same =
 
 -- and no other does, where the key was linked to the row
 pub names_no_row : (z : Shape) (h : List Event) (b n word : ℕ) (sought : Item) (key : List ℕ) → IsValid z
-    → IsLawful z h → (row_after h sought.seg sought.row).linked ≡ Some key → sought.tag ≡ tag_of key
+    → IsLawful z h → (row_after h sought.seg sought.row).linked ≡ Some key → IfNamed z h sought.seg sought.row (sought.tag ≡ tag_of key)
     → IsWordOfContent ((bucket_after z h b).items n) word → ¬ (IsSameItem word (item_word sought)) → ¬ (RowAt z b sought.seg sought.row h n)
 names_no_row z h b n word sought key v l on tag reads other at =
     let a = at.0 in let stands = (coherent z h l).items b n a at.1 in
     let ls = low_segment z a.segment v stands.within.0 in let lr = low_row z a.row v stands.within.1 in
     let same : a.key ≡ key = same_Some a.key key (sym stands.linked ∙ ((λ t. (row_after h (at.2.0 t) (at.2.1 t)).linked) ∙ on)) in
     let here : IsWordOfContent (item a) word = subst (λ x. IsWordOfContent x word) at.1 reads in
+    let tagged = so_named z h b n sought.seg sought.row (sought.tag ≡ tag_of key) at tag in
     let is = here.0.2 in let few : here.0.0 < 2 ^ 8 = (let lt = here.0.1 in omega arith) in
     other (
       here.1,
       ap (λ w. w / 2 ^ 52) is ∙ (tag_of_word (tag_of a.key) here.0.0 a.segment a.row few ls lr
-          ∙ (ap tag_of same ∙ (sym tag ∙ sym (tag_of_word sought.tag sought.freq sought.seg sought.row
+          ∙ (ap tag_of same ∙ (sym tagged ∙ sym (tag_of_word sought.tag sought.freq sought.seg sought.row
           sought.freq_in_range sought.seg_in_range sought.row_in_range)))),
       ap (λ w. w % 2 ^ 44) is ∙ (place_of_word (tag_of a.key) here.0.0 a.segment a.row ls lr
           ∙ ((λ t. at.2.0 t * 2 ^ 20 + at.2.1 t) ∙ sym
@@ -77,25 +80,38 @@ pub record Seeking (b : Board) (bucket : ℕ) (sought : Item) (first p : Pass) (
 pub seeking_first : (b : Board) (bucket : ℕ) (sought : Item) (p : Pass) → IsPassOf b p → IsStoredIn b bucket sought p → Seeking b bucket sought p p (record { bucket = bucket; word = 1 })
 seeking_first b bucket sought p is stored =
     let z = b.shape in let place : Place = record { bucket = bucket; word = 1 } in
-    let lt : bucket < z.buckets = subst (λ k. k < z.buckets) (sym stored.home) (bucket_in z stored.key is.valid) in
+    let lt : bucket < z.buckets = home_within z (trace p) sought.seg sought.row bucket stored.key is.valid stored.home in
     let one : position z (trace p) place ≡ 1 = cond-true (ltb bucket z.buckets) 1 _ (lt-ltb bucket z.buckets lt) in record {
       idles = idles b p is;
       stored = stored;
       chain = begins_at b p bucket lt;
       ahead = subst (λ n. IsAhead z bucket sought.seg sought.row n (trace p)) (sym one)
-          (subst (λ k. IsAhead z k sought.seg sought.row 1 (trace p)) (sym stored.home) (ahead_first z stored.key sought.seg sought.row (trace p) is.lawful stored.linked));
+          (⊎_elim
+          (λ gone. inl gone)
+          (λ there. inr (
+            there.0,
+            there.1,
+            subst (λ k. RowAt z k sought.seg sought.row (trace p) there.0)
+                (sym (so_named z (trace p) (bucket_of z stored.key) there.0 sought.seg sought.row (bucket ≡ bucket_of z stored.key) there.2
+                (home_named z (trace p) sought.seg sought.row bucket stored.key stored.home))) there.2,
+          ))
+          (ahead_first z stored.key sought.seg sought.row (trace p) is.lawful stored.linked));
     }
 
 pub stored_over : (b : Board) (bucket : ℕ) (sought : Item) (own : List Event) (p q : Pass) → AddsEvents b own p q
     → AreCalmIn sought.seg own → IsStoredIn b bucket sought p → IsStoredIn b bucket sought q
 stored_over b bucket sought own p q m calm stored =
     let l : IsLawful b.shape (m.more ++ trace p) = subst (IsLawful b.shape) m.goes_on m.pass.lawful in
-    let c : AreCalmIn sought.seg (own_of (number p) m.more) = subst (AreCalmIn sought.seg) (sym m.adds) calm in record {
+    let c : AreCalmIn sought.seg (own_of (number p) m.more) = subst (AreCalmIn sought.seg) (sym m.adds) calm in
+    let there : (k n : ℕ) → RowAt b.shape k sought.seg sought.row (trace q) n → (bucket : ℕ) × (m : ℕ) × RowAt b.shape bucket sought.seg sought.row (trace p) m = λ k n at. ⊎_elim
+    (λ gone. absurd (gone_over b own p q sought.seg sought.row m calm stored.own gone k n at.0 at.1 at.2.0 at.2.1))
+    (λ on. (bucket_of b.shape stored.key, on.0, on.2))
+    (ahead_first b.shape stored.key sought.seg sought.row (trace p) (lawful_before b.shape m.more (trace p) l) stored.linked) in record {
       key = stored.key;
       own = stored.own ∙ sym m.same;
       linked = ap (λ h. (row_after h sought.seg sought.row).linked) m.goes_on ∙ (own_linked b.shape m.more (trace p) (number p) sought.seg sought.row l c stored.own ∙ stored.linked);
-      home = stored.home;
-      tag = stored.tag;
+      home = home_over b.shape (trace p) (trace q) sought.seg sought.row bucket stored.key there stored.home;
+      tag = named_over b.shape (trace p) (trace q) sought.seg sought.row (sought.tag ≡ tag_of stored.key) there stored.tag;
     }
 
 -- a chain has four buckets at most

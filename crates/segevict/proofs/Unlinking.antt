@@ -61,6 +61,10 @@ module _ (b : Board) (bucket : ℕ) (sought : Item) (f : Pass) (is : IsPassOf b 
   pub named_key : a.key ≡ stored.key
   named_key = same_Some a.key stored.key (sym st.linked ∙ ((λ t. (row_after (trace f) (n.named.2.0 t) (n.named.2.1 t)).linked) ∙ stored.linked))
 
+  -- the bucket is that of the key
+  pub named_home : bucket ≡ bucket_of b.shape stored.key
+  named_home = sym st.here ∙ ap (bucket_of b.shape) named_key
+
   pub left_is : left_at b target.place f ≡ (stored.key, Evicts sought.seg)
   left_is = ap (λ k. left_of ((bucket_after b.shape (trace f) k).items at)) (at_place b.shape (trace f) bucket at target.place n.chain.at.1).0
       ∙ (ap left_of n.named.1 ∙ (λ t. (named_key t, Evicts (n.named.2.0 t))))
@@ -81,13 +85,13 @@ module _ (b : Board) (bucket : ℕ) (sought : Item) (f : Pass) (is : IsPassOf b 
 
   clears : HasBit b.shape (trace f) (number f) bucket → Clears (stored.key, Evicts sought.seg)
   clears bit =
-      let here : (bucket_after b.shape (trace f) (bucket_of b.shape stored.key)).items at ≡ holds a = subst (λ k. (bucket_after b.shape (trace f) k).items at ≡ holds a) stored.home n.named.1 in (
+      let here : (bucket_after b.shape (trace f) (bucket_of b.shape stored.key)).items at ≡ holds a = subst (λ k. (bucket_after b.shape (trace f) k).items at ≡ holds a) named_home n.named.1 in (
         record {
-          guarded = subst (HasBit b.shape (trace f) (number f)) stored.home bit;
+          guarded = subst (HasBit b.shape (trace f) (number f)) named_home bit;
           follows = (named_stands, stored.own);
           suits = (a, here, named_key, sym n.named.2.0);
         },
-        subst (λ k. IsInChain b k target.place f) stored.home n.chain,
+        subst (λ k. IsInChain b k target.place f) named_home n.chain,
         (a, here, named_key),
         subst (λ w. IsSameItem target.word w × (target.word ≤ w)) n.reads ((n.same.0, refl, refl), omega arith),
       )
@@ -112,6 +116,9 @@ module _ (b : Board) (bucket : ℕ) (sought : Item) (p f : Pass) (stored : IsSto
     abbrev k : List ℕ
     k = stored_now.key
 
+    home : bucket ≡ bucket_of b.shape k
+    home = named_home b bucket sought f i.moved.pass stored_now target n
+
     abbrev there : ℕ
     there = position b.shape (trace f) target.place
 
@@ -130,7 +137,7 @@ module _ (b : Board) (bucket : ℕ) (sought : Item) (p f : Pass) (stored : IsSto
 
       bucket_now : bucket_after b.shape (trace q) bucket ≡ acts e (bucket_after b.shape (trace f) bucket)
       bucket_now = let u = bucket_after b.shape (d.others ++ trace f) bucket in
-          ap (λ h. bucket_after b.shape h bucket) d.now ∙ (cond-true (eqb (bucket_of b.shape k) bucket) (acts e u) u (eq-eqb (bucket_of b.shape k) bucket (sym stored_now.home))
+          ap (λ h. bucket_after b.shape h bucket) d.now ∙ (cond-true (eqb (bucket_of b.shape k) bucket) (acts e u) u (eq-eqb (bucket_of b.shape k) bucket (sym home))
           ∙ ap (acts e) (quiet b.shape d.others (trace f) (number f) bucket d.before d.none clean_now.bit.1))
 
       pub takes_one : TakesRow b bucket sought true p q
@@ -138,7 +145,7 @@ module _ (b : Board) (bucket : ℕ) (sought : Item) (p f : Pass) (stored : IsSto
         takes = (
           k,
           there,
-          stored_now.home,
+          home,
           subst
               (λ m. AddsEvents b (Unlinked m k there (Evicts sought.seg) ∷ []) p q) i.moved.same
               (moved_then b [] (e ∷ []) p f q i.moved d.moved),

@@ -3,13 +3,14 @@
 ghost use Rattle.std.specs.Prelude.{◌≡◌, ◌≢◌, Some};
 ghost use Rattle.segmodel.specs.declared.answer.SegState.TheVariants.{InUse};
 ghost use Rattle.segmodel.specs.declared.answer.EvictAnswer.TheVariants.{NotYours};
-ghost use Rattle.segbase.specs.Words.{current_of, IsPassOf, state_of};
-ghost use Rattle.segstore.specs.Words.{GoesOn, HasCleanBit, IsQuiet, memo, TakesAtMost};
+ghost use Rattle.segcore.specs.Words.{row_after};
+ghost use Rattle.segbase.specs.Words.{current_of, IsPassOf, state_of, trace};
+ghost use Rattle.segstore.specs.Words.{GoesOn, HasCleanBit, HoldsPair, IsQuiet, memo, TakesAtMost};
 ghost use Rattle.segevict.specs.EvictedRow.{EvictsItem};
 ghost use Rattle.segevict.specs.Evicting.{CostsOfEvict, ended, EvictsRest, EvictsSegment};
 ghost use Rattle.segevict.specs.Evicting.{IsEvictAnswer};
 ghost use Rattle.segevict.specs.Naming.{AreUnnamed};
-ghost use Rattle.segevict.specs.Rows.{IsUsedRow, IsStoredIn};
+ghost use Rattle.segevict.specs.Rows.{IfSeveral, IsUsedRow, IsStoredIn};
 ghost use Rattle.segevict.specs.Steps.{most_steps_of_evict_row, most_steps_to_clear};
 ghost use Rattle.segevict.specs.Unlinking.{TakesRow, EvictsRow};
 
@@ -123,6 +124,7 @@ pub(crate) fn evict_first_row(
 ) -> EvictRowAnswer
     requires quiet { IsQuiet board.now pass.old }
     requires used { IsUsedRow segment row pass.old }
+    requires pair { IfSeveral (HoldsPair (row_after (trace pass.old) segment row)) }
     ensures evicts { EvictsRow board.now segment row result pass.old pass.new }
     ensures steps { TakesAtMost (most_steps_of_evict_row result) pass.old pass.new }
 {

@@ -1,8 +1,9 @@
 //! How many rows of a pass's own segments are used, and how many of these items name.
 ghost use Rattle.std.specs.Prelude.{◌≡◌, ◌≤◌, Some};
-ghost use Rattle.segbase.specs.Words.{HasStep, used_of};
-ghost use Rattle.segstore.specs.Words.{Idles, IsQuiet};
-ghost use Rattle.segevict.specs.Rows.{IsUsedRow};
+ghost use Rattle.segcore.specs.Words.{row_after};
+ghost use Rattle.segbase.specs.Words.{HasStep, trace, used_of};
+ghost use Rattle.segstore.specs.Words.{HoldsPair, Idles, IsQuiet};
+ghost use Rattle.segevict.specs.Rows.{IfSeveral, IsUsedRow};
 ghost use Rattle.segevict.specs.Naming.{ReturnsNamed, FindsNamed, CountsRows};
 
 use crate::row::{find_row, item_of_row};
@@ -22,6 +23,7 @@ pub struct RowCounts {
 pub(crate) fn is_named(board: &Board, pass: &mut Pass, segment: u32, row: u32) -> bool
     requires quiet { IsQuiet board.now pass.old }
     requires used { IsUsedRow segment row pass.old }
+    requires pair { IfSeveral (HoldsPair (row_after (trace pass.old) segment row)) }
     ensures idles { Idles board.now pass.old pass.new }
     ensures looks { HasStep pass.old pass.new }
     ensures told { ReturnsNamed board.now.shape segment row result pass.new }
@@ -31,10 +33,11 @@ pub(crate) fn is_named(board: &Board, pass: &mut Pass, segment: u32, row: u32) -
 }
 
 // How many of the used rows of a segment of the pass's own items named,
-// each of which has an item of its own.
+// where each has an item of its own.
 pub(crate) fn named_each_row(board: &Board, pass: &mut Pass, segment: u32, used: u32) -> u32
     requires quiet { IsQuiet board.now pass.old }
     requires used { used_of pass.old segment ≡ Some used }
+    requires alone { IfSeveral ⊥ }
     ensures idles { Idles board.now pass.old pass.new }
     ensures few { result ≤ used }
     ensures named { FindsNamed board.now.shape segment used result pass.old pass.new }

@@ -10,7 +10,7 @@ ghost use Rattle.segevict.specs.Keeping.{KeepsItems};
 ghost use Rattle.segevict.specs.Moving.{KeepsRow, MovesRow};
 ghost use Rattle.segevict.specs.OneRow.{KeepsItem, KeepsItemInto};
 ghost use Rattle.segevict.specs.Relinking.{HasRelinked, Relinks, TriesToRelink};
-ghost use Rattle.segevict.specs.Rows.{IsUsedRow, IsStoredIn};
+ghost use Rattle.segevict.specs.Rows.{IfSeveral, IsUsedRow, IsStoredIn};
 ghost use Rattle.segevict.specs.Steps.{most_steps_of_keep_row, most_steps_to_move};
 ghost use Rattle.segevict.specs.Target.{has_room_in, IsKeepTarget, IsMoveTarget, IsNextIn};
 
@@ -169,6 +169,7 @@ pub(crate) fn keep_first_row(
     requires quiet { IsQuiet board.now pass.old }
     requires used { IsUsedRow row.segment row.row pass.old }
     requires target { IsMoveTarget row.segment into pass.old }
+    requires alone { IfSeveral ⊥ }
     ensures keeps { KeepsRow board.now row.segment row.row into cutoff result pass.old pass.new }
     ensures steps { TakesAtMost (most_steps_of_keep_row result) pass.old pass.new }
 {
@@ -216,6 +217,7 @@ pub(crate) fn move_row(board: &Board, pass: &mut Pass, bucket: u32, item: Item, 
     requires bit { HasCleanBit board.now pass.old bucket }
     requires target { IsMoveTarget item.seg to.segment pass.old }
     requires next { IsNextIn board.now to.segment to.row pass.old }
+    requires alone { IfSeveral ⊥ }
     ensures moves { MovesRow board.now bucket item to.segment to.row result pass.old pass.new }
     ensures steps { TakesAtMost (most_steps_to_move result) pass.old pass.new }
 {
