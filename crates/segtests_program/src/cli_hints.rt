@@ -63,12 +63,10 @@ fn first_requests_are_told(rt: HostRuntime) {
     check_told(&rt, &["replay", "--for-keys=64"], b"a\na\nb\n", &[FIRST]);
     check_told(&rt, &["replay"], b"a\na\nb\n", &[SMALL, FIRST]);
     check_told(&rt, &["replay", "--for-keys=64"], b"a\ndelete a\na\n", &[]);
-    check_told(
-        &rt,
-        &["replay", "--for-keys=64", "--warm=1"],
-        b"a\na\nb\n",
-        &[],
-    );
+    for warm in ["--warm=1", "--warm=2"] {
+        let words = ["replay", "--for-keys=64", warm];
+        check_told(&rt, &words, b"a\na\nb\n", &[]);
+    }
 }
 
 // Two times to live are many for seven segments. A delete puts nothing, so its time to live
