@@ -17,6 +17,8 @@ mod closing;
 #[cfg(test)]
 mod counting;
 #[cfg(test)]
+mod draws;
+#[cfg(test)]
 mod first_cache;
 #[cfg(test)]
 mod full_bucket;
@@ -27,9 +29,17 @@ mod keeping;
 #[cfg(test)]
 mod keeping_at_once;
 #[cfg(test)]
+mod kept_reads;
+#[cfg(test)]
+mod kept_rows;
+#[cfg(test)]
+mod kept_times;
+#[cfg(test)]
 mod limiting;
 #[cfg(test)]
 mod many_keys;
+#[cfg(test)]
+mod numbered;
 #[cfg(test)]
 mod only_client;
 #[cfg(test)]

@@ -1,5 +1,6 @@
 //! Updates by several clients: a cache for so many keys keeps each of them, however often
 //! its value is replaced.
+use crate::draws::Draws;
 use crate::same::{check_that, same};
 use segclient::{
     Client, DeleteAnswer, GetAnswer, GetsAnswer, HoldAnswer, Index, Key, PutAnswer, Shape, Value,
@@ -13,30 +14,6 @@ const KEYS: u32 = 1_000;
 const CLIENTS: u32 = 4;
 
 const UPDATES: u32 = 40_000;
-
-// Numbers at random.
-#[derive(Clone, Copy)]
-struct Draws {
-    state: u64,
-}
-
-impl Draws {
-    // A number below this one.
-    fn below(&mut self, most: u32) -> u32 {
-        self.state = self
-            .state
-            .wrapping_mul(6_364_136_223_846_793_005)
-            .wrapping_add(1_442_695_040_888_963_407);
-        ((self.state >> 32).saturating_mul(u64::from(most)) >> 32) as u32
-    }
-
-    // A key's number. Small ones come more often, half of all draws are of a twentieth of the keys.
-    fn skewed(&mut self) -> u32 {
-        let most = self.below(KEYS).saturating_add(1);
-        let most = self.below(most).saturating_add(1);
-        self.below(most)
-    }
-}
 
 fn key_of(rt: &impl Abort, number: u32) -> Key {
     Key::new(&number.to_le_bytes()).expect(rt, "a key")
@@ -67,11 +44,11 @@ fn update(client: &mut Client<'_>, key: &Key, value: &Value, how: u32) -> bool {
 // How many updates of keys at random found their key, by the clients in turn.
 fn updates_of(rt: &impl Abort, clients: &mut Vec<Client<'_>>, is_skewed: bool) -> u32 {
     let value = Value::new(b"1").expect(rt, "a value");
-    let mut draws = Draws { state: 7 };
+    let mut draws = Draws::new(7);
     let mut found: u32 = 0;
     for at in 0..UPDATES {
         let number = if is_skewed {
-            draws.skewed()
+            draws.skewed(KEYS)
         } else {
             draws.below(KEYS)
         };
@@ -119,7 +96,7 @@ fn no_update_of_some_keys_more_often_loses_one(rt: HostRuntime) {
 // How many updates of keys at random found their key, by one client.
 fn updates_by(rt: &impl Abort, client: &mut Client<'_>) -> u32 {
     let value = Value::new(b"1").expect(rt, "a value");
-    let mut draws = Draws { state: 7 };
+    let mut draws = Draws::new(7);
     let mut found: u32 = 0;
     for at in 0..UPDATES {
         let number = draws.below(KEYS);
@@ -165,10 +142,10 @@ fn change(client: &mut Client<'_>, key: &Key, value: &Value, is_gone: bool) -> b
 // How many of these changes find what was there before.
 fn changes_of(rt: &impl Abort, clients: &mut Vec<Client<'_>>, gone: &mut Vec<bool>) -> u32 {
     let value = Value::new(b"1").expect(rt, "a value");
-    let mut draws = Draws { state: 11 };
+    let mut draws = Draws::new(11);
     let mut found: u32 = 0;
     for _ in 0..UPDATES {
-        let number = draws.skewed();
+        let number = draws.skewed(KEYS);
         let who = draws.below(CLIENTS) as usize;
         let is_deleted = draws.below(10) == 0;
         let key = key_of(rt, number);
