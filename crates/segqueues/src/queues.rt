@@ -65,6 +65,8 @@ pub struct Queues {
     pub(crate) may_try: bool,
     // Where the next look over the segments begins.
     pub(crate) first_look: u32,
+    // How many looks found no dead rows since one did.
+    pub(crate) in_vain: u32,
     // Whether items of the segment that is cleared now were left behind
     // since no main segment was open.
     leaves_some: bool,
@@ -87,6 +89,7 @@ impl Queues {
             clearing: Clearing::none(),
             may_try: true,
             first_look: 0,
+            in_vain: 0,
             leaves_some: false,
             is_strict: false,
         })

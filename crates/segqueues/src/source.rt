@@ -26,6 +26,9 @@ const FEW_DEAD: u64 = 9;
 // A choice is made among so many segments at most.
 const LOOKS: u32 = 128;
 
+// So many choices at most are made one after another, until one finds dead rows.
+const CHOICES: u32 = 8;
+
 // The source that is being cleared, as far as queues know.
 #[derive(Clone, Copy)]
 pub(crate) struct Clearing {
@@ -279,6 +282,38 @@ impl Queues {
         None
     }
 
+    // What is seen of the segments from this one on, the current one left out.
+    fn seen_from(&self, first: u32, current: Option<u32>) -> Seen {
+        let mut seen = Seen::none();
+        for look in 0..self.segments.min(LOOKS) {
+            let at = first.saturating_add(look);
+            if self.is_other(at, current) {
+                seen = self.seen_with(seen, at);
+            }
+        }
+        seen
+    }
+
+    // A segment that is cleared for its dead rows. Once a choice among each part of the segments
+    // was made in vain, a single one is made until it finds some.
+    fn next_with_dead_rows(&mut self, current: Option<u32>) -> Option<u32> {
+        let parts = self.segments.div_ceil(LOOKS).min(CHOICES);
+        for _ in 0..parts {
+            let first = self.next_look();
+            let seen = self.seen_from(first, current);
+            let found = self.with_dead_rows(seen, current, first);
+            if found.is_some() {
+                self.in_vain = 0;
+                return found;
+            }
+            self.in_vain = self.in_vain.saturating_add(1);
+            if self.in_vain >= parts {
+                return None;
+            }
+        }
+        None
+    }
+
     // The segment that is cleared next by frequencies, the current one left out: the oldest on
     // probation while there are more than their share, and else the oldest main one.
     // A lone main segment takes what moves.
@@ -359,15 +394,7 @@ impl Queues {
         if expired.is_some() {
             return expired;
         }
-        let first = self.next_look();
-        let mut seen = Seen::none();
-        for look in 0..self.segments.min(LOOKS) {
-            let at = first.saturating_add(look);
-            if self.is_other(at, current) {
-                seen = self.seen_with(seen, at);
-            }
-        }
-        if let Some(segment) = self.with_dead_rows(seen, current, first) {
+        if let Some(segment) = self.next_with_dead_rows(current) {
             return self.begin(segment, true);
         }
         self.may_try = true;

@@ -124,16 +124,15 @@ fn update(rt: &impl Abort, client: &mut Client<'_>, number: u32, how: u32) {
     check_that(rt, is_stored);
 }
 
-// Puts the numbers that stay still, and updates others by turns.
-fn update_beside(rt: &impl Abort, client: &mut Client<'_>) {
-    for number in 0..STILL {
+// Puts numbers, and then updates those from `still` on by turns.
+fn update_beside(rt: &impl Abort, client: &mut Client<'_>, still: u32, numbers: u32) {
+    for number in 0..numbers {
         put(rt, client, number);
     }
-    for number in STILL..STILL + UPDATED {
-        put(rt, client, number);
-    }
-    for at in 0..UPDATES {
-        update(rt, client, STILL + at % UPDATED, at / UPDATED);
+    for round in 0..UPDATES / UPDATED {
+        for number in still..numbers {
+            update(rt, client, number, round);
+        }
     }
 }
 
@@ -142,9 +141,19 @@ fn update_beside(rt: &impl Abort, client: &mut Client<'_>) {
 fn dead_rows_go_before_keys_that_nobody_reads(rt: HostRuntime) {
     let (index, passes) = Index::new(rt.alloc(), SHAPE).expect(&rt, "an index");
     let mut client = only_client(&rt, &index, passes);
-    update_beside(&rt, &mut client);
+    update_beside(&rt, &mut client, STILL, STILL + UPDATED);
     same(&rt, &client.stats().keys_evicted, &0);
     same(&rt, &found_of(&rt, &mut client, 0, 50), &50);
+}
+
+// 300 keys in 800 rows of so many segments that no single look goes over all of them.
+#[test]
+fn dead_rows_are_found_among_many_segments(rt: HostRuntime) {
+    let (index, passes) = Index::new(rt.alloc(), shape_of(400, 2)).expect(&rt, "an index");
+    let mut client = only_client(&rt, &index, passes);
+    update_beside(&rt, &mut client, 260, 300);
+    same(&rt, &client.stats().keys_evicted, &0);
+    same(&rt, &found_of(&rt, &mut client, 0, 300), &300);
 }
 
 // The same with deletes: sessions begin and end, one after another.
