@@ -84,17 +84,17 @@ fn expired_items_stand_up_to_the_refill(rt: HostRuntime) {
 }
 
 // The times to live of the first two commands are counted, and what they are given isn't.
-// The third goes into the segment of the first, and is given 75 of 80.
+// The third has a segment of its own, up to 804, and is given 799 of 800.
 #[test]
 fn a_warm_replay_counts_the_rest(rt: HostRuntime) {
     let words = ["replay", "--csv", "--for-keys=64", "--rows=64", "--warm=2"];
-    let ended = run(&rt, &words, b"0,a,set,80\n0,a,get,7\n5,b,set,80\n");
+    let ended = run(&rt, &words, b"0,a,set,800\n0,a,get,7\n5,b,set,800\n");
     let text = text_of(&rt, &ended);
     check_same(&rt, &words, ended.status, 0);
     check_same(
         &rt,
         &words,
-        text.ends_with(" items=2 lives=2 given=93.75\n"),
+        text.ends_with(" items=2 lives=2 given=99.87\n"),
         true,
     );
 }
