@@ -268,6 +268,6 @@ def turns(lines):
 def taken(runs):
     """When all was taken, of which commit, and of how many turns."""
     first = runs["results"][0]
-    numbers = [turns(runs[name]) for name in ("results", "latencies", "c")]
-    return (f'Taken on {first["time"][:10]}, at {first["crates"]}: {numbers[0]} turns, of latencies {numbers[1]}, '
-            f"through C {numbers[2]}.")
+    numbers = [turns(runs[name]) for name in ("results", "caches", "latencies", "c")]
+    return (f'Taken on {first["time"][:10]}, at {first["crates"]}: {numbers[0]} turns, beside caches {numbers[1]}, '
+            f"of latencies {numbers[2]}, through C {numbers[3]}.")
