@@ -111,6 +111,21 @@ def check_reference():
     run_quietly([check])
 
 
+def check_floor():
+    """Stops where the floor answers otherwise than the reference, on one thread, also where buckets are full and rows run out."""
+    names = ("reference", "floor")
+    for program in PROGRAMS:
+        if program.name in names and (fault := program.build()):
+            raise SystemExit(fault)
+    for mix in ("mixed", "gets", "sets", "fetches", "f", "gets16", "mixed16"):
+        for sizes in ((1024, 1024, 8, 4096), (64, 64, 4, 200)):
+            told = [rounds_of([OUT / name, mix, "zipf", "1000", "1", "30000", "0", "0", *map(str, sizes)], 1, "small")
+                    for name in names]
+            counts = [[one[name] for name in ("hits", "misses", "busy", "full", "read")] for (one,) in told]
+            if counts[0] != counts[1]:
+                raise SystemExit(f"floor: {mix} with {sizes} counts {counts[1]}, and the reference {counts[0]}")
+
+
 def library_of(crate):
     return OUT / f"{crate}_library/release/lib{crate}_peer.a"
 
@@ -159,6 +174,7 @@ CAFFEINE = Caffeine("caffeine", "peers/caffeine", "libcaffeine-java",
 
 PROGRAMS = [
     Program("reference", "reference/reference.cpp"),
+    Program("floor", "floor/floor.cpp"),
     Program("ours_c", "peers/ours_c.cpp", libraries=(str(LIBRARY),)),
     Program("absl_spin", "peers/absl_spin.cpp", "libabsl-dev", pkg_config="absl_flat_hash_map"),
     Program("absl_prefetch", "peers/absl_prefetch.cpp", "libabsl-dev", pkg_config="absl_flat_hash_map", mixes=AT_HAND),
