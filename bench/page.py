@@ -152,7 +152,10 @@ def latencies_table(results):
     heads = [f"{mix}: {name}" if name == "50th" else name for mix, _ in TIMED for name in fields]
     found = [("Program", *heads)]
     for name in SHOWN:
-        figures = [results.figures[(mix, "zipf", 100_000, threads, "large", "small", name)] for mix, threads in TIMED]
+        places = [(mix, "zipf", 100_000, threads, "large", "small", name) for mix, threads in TIMED]
+        if any(place not in results.figures for place in places):
+            continue
+        figures = [results.figures[place] for place in places]
         found.append((name, *(ranged(figure[field]) for figure in figures for field in fields.values())))
     return found
 
@@ -199,6 +202,9 @@ def caches_tables(lines, is_timed=True):
     evicting = [one for one in figures if one["room"] or one["bytes"]]
     usual = [one for one in figures if not (one["room"] or one["bytes"])]
     tables = [evicting_table(evicting, names, is_timed)]
+    if is_timed:
+        compared = [one for one in lines if one["kind"] == "comparison" and one["cell"]["mix"] == "fetches"]
+        tables.append(evicting_ratios(compared, names))
     return tables + ([usual_table(usual, names)] if usual else [])
 
 
@@ -216,6 +222,18 @@ def evicting_table(figures, names, is_timed):
             row += [ranged(ones[count]["process_ns"]) for count in threads if is_timed]
             row.append(", ".join(f'{100 * ones[count]["hits"]["median"]:.1f}' for count in threads))
         found.append(tuple(row))
+    return found
+
+
+def evicting_ratios(compared, names):
+    """What ours costs divided by what each costs in the same turn, by equal items and by equal bytes."""
+    threads = sorted({one["cell"]["threads"] for one in compared})
+    found = [("Ours divided by, where each miss evicts",
+              *(f"equal {equal}, {count}" for equal in ("items", "bytes") for count in threads))]
+    for name in names:
+        ones = {(bool(one["cell"]["bytes"]), one["cell"]["threads"]): one for one in compared if one["beside"] == name}
+        if ones:
+            found.append((name, *(claimed(ones[place]) for place in product((False, True), threads))))
     return found
 
 

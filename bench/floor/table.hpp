@@ -50,7 +50,9 @@ public:
     ALWAYS_INLINE Cell* bucket_behind(Word chain) { return bucket(sizes.buckets + chain - 1); }
     ALWAYS_INLINE Cell* segment(Word number) { return words_ + front_ + words_of_segment * number; }
     ALWAYS_INLINE Cell* segment_of(Word item) { return segment(item >> 20 & segment_mask); }
-    static ALWAYS_INLINE Cell* row_of(Cell* segment, Word item) { return segment + 1 + words_of_row * (item & row_mask); }
+    static ALWAYS_INLINE Cell* row_of(Cell* segment, Word item) {
+        return segment + 1 + words_of_row * (item & row_mask);
+    }
 
     // Whether there is such a row. A word that was loaded ahead can be any.
     bool has_row(Word item) const { return (item >> 20 & segment_mask) < segments && (item & row_mask) < sizes.rows; }
