@@ -252,8 +252,8 @@ static inline uint32_t segcache_hand_out(uint32_t status, segcache_handle made, 
 
 /* Makes a cache for so many keys, and a client for each of so many threads (1 to 64). Each client stores into its own
    equal share of the room. So all keys fit if the clients store about as many each. In a small cache, for at most
-   65,536 / threads keys, all keys fit whichever clients store them: each of several clients has room for eight times
-   the keys, or for 65,536 / threads if that is less. There is a table for every 200,000 keys, and each key belongs to
+   65,536 / threads keys, all keys fit whichever clients store them, unless several update the same few keys by turns:
+   each of several clients has room for eight times the keys, or for 65,536 / threads if that is less. There is a table for every 200,000 keys, and each key belongs to
    one of the tables by its hash. A call on a key goes to that table alone.
    It takes all memory at once, but for that of notes and of a close: 174 to 214 bytes a key, for a small cache up to
    11 MB in all, and up to 34 MB more for a moment. `cache` and `clients[threads]` are written, whatever they were: if
@@ -412,7 +412,8 @@ static inline uint32_t segcache_set(segcache_client *client, const void *key, si
       client, segcache_raw_set(&client->raw, (const uint8_t *)key, key_len, (const uint8_t *)value, value_len, now));
 }
 
-/* A set that stores only if the key is absent. Answers as set, and NOT_STORED. */
+/* A set that stores only if the key is absent. Answers as set, and NOT_STORED. As by set, what is stored is absent at
+   once where the deadline of the segment of the last put has come: segcache_make_room before it begins another one. */
 static inline uint32_t segcache_add(segcache_client *client, const void *key, size_t key_len, const void *value,
                                     size_t value_len, uint32_t now) {
   SEGCACHE_BYTES(key, key_len);
