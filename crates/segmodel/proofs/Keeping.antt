@@ -1,5 +1,5 @@
 -- A keep moves items one after the other; so each law of a keep is one of a single move.
-use Rattle.std.proofs.Common.{◌≡◌, ◌≢◌, ℕ, ◌+◌, ◌*◌, ◌≤◌, ◌<◌, ◌==◌, ◌&&◌, Bool, true, false, cond, not, List, [], ◌∷◌, length, map, Option, Some, None, is_some, refl, sym, ap, ◌∙◌, subst, count_by, nat_le, arith, drop, get_or, ◌⊎◌, inl, inr, slice_index_or, IsSomeAnd, MatchOption}
+use Rattle.std.proofs.Common.{◌≡◌, ◌≢◌, ℕ, ◌+◌, ◌*◌, ◌≤◌, ◌<◌, ◌==◌, ◌&&◌, Bool, true, false, cond, not, List, [], ◌∷◌, length, map, Option, Some, None, is_some, refl, sym, ap, ◌∙◌, subst, count_by, nat_le, arith, drop, get_or, ◌⊎◌, inl, inr, slice_index_or, IsSomeAnd, MatchBool, MatchOption}
 use Rattle.std.proofs.lemmas.Bool.{false≢true, eqb-false}
 use Rattle.std.proofs.lemmas.Option.{none-some, same_Some}
 use Rattle.std.proofs.lemmas.Map.Lookups.{exact_bytes}
@@ -10,7 +10,7 @@ use Rattle.std.specs.List.Sorted.{IsStrictlySortedBy}
 use Rattle.std.specs.BTreeMap.{insert_entry, is_at}
 use Rattle.std.specs.Map.{keys_of, lookup}
 use Rattle.std.specs.Option.{IsSome}
-use Rattle.std.specs.Prelude.{nat_le, slice_get}
+use Rattle.std.specs.Prelude.{IfSome, is_none, nat_le, slice_get}
 use Rattle.std.proofs.lemmas.List.{drop_more, get_or_default}
 use Rattle.std.specs.List.{AllByRecursion}
 use Rattle.segword.specs.Words.{Shape}
@@ -19,11 +19,11 @@ use Rattle.segmodel.specs.declared.answer.KeepAnswer.{KeepAnswer}
 use Rattle.segmodel.specs.Places.{bucket_of}
 use Rattle.segmodel.specs.Cache.{key_cmp, standing, keys_in, put, with_segment, in_segment, with_at, moved}
 use Rattle.segmodel.specs.State.{State, is_locked, is_in_use, IsSound, Filling, is_among}
-use Rattle.segmodel.specs.Serving.{is_last_at, is_last_of, is_out_of_rows, is_own, keep_into, keep_rows, keeps, moved_to, stands_in, with_key}
+use Rattle.segmodel.specs.Serving.{is_last_at, is_last_of, is_own, keep_into, keep_rows, keeps, lacks_rows, moved_to, span_under, stands_in, with_rows}
 use Rattle.segmodel.specs.Laws.{kept, Adds, IsMoveBetween}
 use Rattle.segmodel.specs.declared.segment.Segment.{Segment}
-use Rattle.segmodel.specs.Segments.{filling_of}
-use Rattle.segmodel.specs.Plain.{filling_in, is_used_up, state_of}
+use Rattle.segmodel.specs.Segments.{filling_of, HasRows}
+use Rattle.segmodel.specs.Plain.{filling_in, HasLeft, lacks_room, span_at, state_of}
 use Rattle.segmodel.specs.declared.plain.Plain.{Plain}
 use Rattle.segmodel.specs.declared.answer.Command.TheVariants.{Keep}
 use Rattle.segmodel.specs.History.{after, Follows, IsLegal}
@@ -34,6 +34,7 @@ use Rattle.segmodel.proofs.Counts.{both}
 use Rattle.segmodel.proofs.Ordered.{Above, above_lower}
 use Rattle.segmodel.proofs.Words.{above_absent, keys-put_standing}
 use Rattle.segmodel.proofs.Sound.{IsKept-put}
+use Rattle.segmodel.proofs.Spans.{has_rows, left_rows, rows_left, space_left, under_some}
 use Rattle.segmodel.proofs.Evictions.{GoesOn}
 use Rattle.segmodel.proofs.ServingKeeps.{own_below}
 use Rattle.segmodel.proofs.Written.{first_owner}
@@ -73,13 +74,11 @@ pub in_there : (o : Option Cached) (segment : ℕ) → stands_in segment o ≡ t
 in_there None segment is = absurd (false≢true is)
 in_there (Some x) segment is = (x, refl, grind (arith, is))
 
--- a row is left in a segment
-pub has_row : (rows used : ℕ) → nat_le rows used ≡ false → used < rows
-has_row rows used is = grind (arith, is)
-
--- an item that stands is moved to the current segment, which has a row left
+-- an item that stands is moved to the current segment, which has its rows left
 pub IsKept-moved : (shape : Shape) (key : List ℕ) (frequency t : ℕ) (x : Cached) (state : State) → IsSound shape state → state.current ≡ Some t
-    → standing state.cache key ≡ Some x → length (state.filling t).keys < shape.rows → IsSound shape (moved_to key frequency t state)
+    → standing state.cache key ≡ Some x
+    → MatchBool (span_under state key == 1) (length (state.filling t).keys < shape.rows) (length (state.filling t).keys + span_under state key ≤ shape.rows)
+    → IsSound shape (moved_to key frequency t state)
 IsKept-moved shape key frequency t x state sound is stands left = subst (λ items. IsSound shape (with_items items)) (sym same) (record {
   items = placed.items;
   ordered = placed.ordered;
@@ -95,7 +94,7 @@ IsKept-moved shape key frequency t x state sound is stands left = subst (λ item
 })
   where
     with_items : List (List ℕ × Cached) → State
-    with_items items = record state { cache = record state.cache { items = items }; filling = with_at state.filling t (with_key key frequency (state.filling t)) }
+    with_items items = record state { cache = record state.cache { items = items }; filling = with_at state.filling t (with_rows (span_under state key) key frequency (state.filling t)) }
 
     same : map (in_segment key t) state.cache.items ≡ insert_entry key_cmp state.cache.items key (with_segment t x)
     same = moved-inserted key t x state.cache.items sound.ordered stands
@@ -103,21 +102,28 @@ IsKept-moved shape key frequency t x state sound is stands left = subst (λ item
     keys_same : keys_in shape (put shape key x.value t state.cache) (bucket_of shape key) ≡ keys_in shape state.cache (bucket_of shape key)
     keys_same = ap (count_by (λ k. bucket_of shape k == bucket_of shape key)) (keys-put_standing key (with_segment t x) state.cache.items sound.ordered (ap is_some stands))
 
-    placed : IsSound shape (record state { cache = put shape key x.value t state.cache; filling = with_at state.filling t (with_key key frequency (state.filling t)) })
-    placed = IsKept-put shape key x.value frequency t state sound is left (subst (λ n. n ≤ 6 * state.width (bucket_of shape key) + 1) (sym keys_same) (sound.words (bucket_of shape key)))
+    placed : IsSound shape (record state { cache = put shape key x.value t state.cache; filling = with_at state.filling t (with_rows (span_under state key) key frequency (state.filling t)) })
+    placed = IsKept-put shape key x.value (span_under state key) frequency t state sound is (under_some state key)
+        (left_rows (span_under state key) (length (state.filling t).keys) shape.rows left)
+        (subst (λ n. n ≤ 6 * state.width (bucket_of shape key) + 1) (sym keys_same) (sound.words (bucket_of shape key)))
+
+room_left : (shape : Shape) (state : State) (key : List ℕ) (t : ℕ) → lacks_rows shape (span_under state key) state.filling (Some t) ≡ false
+    → MatchBool (span_under state key == 1) (length (state.filling t).keys < shape.rows) (length (state.filling t).keys + span_under state key ≤ shape.rows)
+room_left shape state key t room =
+    rows_left (span_under state key) (length (state.filling t).keys) shape.rows (has_rows shape (span_under state key) state.filling t room)
 
 -- ---- row by row
 
 -- what every move keeps, a keep keeps, with the number of items moved
 pub kept_rows : (shape : Shape) (from to cutoff : ℕ) (P : ℕ → State → Type 0)
     → ((key : List ℕ) (frequency count : ℕ) (state : State) → P count state → stands_in from (standing state.cache key) ≡ true → cutoff ≤ frequency
-    → is_out_of_rows shape state.filling (Some to) ≡ false → P (count + 1) (moved_to key frequency to state))
+    → lacks_rows shape (span_under state key) state.filling (Some to) ≡ false → P (count + 1) (moved_to key frequency to state))
     → (keys : List (List ℕ)) (frequencies : List ℕ) (count : ℕ) (state : State) → P count state
     → P (kept (keep_rows shape from to cutoff keys frequencies count state).0) (keep_rows shape from to cutoff keys frequencies count state).1
 kept_rows shape from to cutoff P step [] frequencies count state has = has
 kept_rows shape from to cutoff P step (key ∷ keys) [] count state has = has
 kept_rows shape from to cutoff P step (key ∷ keys) (frequency ∷ frequencies) count state has =
-    by (is_last_of state from key keys && nat_le cutoff frequency) (is_out_of_rows shape state.filling (Some to)) (is_locked shape state key) refl refl
+    by (is_last_of state from key keys && nat_le cutoff frequency) (lacks_rows shape (span_under state key) state.filling (Some to)) (is_locked shape state key) refl refl
     (kept_rows shape from to cutoff P step keys frequencies count state has)
     (kept_rows shape from to cutoff P step keys frequencies (count + 1) (moved_to key frequency to state))
   where
@@ -130,7 +136,7 @@ kept_rows shape from to cutoff P step (key ∷ keys) (frequency ∷ frequencies)
     result : Bool → Bool → Bool → KeepAnswer × State
     result last out locked = cond (not last) passed (cond out (keep.NoRoom count, state) (cond locked (keep.Busy count, state) after_move))
 
-    by : (last out locked : Bool) → (is_last_of state from key keys && nat_le cutoff frequency) ≡ last → is_out_of_rows shape state.filling (Some to) ≡ out
+    by : (last out locked : Bool) → (is_last_of state from key keys && nat_le cutoff frequency) ≡ last → lacks_rows shape (span_under state key) state.filling (Some to) ≡ out
         → P (kept passed.0) passed.1 → (P (count + 1) (moved_to key frequency to state) → P (kept after_move.0) after_move.1)
         → P (kept (result last out locked).0) (result last out locked).1
     by false out locked is room pass go_on = pass
@@ -179,7 +185,7 @@ pub IsKept-keeps : (shape : Shape) (old : State) (segment cutoff : ℕ) → IsSo
 IsKept-keeps shape old segment cutoff sound = kept_all shape old segment cutoff (λ count state. IsSound shape state) sound (λ to own is apart equal.
     (kept_rows shape segment to cutoff (λ count state. IsSound shape state × (state.current ≡ Some to)) (λ key frequency count state has stands low room.
     let there = in_there (standing state.cache key) segment stands in
-    (IsKept-moved shape key frequency to there.0 state has.0 has.1 there.1 (has_row shape.rows (length (state.filling to).keys) room), has.1))
+    (IsKept-moved shape key frequency to there.0 state has.0 has.1 there.1 (room_left shape state key to room), has.1))
     (old.filling segment).keys (old.filling segment).frequencies 0 old (sound, is)).0)
 
 -- ---- the history of a keep
@@ -201,7 +207,7 @@ keep_goes_on shape old segment cutoff history sound legal is =
       apart,
       ap (λ d. d segment) has.2 ∙ equal ∙ ap (λ d. d to) (sym has.2),
     ) in (
-      IsKept-moved shape key frequency to there.0 state has.0 has.1 there.1 (has_row shape.rows (length (state.filling to).keys) room),
+      IsKept-moved shape key frequency to there.0 state has.0 has.1 there.1 (room_left shape state key to room),
       has.1,
       has.2,
       (
@@ -254,15 +260,17 @@ module _ (shape : Shape) (from to cutoff count : ℕ) (state : State) (keys : Li
   pub passes : (is_last_of state from key (drop (row + 1) keys) && nat_le cutoff frequency) ≡ false → whole ≡ left count state
   passes is = split ∙ rw is refl
 
-  pub ends : (is_last_of state from key (drop (row + 1) keys) && nat_le cutoff frequency) ≡ true → is_out_of_rows shape state.filling (Some to) ≡ true → whole ≡ (keep.NoRoom count, state)
+  pub ends : (is_last_of state from key (drop (row + 1) keys) && nat_le cutoff frequency) ≡ true
+      → lacks_rows shape (span_under state key) state.filling (Some to) ≡ true → whole ≡ (keep.NoRoom count, state)
   ends is out = split ∙ rw (is, out) refl
 
   pub blocks : (is_last_of state from key (drop (row + 1) keys) && nat_le cutoff frequency) ≡ true
-      → is_out_of_rows shape state.filling (Some to) ≡ false → is_locked shape state key ≡ true
+      → lacks_rows shape (span_under state key) state.filling (Some to) ≡ false → is_locked shape state key ≡ true
       → whole ≡ (keep.Busy count, state)
   blocks is room locked = split ∙ rw (is, room, locked) refl
 
-  pub moves : (is_last_of state from key (drop (row + 1) keys) && nat_le cutoff frequency) ≡ true → is_out_of_rows shape state.filling (Some to) ≡ false → is_locked shape state key ≡ false
+  pub moves : (is_last_of state from key (drop (row + 1) keys) && nat_le cutoff frequency) ≡ true
+      → lacks_rows shape (span_under state key) state.filling (Some to) ≡ false → is_locked shape state key ≡ false
       → whole ≡ left (count + 1) (moved_to key frequency to state)
   moves is room free = split ∙ rw (is, room, free) refl
 
@@ -290,8 +298,8 @@ module _ (old now : Plain) (segment to cutoff count row : ℕ) (shape : now.shap
       (get_or frequencies row 0)) ≡ (last && high)
   both_are high is = λ i. last_is i && (ap (nat_le cutoff) frequency_is ∙ is) i
 
-  rows_out : is_out_of_rows old.shape (state_of now).filling (Some to) ≡ is_used_up now
-  rows_out = λ i. is_out_of_rows (sym shape i) (state_of now).filling (sym current i)
+  rows_out : lacks_rows old.shape (span_under (state_of now) (get_or keys row [])) (state_of now).filling (Some to) ≡ lacks_room now (span_at now segment row)
+  rows_out = λ i. lacks_rows (sym shape i) (span_under (state_of now) (get_or (sym same i).keys row [])) (state_of now).filling (sym current i)
 
   abbrev pub rows_now : KeepAnswer × State
   rows_now = keep_rows old.shape segment to cutoff (drop row keys) (drop row frequencies) count (state_of now)
@@ -314,11 +322,11 @@ module _ (old now : Plain) (segment to cutoff count row : ℕ) (shape : now.shap
       over : (m n : ℕ) → m ≤ n → nat_le m n ≡ true
       over m n high = grind (arith, high)
 
-  pub row_ends : last ≡ true → cutoff ≤ frequency → is_used_up now ≡ true → rows_now ≡ (keep.NoRoom count, state_of now)
+  pub row_ends : last ≡ true → cutoff ≤ frequency → lacks_room now (span_at now segment row) ≡ true → rows_now ≡ (keep.NoRoom count, state_of now)
   row_ends is high out = ends old.shape segment to cutoff count (state_of now) keys frequencies row within long
       (both_are true (high_is high) ∙ ap (λ b. b && true) is) (rows_out ∙ out)
 
-  pub row_moves : last ≡ true → cutoff ≤ frequency → is_used_up now ≡ false → (moving : List ℕ) → moving ≡ get_or (filling_in now segment).keys row []
+  pub row_moves : last ≡ true → cutoff ≤ frequency → lacks_room now (span_at now segment row) ≡ false → (moving : List ℕ) → moving ≡ get_or (filling_in now segment).keys row []
       → rows_now ≡ rows_then (count + 1) (moved_to moving frequency to (state_of now))
   row_moves is high room moving found = moves old.shape segment to cutoff count (state_of now) keys frequencies row within long
       (both_are true (high_is high) ∙ ap (λ b. b && true) is) (rows_out ∙ room) refl
@@ -342,6 +350,21 @@ key_there now old segment row found key was same within at =
     let keys : length (filling_in now segment).keys ≡ length (filling_in old segment).keys = ap (λ (f : Filling). length f.keys) same in
     let long : length (filling_in now segment).keys ≡ length found.keys.items = ap (λ (f : Filling). length f.keys) is in
     at ∙ (get_or_default found.keys.items row key [] (omega arith) ∙ ap (λ (f : Filling). get_or f.keys row []) (sym is))
+
+-- the segment that is filled has memory for the rows that are left in it
+pub has_memory : (now : Plain) (to rows : ℕ) → now.current ≡ Some to → HasLeft now to rows → HasRows now.segments.items to rows
+has_memory now to rows current left =
+    let own : to < now.shape.segments_each = now.kept.own to (now.kept.in_use to current) in
+    space_left now.segments.items to rows now.shape.rows (omega (arith, own, now.each_segment, now.segments.ok.0)) now.each_row (now.kept.frequencies to) left
+
+-- rows are left for the item under the key of a row, where room was found for it
+pub left_at : (now : Plain) (segment row to : ℕ) (room : Option ℕ) → is_none room ≡ false
+    → IfSome room (λ found. now.current ≡ Some found) → IfSome room (λ found. HasLeft now found (span_at now segment row)) → now.current ≡ Some to
+    → (key : List ℕ) → key ≡ get_or (filling_in now segment).keys row [] → HasLeft now to (span_under (state_of now) key)
+left_at now segment row to None some is left current key found = cc
+left_at now segment row to (Some t) some is left current key found =
+    subst (λ u. HasLeft now u (span_under (state_of now) key)) (same_Some t to (sym is ∙ current))
+    (subst (λ k. HasLeft now t (span_under (state_of now) k)) (sym found) left)
 
 -- the key of the row stands in the segment
 pub row_stands : (now : Plain) (segment row : ℕ) (last : Bool) → last ≡ is_last_at (state_of now) segment row → last ≡ true

@@ -1,6 +1,6 @@
 -- What the segments of the plain cache show after one of them was changed.
 use Rattle.std.proofs.Common.{◌≡◌, ◌≢◌, ℕ, zero, suc, ◌<◌, ◌≤◌, ◌⊎◌, List, [], ◌∷◌, get_or, length, Some, refl, sym, ap, ◌∙◌, subst, inl, inr, arith}
-use Rattle.std.specs.Prelude.{slice_get, slice_set}
+use Rattle.std.specs.Prelude.{IsSomeAnd, slice_get, slice_set}
 use Rattle.std.specs.Vec.{vec_capacity}
 use Rattle.std.proofs.lemmas.Bool.{cases_eq, eq-eqb, ne_eqb}
 use Rattle.std.proofs.lemmas.Option.{none-some, same_Some}
@@ -14,6 +14,11 @@ pub there : {A : Type 0} (xs : List A) (n : ℕ) (x : A) → n < length xs → x
 there [] n x within is = absurd (omega arith)
 there (y ∷ ys) zero x within is = ap Some (sym is)
 there (y ∷ ys) (suc n) x within is = there ys n x (omega arith) is
+
+pub there_if : {A : Type 0} (xs : List A) (n : ℕ) (x : A) (P : A → Type 0) → IsSomeAnd (slice_get xs n) P → x ≡ get_or xs n x → slice_get xs n ≡ Some x
+there_if [] n x P has is = absurd has
+there_if (y ∷ ys) zero x P has is = ap Some (sym is)
+there_if (y ∷ ys) (suc n) x P has is = there_if ys n x P has is
 
 -- the place that was set has the new one
 pub here_set : {A : Type 0} (xs : List A) (n : ℕ) (x y : A) → slice_get xs n ≡ Some y → slice_get (slice_set xs n x) n ≡ Some x

@@ -1,10 +1,10 @@
 -- What is served keeps what always holds of a state.
-use Rattle.std.proofs.Common.{◌≡◌, ℕ, ◌<◌, ◌⊎◌, inl, inr, ◌&&◌, ◌≢◌, eq-eqb, not, IsSomeAnd, Bool, true, false, cond, List, [], ◌∷◌, length, Option, Some, None, is_some, refl, sym, ap, ◌∙◌, subst, arith, nat_le, nat_lt, MatchBool, MatchOption}
+use Rattle.std.proofs.Common.{◌≡◌, ℕ, ◌<◌, ◌⊎◌, inl, inr, ◌&&◌, ◌≢◌, eq-eqb, not, IsSomeAnd, Bool, true, false, cond, List, [], ◌∷◌, Option, Some, None, is_some, refl, sym, ap, ◌∙◌, subst, arith, nat_lt, MatchBool, MatchOption}
 use Rattle.std.proofs.lemmas.Bool.{false≢true}
 use Rattle.std.specs.List.{list_all}
 use Rattle.std.specs.Map.{lookup}
 use Rattle.std.specs.BTreeMap.{is_at}
-use Rattle.segword.specs.Words.{Shape}
+use Rattle.segword.specs.Words.{Shape, span_of}
 use Rattle.segmodel.specs.Words.{Cached, DeleteAnswer, EvictAnswer, RefillAnswer, Reply}
 use Rattle.segmodel.specs.Words.{Request, SegState, WriteAnswer}
 use Rattle.segmodel.specs.declared.request.Request.TheVariants.{Delete}
@@ -19,19 +19,17 @@ use Rattle.segmodel.specs.Request.{key_of, value_of, reply_to}
 use Rattle.segmodel.specs.Cache.{key_cmp, standing, present, reply_in}
 use Rattle.segmodel.specs.History.{NoneStandsIn}
 use Rattle.segmodel.specs.State.{State, IsSound, is_in_use, is_stored, is_locked}
-use Rattle.segmodel.specs.Serving.{IsGiven, IsReplied, is_out_of_rows, is_own, lacks_word, may_chain, stored, after_reply, reply_of_write, reply_of_delete, ServesStore, ServesDelete, ServesEvict, may_go, is_held, refill_answer, after_refill}
+use Rattle.segmodel.specs.Serving.{IsGiven, IsReplied, is_own, lacks_rows, lacks_word, may_chain, stored, after_reply, reply_of_write, reply_of_delete, ServesStore, ServesDelete, ServesEvict, may_go, is_held, refill_answer, after_refill}
 use Rattle.segmodel.specs.Turns.{held_after}
 use Rattle.segmodel.specs.Laws.{RefilledWhereNoneStands, HeldIsNotRefilled}
 use Rattle.segmodel.proofs.Counts.{both}
 use Rattle.segmodel.proofs.Keys.{same_key}
 use Rattle.segmodel.proofs.HistoryLemmas.{present_stands}
+use Rattle.segmodel.proofs.Spans.{has_rows, lacks_none}
 use Rattle.segmodel.proofs.Words.{stored_fits}
 use Rattle.segmodel.proofs.Sound.{IsKept-same, IsKept-stored, IsKept-deleted, IsKept-taken, IsKept-evicted, IsKept-refilled}
 
 -- ---- replies
-
-row_left : (rows used : ℕ) → nat_le rows used ≡ false → used < rows
-row_left rows used is = grind (arith, is)
 
 pub own_below : (segment each : ℕ) → nat_lt segment each ≡ true → segment < each
 own_below segment each is = grind (arith, is)
@@ -42,14 +40,17 @@ may_where true false word is = absurd (false≢true (sym word))
 may_where false may word is = absurd (false≢true is)
 
 stored_kept : (shape : Shape) (request : Request) (state : State) → IsSound shape state → (current : Option ℕ) → state.current ≡ current
-    → is_out_of_rows shape state.filling current ≡ false → (lacks_word shape state request && not (may_chain shape state (bucket_of shape (key_of request)))) ≡ false
+    → lacks_rows shape (span_of (key_of request) (value_of request)) state.filling current ≡ false
+    → (lacks_word shape state request && not (may_chain shape state (bucket_of shape (key_of request)))) ≡ false
     → reply_in shape state.cache request ≡ reply.Stored → IsSound shape (stored shape request current state)
-stored_kept shape request state kept None is room word replied = absurd (false≢true (sym room))
+stored_kept shape request state kept None is room word replied =
+    absurd (false≢true (sym room ∙ lacks_none shape (span_of (key_of request) (value_of request)) state.filling))
 stored_kept shape request state kept (Some s) is room word replied =
-    IsKept-stored shape (key_of request) (value_of request) s (lacks_word shape state request) state kept is (row_left shape.rows (length (state.filling s).keys) room)
+    IsKept-stored shape (key_of request) (value_of request) s (lacks_word shape state request) state kept is (has_rows shape (span_of (key_of request) (value_of request)) state.filling s room)
     (may_where (lacks_word shape state request) (may_chain shape state (bucket_of shape (key_of request))) word) (stored_fits shape request s state kept replied)
 
-replied_kept : (shape : Shape) (request : Request) (told : Reply) (state : State) → IsSound shape state → is_out_of_rows shape state.filling state.current ≡ false
+replied_kept : (shape : Shape) (request : Request) (told : Reply) (state : State) → IsSound shape state
+    → lacks_rows shape (span_of (key_of request) (value_of request)) state.filling state.current ≡ false
     → (lacks_word shape state request && not (may_chain shape state (bucket_of shape (key_of request)))) ≡ false
     → reply_in shape state.cache request ≡ told → IsSound shape (after_reply shape request told state)
 replied_kept shape request reply.Stored state kept room word is = stored_kept shape request state kept state.current refl room word is
@@ -67,7 +68,7 @@ refused_or false false true P Q h = inl (write.BucketFull, h)
 refused_or false false false P Q h = inr (refl, refl, h)
 
 pub store_kept : (shape : Shape) (old new : State) (request : Request) (given : WriteAnswer) → IsSound shape old → ServesStore shape old request given new → IsSound shape new
-store_kept shape old new request given kept served = elim (refused_or (is_out_of_rows shape old.filling old.current) (is_locked shape old (key_of request))
+store_kept shape old new request given kept served = elim (refused_or (lacks_rows shape (span_of (key_of request) (value_of request)) old.filling old.current) (is_locked shape old (key_of request))
     (lacks_word shape old request && not (may_chain shape old (bucket_of shape (key_of request))))
     (IsReplied shape old request (reply_of_write given) new) (λ why. IsGiven why old given new) served) [
       | inl refused ↦ IsKept-same refused.1.1 kept

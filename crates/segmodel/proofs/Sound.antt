@@ -1,7 +1,6 @@
 -- Serving keeps what always holds of a state.
-use Rattle.std.proofs.Common.{◌≡◌, ◌≢◌, ◌⊎◌, Option, Some, None, ℕ, ◌+◌, ◌*◌, ◌<◌, ◌≤◌, ◌==◌, ◌&&◌, ◌||◌, Bool, true, false, cond, List, [], ◌∷◌, ◌++◌, length, refl, sym, ap, ◌∙◌, arith, not, nat_lt, filter, count_by, eq-eqb, inl, inr, subst}
+use Rattle.std.proofs.Common.{◌≡◌, ◌≢◌, ◌⊎◌, Option, Some, None, ℕ, ◌+◌, ◌*◌, ◌<◌, ◌≤◌, ◌==◌, ◌&&◌, ◌||◌, Bool, true, false, cond, List, [], ◌++◌, length, replicate, refl, sym, ap, ◌∙◌, arith, not, nat_lt, filter, count_by, eq-eqb, inl, inr, subst}
 use Rattle.std.proofs.lemmas.Bool.{cases_eq, ne_eqb, false≢true}
-use Rattle.std.proofs.lemmas.List.{length_push}
 use Rattle.std.proofs.lemmas.List.Folds.{list_any-append}
 use Rattle.std.specs.List.{list_any}
 use Rattle.std.specs.BTreeMap.{insert_entry, is_at}
@@ -11,11 +10,12 @@ use Rattle.segmodel.specs.declared.answer.SegState.TheVariants.{Empty, InUse, Ev
 use Rattle.segmodel.specs.declared.answer.RefillAnswer.TheVariants.{Refilled}
 use Rattle.segmodel.specs.Cache.{key_cmp, with_at, keys_in, put, deleted}
 use Rattle.segmodel.specs.State.{State, Filling, but_for, is_in, is_in_use, is_among, is_stored, IsSound, fresh}
-use Rattle.segmodel.specs.Serving.{with_key, placed, may_chain, chained, with_filling, taken_out, after_refill}
+use Rattle.segword.specs.Words.{span_of}
+use Rattle.segmodel.specs.Serving.{with_rows, placed, may_chain, chained, with_filling, taken_out, after_refill}
 use Rattle.segmodel.proofs.Counts.{item, both, and_true, all_also, all_filter, all-insert_entry, count_none, count-insert_entry, count-filter}
 use Rattle.segmodel.specs.Places.{bucket_of}
-use Rattle.segmodel.proofs.Keys.{at_self}
 use Rattle.segmodel.proofs.Ordered.{sorted-insert_entry, sorted-filter, sorted-after}
+use Rattle.segmodel.proofs.Spans.{among_rows, keys_with, pushed_frequencies, pushed_rows, span_some, state_with}
 use Rattle.segmodel.proofs.Words.{count-keys_put, count-keys_filter}
 
 -- another state that is the same
@@ -56,14 +56,13 @@ stored_still : (f : ℕ → Filling) (t : ℕ) (x : Filling) (e : List ℕ × Ca
 stored_still f t x e apart stored =
     subst (λ y. (is_in_use y.state && is_among y.keys e.0) ≡ true) (sym (unchanged f t e.1.segment x apart)) stored
 
-among_more : (keys : List (List ℕ)) (k q : List ℕ) → is_among keys q ≡ true → is_among (keys ++ k ∷ []) q ≡ true
-among_more keys k q is = list_any-append (is_at (key_cmp q)) keys (k ∷ []) ∙ ap (λ b. b || list_any (is_at (key_cmp q)) (k ∷ [])) is
+among_more : (keys later : List (List ℕ)) (q : List ℕ) → is_among keys q ≡ true → is_among (keys ++ later) q ≡ true
+among_more keys later q is = list_any-append (is_at (key_cmp q)) keys later ∙ ap (λ b. b || list_any (is_at (key_cmp q)) later) is
 
-among_last : (keys : List (List ℕ)) (k : List ℕ) → is_among (keys ++ k ∷ []) k ≡ true
-among_last keys k = list_any-append (is_at (key_cmp k)) keys (k ∷ [])
-    ∙ ap (λ b. list_any (is_at (key_cmp k)) keys || (b || false)) (at_self k) ∙ or_true (is_among keys k)
+among_last : (keys later : List (List ℕ)) (k : List ℕ) → is_among later k ≡ true → is_among (keys ++ later) k ≡ true
+among_last keys later k is = list_any-append (is_at (key_cmp k)) keys later ∙ ap (λ b. list_any (is_at (key_cmp k)) keys || b) is ∙ or_true (is_among keys k)
   where
-    or_true : (b : Bool) → (b || (true || false)) ≡ true
+    or_true : (b : Bool) → (b || true) ≡ true
     or_true true = refl
     or_true false = refl
 
@@ -75,23 +74,23 @@ lengths f t s x long had = elim (cases_eq t s) [
   | inr apart ↦ rw (unchanged f t s x apart) had
 ]
 
--- a key is put into the current segment, which has a row left, with some frequency
-pub IsKept-put : (shape : Shape) (key value : List ℕ) (frequency t : ℕ) (state : State)
-    → IsSound shape state → state.current ≡ Some t → length (state.filling t).keys < shape.rows
+-- a key is put into the current segment, which has so many rows left, with some frequency
+pub IsKept-put : (shape : Shape) (key value : List ℕ) (rows frequency t : ℕ) (state : State)
+    → IsSound shape state → state.current ≡ Some t → 1 ≤ rows → length (state.filling t).keys + rows ≤ shape.rows
     → keys_in shape (put shape key value t state.cache) (bucket_of shape key) ≤ 6 * state.width (bucket_of shape key) + 1
-    → IsSound shape (record state { cache = put shape key value t state.cache; filling = with_at state.filling t (with_key key frequency (state.filling t)) })
-IsKept-put shape key value frequency t state kept is left fits = record {
+    → IsSound shape (record state { cache = put shape key value t state.cache; filling = with_at state.filling t (with_rows rows key frequency (state.filling t)) })
+IsKept-put shape key value rows frequency t state kept is some left fits = record {
   items = all-insert_entry (is_stored new) key (item value t) state.cache.items here (all_also (is_stored state.filling) (is_stored new) still state.cache.items kept.items);
   count = λ s. count s (cases_eq t s) (count-insert_entry s t key value state.cache.items);
   frequencies = λ s. lengths state.filling t s more long (kept.frequencies s);
-  rows = λ s. rows s (cases_eq t s);
+  rows = λ s. fewer s (cases_eq t s);
   own = λ s. own s (cases_eq t s);
   in_use = λ s e. in_use s (cases_eq t s) e;
   ordered = sorted-insert_entry key (item value t) state.cache.items kept.ordered;
   width = kept.width;
   drawn = kept.drawn;
   words = λ b. words b (cases_eq (bucket_of shape key) b);
-  held = λ x e. filled_still state.filling t x.segment more (λ z. z) (kept.held x e);
+  held = λ x e. filled_still state.filling t x.segment more (λ z. sym same_state ∙ z) (kept.held x e);
 }
   where
     words : (b : ℕ) → (bucket_of shape key ≡ b) ⊎ (bucket_of shape key ≡ b → ⊥) → keys_in shape (put shape key value t state.cache) b ≤ 6 * state.width b + 1
@@ -103,20 +102,24 @@ IsKept-put shape key value frequency t state kept is left fits = record {
         omega arith
 
     more : Filling
-    more = with_key key frequency (state.filling t)
+    more = with_rows rows key frequency (state.filling t)
+
+    same_state : more.state ≡ (state.filling t).state
+    same_state = state_with rows key frequency (state.filling t)
 
     long : length more.frequencies ≡ length more.keys
-    long = length_push (state.filling t).frequencies frequency ∙ (ap (λ n. n + 1) (kept.frequencies t) ∙ sym (length_push (state.filling t).keys key))
+    long = pushed_frequencies rows key frequency (state.filling t) ∙ (ap (λ n. n + rows) (kept.frequencies t) ∙ sym (pushed_rows rows key frequency (state.filling t)))
 
     new : ℕ → Filling
     new = with_at state.filling t more
 
-    pushed : length more.keys ≡ length (state.filling t).keys + 1
-    pushed = length_push (state.filling t).keys key
+    pushed : length more.keys ≡ length (state.filling t).keys + rows
+    pushed = pushed_rows rows key frequency (state.filling t)
 
     here : is_stored new (key, item value t) ≡ true
     here = subst (λ y. (is_in_use y.state && is_among y.keys key) ≡ true) (sym (changed state.filling t t more refl))
-        (and_true _ _ (kept.in_use t is) (among_last (state.filling t).keys key))
+        (and_true _ _ (ap is_in_use same_state ∙ kept.in_use t is)
+        (ap (λ keys. is_among keys key) (keys_with rows key frequency (state.filling t)) ∙ among_last (state.filling t).keys (replicate rows key) key (among_rows rows key some)))
 
     still : (e : List ℕ × Cached) → is_stored state.filling e ≡ true → is_stored new e ≡ true
     still e stored = by (cases_eq t e.1.segment)
@@ -125,7 +128,8 @@ IsKept-put shape key value frequency t state kept is left fits = record {
         by (inl same) =
             let parts = both _ _ (subst (λ s. (is_in_use (state.filling s).state && is_among (state.filling s).keys e.0) ≡ true) (sym same) stored) in
             subst (λ y. (is_in_use y.state && is_among y.keys e.0) ≡ true) (sym (changed state.filling t e.1.segment more same))
-            (and_true _ _ parts.0 (among_more (state.filling t).keys key e.0 parts.1))
+            (and_true _ _ (ap is_in_use same_state ∙ parts.0)
+            (ap (λ keys. is_among keys e.0) (keys_with rows key frequency (state.filling t)) ∙ among_more (state.filling t).keys (replicate rows key) e.0 parts.1))
         by (inr apart) = stored_still state.filling t more e apart stored
 
     count : (s : ℕ) → (t ≡ s) ⊎ (t ≡ s → ⊥) → count_by (is_in s) (insert_entry key_cmp state.cache.items key (item value t)) ≤ count_by (is_in s) state.cache.items + cond (t == s) 1 0
@@ -140,16 +144,16 @@ IsKept-put shape key value frequency t state kept is left fits = record {
         let had = kept.count s in
         rw (unchanged state.filling t s more apart) (omega arith)
 
-    rows : (s : ℕ) → (t ≡ s) ⊎ (t ≡ s → ⊥) → length (new s).keys ≤ shape.rows
-    rows s (inl e) = let long = pushed in rw (changed state.filling t s more e) (omega arith)
-    rows s (inr apart) = rw (unchanged state.filling t s more apart) (kept.rows s)
+    fewer : (s : ℕ) → (t ≡ s) ⊎ (t ≡ s → ⊥) → length (new s).keys ≤ shape.rows
+    fewer s (inl e) = let long = pushed in rw (changed state.filling t s more e) (omega arith)
+    fewer s (inr apart) = rw (unchanged state.filling t s more apart) (kept.rows s)
 
     own : (s : ℕ) → (t ≡ s) ⊎ (t ≡ s → ⊥) → is_in_use (new s).state ≡ true → s < shape.segments_each
     own s (inl e) used = kept.own s (subst (λ r. is_in_use (state.filling r).state ≡ true) e (kept.in_use t is))
     own s (inr apart) used = kept.own s (ap (λ y. is_in_use y.state) (sym (unchanged state.filling t s more apart)) ∙ used)
 
     in_use : (s : ℕ) → (t ≡ s) ⊎ (t ≡ s → ⊥) → state.current ≡ Some s → is_in_use (new s).state ≡ true
-    in_use s (inl e) at_s = ap (λ y. is_in_use y.state) (changed state.filling t s more e) ∙ kept.in_use t is
+    in_use s (inl e) at_s = ap (λ y. is_in_use y.state) (changed state.filling t s more e) ∙ ap is_in_use same_state ∙ kept.in_use t is
     in_use s (inr apart) at_s = ap (λ y. is_in_use y.state) (unchanged state.filling t s more apart) ∙ kept.in_use s at_s
 
 -- a chain that is one bucket longer, as it may be
@@ -186,12 +190,12 @@ IsKept-chained shape b true state kept may = record {
 
 -- a key is put into the current segment, and its chain is one bucket longer where a word lacks
 pub IsKept-stored : (shape : Shape) (key value : List ℕ) (t : ℕ) (chains : Bool) (state : State)
-    → IsSound shape state → state.current ≡ Some t → length (state.filling t).keys < shape.rows → (chains ≡ true → may_chain shape state (bucket_of shape key) ≡ true)
+    → IsSound shape state → state.current ≡ Some t → length (state.filling t).keys + span_of key value ≤ shape.rows → (chains ≡ true → may_chain shape state (bucket_of shape key) ≡ true)
     → keys_in shape (put shape key value t state.cache) (bucket_of shape key) ≤ 6 * (chained (bucket_of shape key) chains state).width (bucket_of shape key) + 1
     → IsSound shape (chained (bucket_of shape key) chains (placed shape key value t state))
-IsKept-stored shape key value t false state kept is left may fits = IsKept-put shape key value 1 t state kept is left fits
+IsKept-stored shape key value t false state kept is left may fits = IsKept-put shape key value (span_of key value) 1 t state kept is (span_some key value) left fits
 IsKept-stored shape key value t true state kept is left may fits =
-    IsKept-put shape key value 1 t (chained (bucket_of shape key) true state) (IsKept-chained shape (bucket_of shape key) true state kept may) is left fits
+    IsKept-put shape key value (span_of key value) 1 t (chained (bucket_of shape key) true state) (IsKept-chained shape (bucket_of shape key) true state kept may) is (span_some key value) left fits
 
 -- a key that is deleted
 pub IsKept-deleted : (shape : Shape) (key : List ℕ) (state : State) → IsSound shape state → IsSound shape (record state { cache = deleted shape key state.cache })

@@ -2,7 +2,7 @@
 use Rattle.std.proofs.Common.{◌≡◌, ℕ, ◌<◌, ◌&&◌, not, ◌⊎◌, inl, inr, Bool, true, false, cond, Option, Some, None, IsSomeAnd, refl, sym, ap, ◌∙◌, subst, MatchBool, MatchOption}
 use Rattle.std.proofs.lemmas.Bool.{false≢true}
 use Rattle.std.proofs.Math.Nat.{div-eq_of_lt}
-use Rattle.segword.specs.Words.{Shape}
+use Rattle.segword.specs.Words.{Shape, span_of}
 use Rattle.segmodel.specs.Words.{DeleteAnswer, Reply, Request, WriteAnswer}
 use Rattle.segmodel.specs.declared.request.Request.TheVariants.{Delete}
 use Rattle.segmodel.specs.declared.request.Reply.TheVariants.{Stored, NotStored, Exists, NotFound, Deleted}
@@ -14,25 +14,26 @@ use Rattle.segmodel.specs.Request.{key_of, value_of}
 use Rattle.segmodel.specs.Cache.{reply_in, put}
 use Rattle.segmodel.specs.History.{Follows, IsPlaced, next}
 use Rattle.segmodel.specs.State.{State, IsSound, is_locked}
-use Rattle.segmodel.specs.Serving.{IsGiven, IsReplied, is_out_of_rows, lacks_word, may_chain, placed, chained, stored, after_reply, reply_of_write, reply_of_delete}
+use Rattle.segmodel.specs.Serving.{IsGiven, IsReplied, lacks_rows, lacks_word, may_chain, placed, chained, stored, after_reply, reply_of_write, reply_of_delete}
 use Rattle.segmodel.specs.Laws.{stored_in, StoreIsAnEntry, DeleteIsAnEntry}
+use Rattle.segmodel.proofs.Spans.{lacks_none}
 
 -- the first pass owns the first segments
 pub first_owner : (shape : Shape) (s : ℕ) → s < shape.segments_each → owner shape s ≡ 0
 first_owner shape s below = div-eq_of_lt below
 
 -- where something is stored there is a current segment, which is the pass's own
-is_placed : (shape : Shape) (state : State) (reply : Reply) → IsSound shape state → is_out_of_rows shape state.filling state.current ≡ false
+is_placed : (shape : Shape) (rows : ℕ) (state : State) (reply : Reply) → IsSound shape state → lacks_rows shape rows state.filling state.current ≡ false
     → IsPlaced shape 0 reply (stored_in reply state.current)
-is_placed shape state Stored kept room = by state.current refl room
+is_placed shape rows state Stored kept room = by state.current refl room
   where
-    by : (current : Option ℕ) → state.current ≡ current → is_out_of_rows shape state.filling current ≡ false → IsSomeAnd current (λ s. owner shape s ≡ 0)
-    by None is room = absurd (false≢true (sym room))
+    by : (current : Option ℕ) → state.current ≡ current → lacks_rows shape rows state.filling current ≡ false → IsSomeAnd current (λ s. owner shape s ≡ 0)
+    by None is room = absurd (false≢true (sym room ∙ lacks_none shape rows state.filling))
     by (Some s) is room = first_owner shape s (kept.own s (kept.in_use s is))
-is_placed shape state NotStored kept room = refl
-is_placed shape state Exists kept room = refl
-is_placed shape state NotFound kept room = refl
-is_placed shape state Deleted kept room = refl
+is_placed shape rows state NotStored kept room = refl
+is_placed shape rows state Exists kept room = refl
+is_placed shape rows state NotFound kept room = refl
+is_placed shape rows state Deleted kept room = refl
 
 -- the cache is the one that the entry leaves
 cache_left : (shape : Shape) (request : Request) (reply : Reply) (state : State)
@@ -68,11 +69,11 @@ refused_none false false false P shape old new given h = inr (refl, h)
 
 pub store_is_an_entry : StoreIsAnEntry
 store_is_an_entry shape old new request given reply kept served told =
-    elim (refused_none (is_out_of_rows shape old.filling old.current) (is_locked shape old (key_of request))
+    elim (refused_none (lacks_rows shape (span_of (key_of request) (value_of request)) old.filling old.current) (is_locked shape old (key_of request))
     (lacks_word shape old request && not (may_chain shape old (bucket_of shape (key_of request))))
     (IsReplied shape old request (reply_of_write given) new) shape old new given served) [
       | inl none ↦ let no : None ≡ Some reply = (sym none ∙ told) in cc
-      | inr replied ↦ entry_of shape old new request (reply_of_write given) reply (is_placed shape old reply kept replied.0) replied.1 told
+      | inr replied ↦ entry_of shape old new request (reply_of_write given) reply (is_placed shape (span_of (key_of request) (value_of request)) old reply kept replied.0) replied.1 told
     ]
 
 pub delete_is_an_entry : DeleteIsAnEntry

@@ -5,10 +5,11 @@ ghost use Rattle.std.specs.Map.{lookup};
 ghost use Rattle.std.specs.BTreeMap.{is_at};
 ghost use Rattle.segmodel.specs.Cache.{key_cmp, with_at, in_segment, counted};
 ghost use Rattle.segmodel.specs.State.{but_for, is_among, is_in};
-ghost use Rattle.segmodel.specs.Serving.{with_rows, higher, raised, raised_in};
+ghost use Rattle.segmodel.specs.Serving.{with_key, with_rows, higher, raised, raised_in};
 ghost use Rattle.segword.specs.Words.{span_of};
 ghost use Rattle.segmodel.specs.declared.answer.SegState.TheVariants.{InUse, Evicted};
-ghost use Rattle.segmodel.specs.Segments.{HasRows, AreRoomy, KeepsRoom, AllEmpty, fillings};
+ghost use Rattle.segmodel.specs.Segments.{HasRow, HasRows, HasSpace, AreRoomy, KeepsRoom, AllEmpty};
+ghost use Rattle.segmodel.specs.Segments.{fillings};
 ghost use Rattle.segmodel.specs.Segments.{deadlines, by_bucket};
 
 use crate::segment::Segment;
@@ -88,13 +89,27 @@ pub fn add_row(segments: &mut Vec<Segment>, segment: usize, key: Key, value: &Va
 {
     if MOST_SPAN > 1 {
         for _row in 0..span_of(&key, value) {
-            segments[segment].keys.push_reserved(key.copy());
-            segments[segment].frequencies.push_reserved(frequency);
+            push_row(segments, segment, key.copy(), frequency);
         }
         return;
     }
-    segments[segment].keys.push_reserved(key);
-    segments[segment].frequencies.push_reserved(frequency);
+    push_row(segments, segment, key, frequency);
+}
+
+// Adds a key to a segment, for one row, with the frequency of its item.
+fn push_row(segments: &mut Vec<Segment>, segment: usize, key: Key, frequency: u8)
+    requires { HasRow segments.old.items segment }
+    ensures len { vec_len segments.new ≡ vec_len segments.old }
+    ensures added { fillings segments.new.items ≡ with_at (fillings segments.old.items) segment
+        (with_key key frequency (fillings segments.old.items segment)) }
+    ensures deadlines { deadlines segments.new.items ≡ deadlines segments.old.items }
+    ensures room { KeepsRoom segments.old.items segments.new.items }
+    ensures left { (rows : ℕ) → HasSpace segments.old.items segment (rows + 1)
+        → HasSpace segments.new.items segment rows }
+{
+    let found = &mut segments[segment];
+    found.keys.push_reserved(key);
+    found.frequencies.push_reserved(frequency);
 }
 
 // Counts one more write to a bucket.

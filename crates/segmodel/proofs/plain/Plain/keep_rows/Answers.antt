@@ -3,7 +3,7 @@ use Rattle.segmodel.specs.Serving.{keep_rows}
 use Rattle.segmodel.specs.Plain.{filling_in, state_of}
 use Rattle.segmodel.specs.Segments.{filling_of}
 use Rattle.segmodel.specs.State.{Filling, State}
-use Rattle.segmodel.proofs.Keeping.{frequency_there, key_there, row_ends, row_moves, row_passes, row_stands}
+use Rattle.segmodel.proofs.Keeping.{frequency_there, key_there, left_at, row_ends, row_moves, row_passes, row_stands}
 use Rattle.segmodel.proofs.SegmentLemmas.{there}
 use Rattle.segmodel.proofs.Sound.{unchanged}
 use Rattle.segmodel.proofs.plain.Plain.keep_rows.Goals as goal
@@ -74,3 +74,12 @@ loop-row-preserved c =
           (drop (c.loop-row.row + 1) (filling_in c.args.self.now c.args.segment).frequencies) (c.loop-row.count + 1) s) c.move_to.ensures.state
           ∙ (sym moves ∙ c.loop-row.invariant.rest);
     }
+
+pub move_to-requires-clause-left : goal.move_to-requires-clause-left
+move_to-requires-clause-left c =
+    let was = there c.loop-row.self.segments.items c.args.segment c.index-in-loop-row.result.now (search rules) c.index-in-loop-row.ensures in
+    let within : c.loop-row.row < length (filling_in c.args.self.now c.args.segment).keys = omega (arith, c.loop-row.invariant.end, c.loop-row-test.true) in
+    let key = key_there c.loop-row.self c.args.self.now c.args.segment c.loop-row.row c.index-in-loop-row.result.now
+    c.index-in-loop-row-2.result.now was c.loop-row.invariant.same within c.index-in-loop-row-2.ensures in
+    left_at c.loop-row.self c.args.segment c.loop-row.row c.args.to c.room_at.result (search rules)
+    c.room_at.ensures.current c.room_at.ensures.left c.loop-row.invariant.current c.copy-key.result (c.copy-key.ensures.value ∙ key)
