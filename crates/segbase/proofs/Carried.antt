@@ -13,6 +13,7 @@ use Rattle.segcore.specs.Words.{AllBy, Event, IsLawful, May, row_load, View}
 use Rattle.segbase.specs.Words.{Board, Memo, Pass}
 use Rattle.segbase.specs.declared.law.Sight.{Sight}
 use Rattle.segbase.specs.declared.pass.PlainPart.{PlainPart}
+use Rattle.segbase.specs.PlainPart.{segments_of}
 use Rattle.segbase.specs.Minding.{Minds}
 use Rattle.segbase.specs.Passes.{sight, view, number, trace, IsPassOf, IsMemo}
 use Rattle.segbase.specs.Ruled.{AreApart, AreViews, Rule, IsSight, witness, spent, meets, minding}
@@ -161,7 +162,7 @@ same_pass b p q is table bare same pass minds plain =
       numbered = ap (λ (x : PlainPart). x.number) plain ∙ (is.numbered ∙ sym of);
       first = ap (λ (x : PlainPart). x.first) plain ∙ (is.first ∙ ap (λ n. n * b.shape.segments_each) (sym of));
       rows = ap (λ (x : PlainPart). x.rows) plain ∙ is.rows;
-      owns = ap (λ (x : PlainPart). length x.segments.items) plain ∙ is.owns;
+      owns = ap (λ (x : PlainPart). length (segments_of x)) plain ∙ is.owns;
     }
 
 -- one that was told of another

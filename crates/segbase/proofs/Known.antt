@@ -2,11 +2,11 @@
 use Rattle.std.proofs.Common.{◌≡◌, ◌≢◌, ℕ, zero, suc, ◌-◌, nat_le, cond, List, [], ◌∷◌, length, set, Option, Some, None, IsSome, option_map, slice_get, slice_index_or, refl, sym, ap, ◌∙◌, subst, ⊎_elim, arith, length-set}
 use Rattle.std.proofs.lemmas.Bool.{cases_Bool, cases_eq, cond-true, cond-false, leb-true, false≢true}
 use Rattle.std.proofs.lemmas.Option.{none-some, get_or_from_slice_get}
-use Rattle.std.specs.Global.{Vec}
+use Rattle.std.specs.Box.{boxed_slice_items}
 use Rattle.segmodel.specs.Words.{SegState}
 use Rattle.segbase.specs.Words.{OwnSegment}
 use Rattle.segbase.specs.declared.pass.PlainPart.{PlainPart}
-use Rattle.segbase.specs.PlainPart.{own_segment, put_own, state_in, used_in, with_own, with_state, with_used, deadline_in, with_deadline}
+use Rattle.segbase.specs.PlainPart.{own_segment, put_own, OwnSegments, segments_of, state_in, used_in, with_own, with_state, with_used, deadline_in, with_deadline}
 use Rattle.segbase.proofs.Owned.{owner_of}
 
 -- ---- one place of a list
@@ -23,18 +23,19 @@ set_apart (x ∷ xs) zero (suc j) new ne = refl
 set_apart (x ∷ xs) (suc i) zero new ne = refl
 set_apart (x ∷ xs) (suc i) (suc j) new ne = set_apart xs i j new (λ e. ne (ap suc e))
 
-module _ (v : Vec OwnSegment) (i : ℕ) where
-  put_here : (change : OwnSegment → OwnSegment) (o : Option OwnSegment) → slice_get v.items i ≡ o → slice_get (put_own v i (option_map change o)).items i ≡ option_map change o
+module _ (v : OwnSegments) (i : ℕ) where
+  put_here : (change : OwnSegment → OwnSegment) (o : Option OwnSegment) → slice_get (boxed_slice_items v) i ≡ o
+      → slice_get (boxed_slice_items (put_own v i (option_map change o))) i ≡ option_map change o
   put_here change None is = is
-  put_here change (Some own) is = set_here v.items i own (change own) is
+  put_here change (Some own) is = set_here (boxed_slice_items v) i own (change own) is
 
-  put_apart : (j : ℕ) (o : Option OwnSegment) → j ≢ i → slice_get (put_own v i o).items j ≡ slice_get v.items j
+  put_apart : (j : ℕ) (o : Option OwnSegment) → j ≢ i → slice_get (boxed_slice_items (put_own v i o)) j ≡ slice_get (boxed_slice_items v) j
   put_apart j None ne = refl
-  put_apart j (Some own) ne = set_apart v.items i j own ne
+  put_apart j (Some own) ne = set_apart (boxed_slice_items v) i j own ne
 
-  put_long : (o : Option OwnSegment) → length (put_own v i o).items ≡ length v.items
+  put_long : (o : Option OwnSegment) → length (boxed_slice_items (put_own v i o)) ≡ length (boxed_slice_items v)
   put_long None = refl
-  put_long (Some own) = length-set v.items i own
+  put_long (Some own) = length-set (boxed_slice_items v) i own
 
 -- ---- one segment
 
@@ -42,20 +43,20 @@ module _ (x : PlainPart) (s : ℕ) where
   abbrev at : ℕ
   at = s - x.first
 
-  own_at : (own : OwnSegment) → own_segment x s ≡ Some own → slice_get x.segments.items at ≡ Some own
+  own_at : (own : OwnSegment) → own_segment x s ≡ Some own → slice_get (segments_of x) at ≡ Some own
   own_at own is = ⊎_elim
-      (λ t. sym (cond-true (nat_le x.first s) (slice_get x.segments.items at) None t) ∙ is)
-      (λ f. absurd (none-some own (sym (cond-false (nat_le x.first s) (slice_get x.segments.items at) None f) ∙ is)))
+      (λ t. sym (cond-true (nat_le x.first s) (slice_get (segments_of x) at) None t) ∙ is)
+      (λ f. absurd (none-some own (sym (cond-false (nat_le x.first s) (slice_get (segments_of x) at) None f) ∙ is)))
       (cases_Bool (nat_le x.first s))
 
   -- it is the one at its place
-  own_is : (o : Option OwnSegment) (own : OwnSegment) → own_segment x s ≡ o → IsSome o → own ≡ slice_index_or x.segments.items at own → o ≡ Some own
+  own_is : (o : Option OwnSegment) (own : OwnSegment) → own_segment x s ≡ o → IsSome o → own ≡ slice_index_or (segments_of x) at own → o ≡ Some own
   own_is None own is some at_place = absurd (false≢true some)
-  own_is (Some known) own is some at_place = ap Some (sym (at_place ∙ get_or_from_slice_get x.segments.items at known own (own_at known is)))
+  own_is (Some known) own is some at_place = ap Some (sym (at_place ∙ get_or_from_slice_get (segments_of x) at known own (own_at known is)))
 
   module _ (change : OwnSegment → OwnSegment) where
     -- the setter changed what was known
-    pub changes : (own : OwnSegment) → IsSome (own_segment x s) → own ≡ slice_index_or x.segments.items at own
+    pub changes : (own : OwnSegment) → IsSome (own_segment x s) → own ≡ slice_index_or (segments_of x) at own
         → record x { segments = put_own x.segments at (Some (change own)) } ≡ with_own s change x
     changes own some at_place = ap (λ o. record x { segments = put_own x.segments at (option_map change o) }) (sym (own_is (own_segment x s) own refl some at_place))
 
@@ -63,10 +64,10 @@ module _ (x : PlainPart) (s : ℕ) where
     owner_changed = ap (λ n. (x.number, x.first, x.rows, n)) (put_long x.segments at (option_map change (own_segment x s)))
 
     pub own_here : own_segment (with_own s change x) s ≡ option_map change (own_segment x s)
-    own_here = let low = nat_le x.first s in let old = slice_get x.segments.items at in ⊎_elim
-        (λ t. cond-true low (slice_get (put_own x.segments at (option_map change (own_segment x s))).items at) None
+    own_here = let low = nat_le x.first s in let old = slice_get (segments_of x) at in ⊎_elim
+        (λ t. cond-true low (slice_get (boxed_slice_items (put_own x.segments at (option_map change (own_segment x s)))) at) None
         t ∙ put_here x.segments at change (own_segment x s) (sym (cond-true low old None t)))
-        (λ f. cond-false low (slice_get (put_own x.segments at (option_map change (own_segment x s))).items at) None f ∙ sym (ap (option_map change) (cond-false low old None f)))
+        (λ f. cond-false low (slice_get (boxed_slice_items (put_own x.segments at (option_map change (own_segment x s)))) at) None f ∙ sym (ap (option_map change) (cond-false low old None f)))
         (cases_Bool low)
 
     pub own_apart : (t : ℕ) → t ≢ s → own_segment (with_own s change x) t ≡ own_segment x t
@@ -75,11 +76,11 @@ module _ (x : PlainPart) (s : ℕ) where
         (λ there. let a = leb-true x.first s low in let c = leb-true x.first t there in
         ap (λ o. cond (nat_le x.first t) o None) (put_apart x.segments at (t - x.first) (option_map change (own_segment x s)) (λ e. ne (omega (arith, e)))))
         (λ f. cond-false (nat_le x.first t) (slice_get
-        (put_own x.segments at (option_map change (own_segment x s))).items (t - x.first)) None f
-        ∙ sym (cond-false (nat_le x.first t) (slice_get x.segments.items (t - x.first)) None f))
+        (boxed_slice_items (put_own x.segments at (option_map change (own_segment x s)))) (t - x.first)) None f
+        ∙ sym (cond-false (nat_le x.first t) (slice_get (segments_of x) (t - x.first)) None f))
         (cases_Bool (nat_le x.first t)))
-        (λ f. ap (λ o. cond (nat_le x.first t) (slice_get (put_own x.segments at (option_map change o)).items
-        (t - x.first)) None) (cond-false (nat_le x.first s) (slice_get x.segments.items at) None f))
+        (λ f. ap (λ o. cond (nat_le x.first t) (slice_get (boxed_slice_items (put_own x.segments at (option_map change o)))
+        (t - x.first)) None) (cond-false (nat_le x.first s) (slice_get (segments_of x) at) None f))
         (cases_Bool (nat_le x.first s))
 
     -- two changes that come to the same of the segment

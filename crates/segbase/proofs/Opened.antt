@@ -5,6 +5,7 @@ use Rattle.std.proofs.Math.Nat.{mod-eq_of_lt}
 use Rattle.segword.specs.Words.{row_width, Shape, word_count}
 use Rattle.segcore.specs.declared.cell.Cell.TheVariants.{OfCounter, OfBucket, OfOverflow, OfSegment, OfRow}
 use Rattle.segcore.specs.Words.{address, Cell, IsCell, segment_size, segments_at, word}
+use Rattle.segcore.proofs.Spans.{first_words}
 use Rattle.segbase.specs.Opening.{IsOpened}
 
 -- the first buckets, this many, have the information word v, and every other word is 0
@@ -42,7 +43,8 @@ each_word z words fits begun (OfBucket b zero) is = at_place words (1 + (b * 8 +
 each_word z words fits begun (OfBucket b (suc n)) is = begun.rest (1 + (b * 8 + suc n)) (λ k lt e. let a = is.1 in omega arith)
 each_word z words fits begun (OfOverflow m w) is = begun.rest (1 + 8 * z.buckets + (m * 8 + w)) (λ k lt e. omega arith)
 each_word z words fits begun (OfSegment s) is = begun.rest (segments_at z + s * segment_size z) (λ k lt e. let f = at_front z s in omega arith)
-each_word z words fits begun (OfRow s r j) is = begun.rest (segments_at z + (s * segment_size z + (1 + (r * row_width + j)))) (λ k lt e. let f = at_front z s in omega arith)
+each_word z words fits begun (OfRow s r j) is =
+    begun.rest (segments_at z + (s * segment_size z + (1 + (r * row_width + j)))) (λ k lt e. let f = at_front z s in omega arith) ∙ sym (first_words [] s r j is.2)
 
 pub opened : (z : Shape) (words : List ℕ) → z.first_version < 2 ^ 32 → length words ≡ word_count z → IsBegun (z.first_version * 2 ^ 32) z.buckets words → IsOpened z words
 opened z words fits long begun = record { long = long; each = each_word z words fits begun }

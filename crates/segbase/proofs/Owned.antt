@@ -6,12 +6,12 @@ use Rattle.segmodel.specs.Words.{owner}
 use Rattle.segcore.specs.Words.{Event}
 use Rattle.segbase.specs.Words.{Board, OwnSegment, Pass}
 use Rattle.segbase.specs.declared.pass.PlainPart.{PlainPart}
-use Rattle.segbase.specs.PlainPart.{own_segment, state_in, state_of, used_in, deadline_in}
+use Rattle.segbase.specs.PlainPart.{own_segment, segments_of, state_in, state_of, used_in, deadline_in}
 use Rattle.segbase.specs.Passes.{number, IsPassOf, AddsEvents}
 
 -- whose pass it is
 abbrev pub owner_of : PlainPart → ℕ × ℕ × ℕ × ℕ
-owner_of x = (x.number, x.first, x.rows, length x.segments.items)
+owner_of x = (x.number, x.first, x.rows, length (segments_of x))
 
 -- a pass whose plain part alone changed, but not whose it is
 pub still_pass : (b : Board) (p : Pass) (x : PlainPart) → IsPassOf b p → owner_of x ≡ owner_of p.plain → IsPassOf b (record p { plain = x })
@@ -61,13 +61,13 @@ owns_state b p s is there =
     let each = b.shape.segments_each in let n = number p in let first = p.plain.first in
     ⊎_elim
     (λ t. let low : first ≤ s = leb-true first s t in
-    let got : is_some (slice_get p.plain.segments.items (s - first)) ≡ true =
-    sym (ap is_some (cond-true (nat_le first s) (slice_get p.plain.segments.items (s - first)) None t))
+    let got : is_some (slice_get (segments_of p.plain) (s - first)) ≡ true =
+    sym (ap is_some (cond-true (nat_le first s) (slice_get (segments_of p.plain) (s - first)) None t))
     ∙ (sym (state_there (own_segment p.plain s)) ∙ there) in
-    let within = got_within p.plain.segments.items (s - first) got in
+    let within = got_within (segments_of p.plain) (s - first) got in
     let owns = is.owns in let at = is.first in
     ap (λ x. x / each) (let e : s ≡ n * each + (s - first) = omega arith in e) ∙ div-mul-add n each (s - first) (omega arith))
-    (λ f. absurd (false≢true (sym (ap is_some (cond-false (nat_le first s) (slice_get p.plain.segments.items (s - first)) None f)) ∙ (sym (state_there (own_segment p.plain s)) ∙ there))))
+    (λ f. absurd (false≢true (sym (ap is_some (cond-false (nat_le first s) (slice_get (segments_of p.plain) (s - first)) None f)) ∙ (sym (state_there (own_segment p.plain s)) ∙ there))))
     (cases_Bool (nat_le first s))
 
 pub state_owned : (b : Board) (p : Pass) (s : ℕ) → IsPassOf b p → owner b.shape s ≡ number p → is_some (state_of p s) ≡ true
@@ -80,5 +80,5 @@ state_owned b p s is own =
     let owns = is.owns in
     let low : nat_le first s ≡ true = le-leb first s (omega arith) in
     state_there (own_segment p.plain s) ∙ (ap is_some
-    (cond-true (nat_le first s) (slice_get p.plain.segments.items (s - first)) None low)
-    ∙ gets_within p.plain.segments.items (s - first) (omega arith))
+    (cond-true (nat_le first s) (slice_get (segments_of p.plain) (s - first)) None low)
+    ∙ gets_within (segments_of p.plain) (s - first) (omega arith))

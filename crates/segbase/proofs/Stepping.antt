@@ -7,6 +7,7 @@ use Rattle.segcore.proofs.Entered.{no_refill}
 use Rattle.segcore.proofs.StepKinds.{keeps}
 use Rattle.segbase.specs.Words.{Board, Pass}
 use Rattle.segbase.specs.declared.pass.PlainPart.{PlainPart}
+use Rattle.segbase.specs.PlainPart.{segments_of}
 use Rattle.segbase.specs.declared.place.Spot.{Spot}
 use Rattle.segbase.specs.Traces.{own_of, StaysIn}
 use Rattle.segbase.specs.Spots.{cell_of}
@@ -87,7 +88,7 @@ stepped b st spot f found p q can table learns plain =
       numbered = ap (λ (x : PlainPart). x.number) plain ∙ (is.numbered ∙ sym same);
       first = ap (λ (x : PlainPart). x.first) plain ∙ (is.first ∙ ap (λ n. n * b.shape.segments_each) (sym same));
       rows = ap (λ (x : PlainPart). x.rows) plain ∙ is.rows;
-      owns = ap (λ (x : PlainPart). length x.segments.items) plain ∙ is.owns;
+      owns = ap (λ (x : PlainPart). length (segments_of x)) plain ∙ is.owns;
     } in record {
       told = told;
       did = record {

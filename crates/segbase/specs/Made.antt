@@ -9,6 +9,7 @@ use Rattle.segbase.specs.declared.pass.PlainPart.{PlainPart}
 use Rattle.segbase.specs.declared.pass.Pass.{Pass}
 use Rattle.segbase.specs.declared.board.Board.{Board}
 use Rattle.segbase.specs.Passes.{number, trace, holding, locked, IsPassOf}
+use Rattle.segbase.specs.PlainPart.{segments_of}
 
 -- the fault is the first of the shape; out of memory comes only for a shape that an index may have
 abbrev pub IsMakeFault : Shape → MakeFault → Type 0
@@ -22,7 +23,7 @@ pub record IsNewPlain (shape : Shape) (n : ℕ) (plain : PlainPart) : Type 0 whe
   pub number : plain.number ≡ n
   pub first : plain.first ≡ n * shape.segments_each
   pub rows : plain.rows ≡ shape.rows
-  pub segments : plain.segments.items ≡ replicate shape.segments_each unfilled
+  pub segments : segments_of plain ≡ replicate shape.segments_each unfilled
   pub current : plain.current ≡ None
   pub locked : plain.locked ≡ None
   pub holding : plain.is_holding ≡ false

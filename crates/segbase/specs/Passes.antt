@@ -17,6 +17,7 @@ use Rattle.segbase.specs.declared.pass.Pass.{Pass}
 use Rattle.segbase.specs.declared.board.Board.{Board}
 use Rattle.segbase.specs.declared.place.Spot.{Spot}
 use Rattle.segbase.specs.Minding.{Minds}
+use Rattle.segbase.specs.PlainPart.{segments_of}
 use Rattle.segbase.specs.Traces.{own_of, StaysIn, OnlyReads}
 use Rattle.segbase.specs.Spots.{cell_of}
 
@@ -80,7 +81,7 @@ pub record IsPassOf (b : Board) (p : Pass) : Type 0 where
   pub numbered : p.plain.number ≡ number p
   pub first : p.plain.first ≡ number p * b.shape.segments_each
   pub rows : p.plain.rows ≡ b.shape.rows
-  pub owns : length p.plain.segments.items ≡ b.shape.segments_each
+  pub owns : length (segments_of p.plain) ≡ b.shape.segments_each
 
 -- the pass may take the step, which changes the word of this spot by f
 pub record CanStep (b : Board) (p : Pass) (step : Step) (spot : Spot) (f : ℕ → ℕ) : Type 0 where

@@ -1,7 +1,8 @@
 -- The plain facts of a pass, which only its owner's calls change.
-use Rattle.std.specs.Prelude.{ℕ, ◌-◌, nat_le, Bool, Option, Some, None, option_map, slice_get, if◌then◌else◌}
-use Rattle.std.specs.Global.{Vec}
-use Rattle.std.specs.Vec.{with_item}
+use Rattle.std.specs.Prelude.{ℕ, ◌-◌, nat_le, Bool, List, Option, Some, None, option_map, slice_get, if◌then◌else◌}
+use Rattle.std.specs.Box.{boxed_slice_items, boxed_slice_with_item}
+use Rattle.std.specs.Global.{Global}
+use Rattle.std.specs.declared.boxed.BoxedSlice.{BoxedSlice}
 use Rattle.segmodel.specs.Words.{SegState}
 use Rattle.segbase.specs.declared.pass.OwnSegment.{OwnSegment}
 use Rattle.segbase.specs.declared.pass.PlainPart.{PlainPart}
@@ -22,11 +23,18 @@ locked_of p = p.plain.locked
 abbrev pub is_holding_of : Pass → Bool
 is_holding_of p = p.plain.is_holding
 
+-- the list of a pass's segments
+abbrev pub OwnSegments : Type 0
+OwnSegments = BoxedSlice OwnSegment Global
+
+abbrev pub segments_of : PlainPart → List OwnSegment
+segments_of plain = boxed_slice_items plain.segments
+
 -- what the pass knows of a segment, if that is its own
 abbrev pub own_segment : PlainPart → ℕ → Option OwnSegment
 own_segment plain segment =
     if nat_le plain.first segment
-    then slice_get plain.segments.items (segment - plain.first)
+    then slice_get (segments_of plain) (segment - plain.first)
     else None
 
 abbrev pub state_in : Option OwnSegment → Option SegState
@@ -63,9 +71,9 @@ abbrev pub with_holding : Bool → PlainPart → PlainPart
 with_holding holding plain = record plain { is_holding = holding }
 
 -- the segments, with this one at a place; unchanged if there is none
-abbrev pub put_own : Vec OwnSegment → ℕ → Option OwnSegment → Vec OwnSegment
+abbrev pub put_own : OwnSegments → ℕ → Option OwnSegment → OwnSegments
 put_own segments place None = segments
-put_own segments place (Some own) = with_item segments place own
+put_own segments place (Some own) = boxed_slice_with_item segments place own
 
 -- with a segment of the pass's own changed so
 abbrev pub with_own : ℕ → (OwnSegment → OwnSegment) → PlainPart → PlainPart

@@ -9,7 +9,7 @@ pub use Rattle.segbase.specs.Passes.{IsPassOf, locked, looks, marked, mine, numb
 pub use Rattle.segbase.specs.Passes.{seen, sight, SinceFirst, StartsAt, Stepped, TakesSteps, trace}
 pub use Rattle.segbase.specs.Passes.{view}
 pub use Rattle.segbase.specs.PlainPart.{current_of, deadline_in, deadline_of, is_holding_of}
-pub use Rattle.segbase.specs.PlainPart.{locked_of, number_of, own_segment, rows_of}
+pub use Rattle.segbase.specs.PlainPart.{locked_of, number_of, own_segment, rows_of, segments_of}
 pub use Rattle.segbase.specs.PlainPart.{state_in, state_of, used_in, used_of, with_current}
 pub use Rattle.segbase.specs.PlainPart.{with_deadline, with_holding, with_locked, with_own}
 pub use Rattle.segbase.specs.PlainPart.{with_state, with_used}

@@ -1,5 +1,6 @@
 //! The board: the table of the index's words, and how it is created.
-ghost use Rattle.std.specs.Prelude.{◌≡◌, ◌<◌, ◌≤◌, ◌^◌, [], IfOk, IfErr};
+ghost use Rattle.std.specs.Prelude.{◌≡◌, ◌<◌, ◌≤◌, ◌^◌, [], IfOk, IfErr, replicate};
+ghost use Rattle.std.specs.Box.{boxed_slice_items};
 ghost use Rattle.segword.specs.Words.{word_count};
 ghost use Rattle.segbase.specs.Spots.{IsLayoutOf};
 
@@ -12,6 +13,7 @@ use atomic_table::{Seat, Table};
 use segmodel::SegState;
 use segword::Shape;
 use std::alloc::{AllocError, Global};
+use std::boxed::BoxedSlice;
 
 /// The words of an index, which its passes change in single atomic steps.
 #[derive(Drop)]
@@ -29,7 +31,7 @@ pub struct Board {
 impl Board {
     ghost use Rattle.segword.specs.Words.{IsValid};
     ghost use Rattle.segbase.specs.Ruled.{first_sight};
-    ghost use Rattle.segbase.specs.Made.{IsDealt, IsNewPlain, IsMade, IsMakeFault};
+    ghost use Rattle.segbase.specs.Made.{IsDealt, IsNewPlain, IsMade, IsMakeFault, unfilled};
 
     /// A board of this shape with its passes, in the order of their numbers.
     /// The calls that use them take no allocator.
@@ -84,12 +86,7 @@ impl Board {
         ensures { IfOk result (λ pass.
             (pass.seat ≡ seat) × IsNewPlain self.now.shape number pass.plain) }
     {
-        let unfilled = OwnSegment {
-            state: SegState::Empty,
-            used: 0,
-            deadline: 0,
-        };
-        let segments = vec![in alloc; unfilled; self.shape.segments_each as usize]?;
+        let segments = Board::unfilled_segments(alloc, self.shape.segments_each)?;
         let plain = PlainPart {
             number,
             first: number * self.shape.segments_each,
@@ -100,6 +97,21 @@ impl Board {
             is_holding: false,
         };
         Ok(Pass { seat, plain })
+    }
+
+    // So many segments, none of which was ever filled.
+    fn unfilled_segments(alloc: Global, count: u32) -> Result<BoxedSlice<OwnSegment>, AllocError>
+        ensures { IfOk result (λ segments. boxed_slice_items segments ≡ replicate count unfilled) }
+    {
+        let mut segments = Vec::with_capacity(alloc, count as usize)?;
+        for _ in 0..count {
+            segments.push(OwnSegment {
+                state: SegState::Empty,
+                used: 0,
+                deadline: 0,
+            })?;
+        }
+        Ok(segments.into_boxed_slice())
     }
 
     /// The shape of the board.

@@ -1,12 +1,13 @@
 //! A caller's token for the steps, with the plain facts that only its owner changes.
-ghost use Rattle.std.specs.Prelude.{◌≡◌, IsSome};
+ghost use Rattle.std.specs.Prelude.{◌≡◌, IsSome, option_copied};
 
 use crate::law::Sight;
 use atomic_table::Seat;
 use segmodel::SegState;
+use std::boxed::BoxedSlice;
 
-// A segment of the pass, as its owner knows it.
-#[derive(Clone, Copy, Drop)]
+// A segment of the pass, as its owner knows it. It can't be copied.
+#[derive(Drop)]
 pub(crate) struct OwnSegment {
     pub(crate) state: SegState,
     pub(crate) used: u32,
@@ -21,7 +22,9 @@ pub(crate) struct PlainPart {
     pub(crate) first: u32,
     // How many rows each of its segments has.
     pub(crate) rows: u32,
-    pub(crate) segments: Vec<OwnSegment>,
+    // Its segments. No copy of this list and no allocator can be had from it, so no call of a pass
+    // asks for memory.
+    pub(crate) segments: BoxedSlice<OwnSegment>,
     pub(crate) current: Option<u32>,
     pub(crate) locked: Option<u32>,
     pub(crate) is_holding: bool,
@@ -145,8 +148,8 @@ impl Pass {
     }
 
     // What the pass knows of a segment of its own; `None` for any other.
-    fn own(&self, segment: u32) -> Option<OwnSegment>
-        ensures { result ≡ own_segment self.now.plain segment }
+    fn own(&self, segment: u32) -> Option<&OwnSegment>
+        ensures { option_copied result ≡ own_segment self.now.plain segment }
     {
         if segment < self.plain.first {
             return None;
@@ -154,6 +157,5 @@ impl Pass {
         self.plain
             .segments
             .get((segment - self.plain.first) as usize)
-            .copied()
     }
 }

@@ -7,7 +7,7 @@ use Rattle.segmodel.specs.Words.{after, NoneStandsIn}
 use Rattle.segcore.specs.Event as event
 use Rattle.segcore.specs.Words.{bucket_after, inside, row_after}
 use Rattle.segbase.specs.Words.{Board, IsMade, IsNewPass, IsNewPlain, Locked, number, Pass, deadline_of, OwnSegment, deadline_in, own_segment}
-use Rattle.segbase.specs.Words.{unfilled, used_in, used_of}
+use Rattle.segbase.specs.Words.{segments_of, unfilled, used_in, used_of}
 use Rattle.segstore.specs.Words.{is_held_in, IsQuiet, KeepsSegments}
 use Rattle.segindex.specs.Words.{Index}
 use Rattle.segindex.specs.Index.{board_of, IsNew}
@@ -27,7 +27,7 @@ module _ (told : Option OwnSegment → Option ℕ) (tells : ReturnsZero told) wh
   zero_told : (b : Board) (n : ℕ) (p : Pass) (segment count : ℕ) → IsNewPlain b.shape n p.plain → told (own_segment p.plain segment) ≡ Some count → count ≡ 0
   zero_told b n p segment count new is =
       let first = p.plain.first in
-      let got = slice_get p.plain.segments.items (segment - first) in ⊎_elim
+      let got = slice_get (segments_of p.plain) (segment - first) in ⊎_elim
       (λ t. unused b.shape.segments_each (segment - first) count
       (ap (λ l. told (slice_get l (segment - first))) (sym new.segments)
       ∙ (sym (ap told (cond-true (nat_le first segment) got None t)) ∙ is)))
