@@ -1,8 +1,8 @@
 -- The words of a board that was closed, and what had happened by then.
-use Rattle.std.specs.Prelude.{◌≡◌, ℕ, ◌*◌, ◌<◌, ◌≤◌, List, ◌++◌, Some, slice_get, slice_index}
+use Rattle.std.specs.Prelude.{◌≡◌, ℕ, ◌-◌, ◌*◌, ◌<◌, ◌≤◌, ◌==◌, min, nat_lt, if◌then◌else◌, List, ◌++◌, Some, slice_get, slice_index}
 use Rattle.std.specs.Slots.{slots_items}
-use Rattle.segword.specs.Words.{IsValid, place_behind, row_behind, row_width, Shape}
-use Rattle.segword.specs.Words.{span_of_header}
+use Rattle.segword.specs.Words.{IsValid, item_width, most_span, place_behind, row_behind}
+use Rattle.segword.specs.Words.{row_width, Shape, span_of_header}
 use Rattle.segcore.specs.declared.cell.Cell.TheVariants.{OfRow}
 use Rattle.segcore.specs.Words.{address, Cell, Event, IsCell, IsLawful, Knows, NoneBy, word}
 use Rattle.segbase.specs.declared.closing.Words.{Words}
@@ -17,12 +17,24 @@ shape_of words = words.shape
 abbrev pub word_of_cell : Words → Cell → ℕ
 word_of_cell words cell = slice_index (slots_items words.closed.words) (address words.shape cell)
 
+-- how many rows of the item that begins in a row lie in its segment
+abbrev pub rows_there : Words → ℕ → ℕ → ℕ
+rows_there words segment row =
+    min (span_of_header (word_of_cell words (OfRow segment row 0))) ((shape_of words).rows - row)
+
+-- the word at a place of the item that begins in a row; behind its rows is 0
+abbrev pub word_on : Words → ℕ → ℕ → ℕ → ℕ
+word_on words segment row place =
+    if most_span == 1 then word_of_cell words (OfRow segment row place) else (
+    if nat_lt place (row_width * rows_there words segment row)
+    then word_of_cell words (OfRow segment (row_behind row place) (place_behind place))
+    else 0)
+
 -- these are the words of a row, and of the rows behind it as far as its item goes on there
 abbrev pub HasWordsOf : Words → ℕ → ℕ → List ℕ → Type 0
 HasWordsOf words segment row found = (place : ℕ)
-    → place < row_width * span_of_header (slice_index found 0)
-    → slice_index found place
-    ≡ word_of_cell words (OfRow segment (row_behind row place) (place_behind place))
+    → place < item_width
+    → slice_index found place ≡ word_on words segment row place
 
 -- each word is what the trace makes it
 pub record IsAtRest (words : Words) (trace : List Event) : Type 0 where
