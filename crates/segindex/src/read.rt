@@ -2,13 +2,13 @@
 use crate::index::Index;
 use segbase::Pass;
 use segmodel::{GetAnswer, GetsAnswer};
-use segread::{Hold, HoldAnswer};
+use segread::{Hold, HoldAnswer, IntoAnswer};
 use segword::{Key, Value};
 
 impl Index {
     ghost use Rattle.segstore.specs.Words.{IsQuiet};
-    ghost use Rattle.segread.specs.Words.{HoldsItem, IsHoldOf, ReadsHeld, ReadsKey, ReadsVersion};
-    ghost use Rattle.segread.specs.Words.{ReleasesHold};
+    ghost use Rattle.segread.specs.Words.{HoldsItem, IsHoldOf, ReadsHeld, ReadsInto, ReadsKey};
+    ghost use Rattle.segread.specs.Words.{ReadsVersion, ReleasesHold};
     ghost use Rattle.segindex.specs.Index.{board_of, shape_of};
 
     /// The value under a key at a moment.
@@ -19,6 +19,24 @@ impl Index {
         ensures reads { ReadsKey (board_of self.now) key.now draw now result pass.old pass.new }
     {
         segread::get(&self.board, pass, key, draw, now)
+    }
+
+    /// The value under a key at a moment, as `get` reads it, but it goes to the front of a buffer.
+    /// What is behind the value stays as it was, and so does a buffer that is too short.
+    #[inline(always)]
+    pub fn get_into(
+        &self,
+        pass: &mut Pass,
+        key: &Key,
+        draw: u32,
+        now: u32,
+        bytes: &mut [u8],
+    ) -> IntoAnswer
+        requires pass { IsQuiet (board_of self.now) pass.old }
+        ensures reads { ReadsInto (board_of self.now) key.now draw now result bytes.old bytes.new
+            pass.old pass.new }
+    {
+        segread::get_into(&self.board, pass, key, draw, now, bytes)
     }
 
     /// The value under a key at a moment, with the version of the key's bucket,

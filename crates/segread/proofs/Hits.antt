@@ -2,7 +2,7 @@
 use Rattle.std.proofs.Common.{◌≡◌, ℕ, ◌<◌, List, [], ◌++◌, sym, ap, ◌∙◌, subst, append_assoc, refl}
 use Rattle.segword.specs.Words.{IsKey, IsValue, Item, item_word, Shape}
 use Rattle.segmodel.specs.Words.{Begins}
-use Rattle.segcore.specs.Words.{Event, Holds, inside, IsLawful, NoneRefills, row_after}
+use Rattle.segcore.specs.Words.{Event, Holds, inside, IsLawful, NoneRefills, Row, row_after}
 use Rattle.segcore.proofs.Moments.{begins_on, lawful_before}
 use Rattle.segbase.specs.Words.{AddsEvents, Board, number, Pass, Place, trace}
 use Rattle.segbase.proofs.Alone.{moved_alone}
@@ -61,6 +61,19 @@ found_on b p q place item key value h there m f =
           (found_rows b.shape h (trace p) place (item_word item) key value m.pass.valid (lawful_before b.shape m.more (trace p) lawful) f) ∙ f.still);
       alone = λ one. moved_alone b [] p q m one ∙ f.alone one;
     }
+
+-- the row holds what was found, and the item was found for that value
+pub still_holds : (b : Board) (p q v : Pass) (place : Place) (item : Item) (header : ℕ) (key : List ℕ)
+    → (f : FoundKey b.shape place item header key (trace p) (trace q))
+    → ReadsRow b q v item.seg item.row → Holds (row_after (trace v) item.seg item.row) key f.value
+still_holds b p q v place item header key f reads j lt =
+    ap (λ (row : Row). row.words j) reads.same ∙ found_holds place item key f.value b.shape (trace p) (trace q) f.found j lt
+
+pub still_found : (b : Board) (p q v : Pass) (place : Place) (item : Item) (header : ℕ) (key : List ℕ)
+    → IsReaderIn b p q item.seg → (f : FoundKey b.shape place item header key (trace p) (trace q))
+    → ReadsRow b q v item.seg item.row → FoundItem b.shape place (item_word item) key f.value (trace p) (trace v)
+still_found b p q v place item header key i f reads =
+    found_on b q v place item key f.value (trace p) (is_inside b p q item.seg i.reads) reads.looked.did.moved f.found
 
 -- ---- what a hit raises
 

@@ -18,3 +18,4 @@ pub mod Holding
 pub mod Hits
 pub mod HoldCalls
 pub mod ReadsFacts
+pub mod Copied

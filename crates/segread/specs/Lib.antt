@@ -2,6 +2,7 @@ pub mod Costs
 pub mod Gets
 pub mod Hits
 pub mod Holds
+pub mod Into
 pub mod Loads
 pub mod Looking
 pub mod Props

@@ -3,6 +3,7 @@
 #![tactic(auto)]
 
 mod held;
+mod into;
 mod read;
 mod scan;
 mod version;
@@ -11,5 +12,6 @@ pub use held::{
     HeldRow, Hold, HoldAnswer, RowAnswer, held_value, hold_item, hold_row, hold_stays, release,
     release_row, row_value,
 };
+pub use into::{IntoAnswer, get_into};
 pub use read::get;
 pub use version::gets;

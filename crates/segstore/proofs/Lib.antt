@@ -20,6 +20,7 @@ pub mod Meanwhile
 pub mod Locking
 pub mod UnderWrite
 pub mod Draws
+pub mod Copying
 pub mod CostFacts
 pub mod Costs
 pub mod Before

@@ -1,4 +1,5 @@
 pub mod Chains
+pub mod Copying
 pub mod Linked
 pub mod Props
 pub mod Reading

@@ -3,6 +3,7 @@ pub use Rattle.segstore.specs.Calls.{AddsEntry, ChangesNothing, CostsNothing, Dr
 pub use Rattle.segstore.specs.Calls.{IsBusy, memo, RaisesNothing, ReadsNothing, step_count}
 pub use Rattle.segstore.specs.Calls.{TakesAtMost, TakesNoBit, TakesOneBit}
 pub use Rattle.segstore.specs.Chains.{first_word, IsNext, LeadsNowhere, LeadsTo, next_word}
+pub use Rattle.segstore.specs.Copying.{CopiesValue}
 pub use Rattle.segstore.specs.Linked.{FoundItem, FoundKey, IsChained, IsKeyed, row_part, SawItem}
 pub use Rattle.segstore.specs.Linked.{SawWord, segment_part, WasLinked, word_of_place}
 pub use Rattle.segstore.specs.Locks.{IsLockAnswer, IsUnlockAnswer, LocksBucket, NoneSince}

@@ -4,6 +4,7 @@
 
 mod bucket;
 mod chain;
+mod copy;
 mod enter;
 mod read;
 mod refilling;
@@ -14,6 +15,7 @@ mod write;
 
 pub use bucket::{LockAnswer, TRIES, lock_bucket, take_bucket, take_to_write, unlock_bucket};
 pub use chain::{Sought, next_place};
+pub use copy::value_into;
 pub use enter::{enter_segment, leave_segment};
 pub use read::{Keyed, Linked, read_keyed, read_linked};
 pub use refilling::{refill, refill_aside};

@@ -1,0 +1,8 @@
+-- What a buffer has behind a value that was copied to it.
+use Rattle.std.specs.Prelude.{◌≡◌, ℕ, ◌≤◌, List, length, ◌++◌, drop}
+
+-- Where the buffer has room for the value, the value was copied to its front, and what is behind
+-- that is as it was. A shorter buffer is as it was.
+pub record CopiesValue (value : List ℕ) (Whole Short : Type 0) (old new : List ℕ) : Type 0 where
+  pub fits : length value ≤ length old → Whole × (new ≡ value ++ drop (length value) old)
+  pub short : ¬ (length value ≤ length old) → Short × (new ≡ old)
