@@ -162,7 +162,7 @@ IsOrdered (placed ∷ later) = All (MayPrecede placed) later × IsOrdered later
 
 -- There is one order of all these calls. Each takes effect at a point of its own time,
 -- at which its answer is right, and none comes before one that had returned when it began.
--- Writes whose calls don't overlap have points of their own.
+-- Two writes have points of their own, unless they are of one pass and overlap in time.
 pub record Linearizable (shape : Shape) (world : ℕ → World) (calls : List Call) : Type 0 where
   pub order : List Placed
   pub all : IsPermutation calls (map (λ placed. placed.call) order)
