@@ -10,8 +10,8 @@ ghost use Rattle.segclient.specs.Rings.{IsOwnRing};
 
 use crate::effort::{Effort, evicted_by, refilled_by};
 use crate::queues::{
-    current_for, next_expired, next_source, note_moved, oldest, place_of, target_of, was_given_up,
-    was_refilled,
+    current_for, next_expired, next_source, note_done, note_moved, oldest, place_of, target_of,
+    was_given_up, was_refilled,
 };
 use crate::segments::{Policy, Segments, Source};
 use crate::spans::{clear_row, last_of};
@@ -120,8 +120,8 @@ fn row_evicted_by(answer: EvictRowAnswer) -> u32
     }
 }
 
-// Evicts the item of the row.
-fn evict_one(index: &Index, pass: &mut Pass, queues: &mut Queues, source: Source) -> Turn
+// Evicts the item of the row, which takes so many rows.
+fn evict_one(index: &Index, pass: &mut Pass, queues: &mut Queues, source: Source, rows: u32) -> Turn
     requires quiet { IsQuiet (board_of index.now) pass.old }
     requires clearing { IsClearing (shape_of index.now) source pass.old }
     requires fits { source.row + 1 < 2 ^ 32 }
@@ -134,7 +134,11 @@ fn evict_one(index: &Index, pass: &mut Pass, queues: &mut Queues, source: Source
 {
     let told = index.evict_row(pass, source.segment, source.row);
     let effort = Effort::evicting(u64::from(row_evicted_by(told)));
-    queues.was_done(told == EvictRowAnswer::Evicted);
+    let last = RowRef {
+        segment: source.segment,
+        row: last_of(source.row, rows),
+    };
+    note_done(index, queues, last, told == EvictRowAnswer::Evicted);
     match told {
         EvictRowAnswer::Evicted | EvictRowAnswer::Left => next_row(source, effort),
         EvictRowAnswer::NotYours | EvictRowAnswer::NotUsed | EvictRowAnswer::Busy => {
@@ -198,7 +202,7 @@ fn move_one(index: &Index, pass: &mut Pass, queues: &mut Queues, source: Source,
             note_moved(index, pass, queues, last, to.into);
             next_row(source, effort)
         }
-        KeepRowAnswer::Left => evict_one(index, pass, queues, source),
+        KeepRowAnswer::Left => evict_one(index, pass, queues, source, to.rows),
         KeepRowAnswer::NoRoom
         | KeepRowAnswer::Busy
         | KeepRowAnswer::NotYours
@@ -300,7 +304,7 @@ pub(crate) fn clear_one_row(
         return end_source(index, pass, queues, source);
     }
     if !is_fresh(pass, source, terms.moment) {
-        return evict_one(index, pass, queues, source);
+        return evict_one(index, pass, queues, source, terms.rows);
     }
     if let Some(into) = target_of(index, pass, queues, source.segment, terms.rows) {
         let to = Move {
@@ -311,7 +315,7 @@ pub(crate) fn clear_one_row(
         return move_one(index, pass, queues, source, to);
     }
     let Some(until) = pass.deadline(source.segment) else {
-        return evict_one(index, pass, queues, source);
+        return evict_one(index, pass, queues, source, terms.rows);
     };
     if can_open(index, pass, queues, source, terms.turns) {
         return open_main(index, pass, queues, source, until);
@@ -325,7 +329,7 @@ pub(crate) fn clear_one_row(
         return move_one(index, pass, queues, source, to);
     }
     queues.was_left_behind();
-    evict_one(index, pass, queues, source)
+    evict_one(index, pass, queues, source, terms.rows)
 }
 
 // Where the clearing goes on, or where another begins: if few segments are free, or one has

@@ -233,6 +233,15 @@ fn last_row(index: &Index, pass: &Pass, segment: u32) -> Place {
     }
 }
 
+// The item of a row of the source is done. It was alive, or wasn't.
+pub(crate) fn note_done(index: &Index, queues: &mut Queues, row: RowRef, is_alive: bool) {
+    let at = Place {
+        segment: place_of(index, row.segment),
+        row: row.row,
+    };
+    queues.was_done(at, is_alive);
+}
+
 // The item of a row of the source moved into this segment.
 pub(crate) fn note_moved(index: &Index, pass: &Pass, queues: &mut Queues, from: RowRef, into: u32) {
     let place = Place {
@@ -244,9 +253,12 @@ pub(crate) fn note_moved(index: &Index, pass: &Pass, queues: &mut Queues, from: 
 
 // The item of this row was replaced or deleted.
 pub(crate) fn note_dead(index: &Index, pass: &Pass, queues: &mut Queues, row: RowRef) {
-    let at = own_place(index, pass, row.segment);
-    if at < index.shape().segments_each {
-        queues.has_died(at);
+    let segment = own_place(index, pass, row.segment);
+    if segment < index.shape().segments_each {
+        queues.has_died(Place {
+            segment,
+            row: row.row,
+        });
     }
 }
 

@@ -17,16 +17,70 @@ const UNSURE: u64 = ALL / 8;
 // What is found counts for one part of so many, and what was found before for the rest.
 const MEMORY: u64 = 8;
 
+// The age of a row is summed in so many parts.
+const AGE: u64 = 256;
+
 // What was given up is kept in mind while the pass gives up so many times its rows.
 const ROUNDS: u64 = 2;
+
+// How many rows of a segment, of two kinds: those that were stored in place of another, and the
+// others. What was updated is likely to be updated once more, so they die at rates of their own.
+#[derive(Clone, Copy)]
+pub(crate) struct Kinds {
+    pub(crate) updates: u16,
+    pub(crate) others: u16,
+}
+
+impl Kinds {
+    pub(crate) fn none() -> Kinds {
+        Kinds {
+            updates: 0,
+            others: 0,
+        }
+    }
+
+    // With one row more of a kind.
+    pub(crate) fn with(self, is_update: bool) -> Kinds {
+        if is_update {
+            Kinds {
+                updates: self.updates.saturating_add(1),
+                ..self
+            }
+        } else {
+            Kinds {
+                others: self.others.saturating_add(1),
+                ..self
+            }
+        }
+    }
+
+    // With one row less of a kind.
+    fn without(self, is_update: bool) -> Kinds {
+        if is_update {
+            Kinds {
+                updates: self.updates.saturating_sub(1),
+                ..self
+            }
+        } else {
+            Kinds {
+                others: self.others.saturating_sub(1),
+                ..self
+            }
+        }
+    }
+
+    pub(crate) fn sum(self) -> u32 {
+        u32::from(self.updates) + u32::from(self.others)
+    }
+}
 
 // What a pass knows of a segment of its own.
 #[derive(Clone, Copy)]
 struct Known {
     // How many of its rows were used since it was refilled.
     used: u32,
-    // How many of these died by writes of the pass.
-    died: u32,
+    // How many of these didn't die by writes of the pass.
+    alive: Kinds,
     // How many rows the pass had stored into when the segment was refilled.
     since: u32,
     // The moment from which on nothing in it can be read.
@@ -37,12 +91,63 @@ struct Known {
 #[derive(Clone, Copy)]
 pub(crate) struct Found {
     // How many rows could be alive as far as the pass knew, of how many.
-    pub(crate) known: u32,
+    pub(crate) known: Kinds,
     pub(crate) used: u32,
     // How many were.
-    pub(crate) alive: u32,
+    pub(crate) alive: Kinds,
     // How many rows the pass had stored into since the segment was refilled.
     pub(crate) age: u32,
+}
+
+// How fast rows of a kind die by others' writes.
+#[derive(Clone, Copy)]
+struct Rate {
+    // How often the live ones halve while the pass stores into one row, in 2^-32.
+    halvings: u64,
+    // How often those halved that were gone over lately, and how many rows the pass had stored into
+    // meanwhile: sums in which a segment counts by how many it had.
+    halved: u64,
+    ages: u64,
+}
+
+impl Rate {
+    fn unknown() -> Rate {
+        Rate {
+            halvings: 0,
+            halved: 0,
+            ages: 0,
+        }
+    }
+
+    fn is_known(self) -> bool {
+        self.ages > 0
+    }
+
+    // How often rows of this age halved, in 2^-16.
+    fn at(self, age: u32) -> u64 {
+        self.halvings.saturating_mul(u64::from(age)) >> 16
+    }
+
+    // Whether many rows of this age may have died. Then an estimate may be far off.
+    fn is_unsure(self, age: u32) -> bool {
+        !self.is_known() || self.at(age) > UNSURE
+    }
+
+    // So many rows of a segment could be alive, and so many were. They are this share of it.
+    fn learned(self, known: u16, alive: u16, age: u32, share: u64) -> Rate {
+        if known == 0 || age == 0 {
+            return self;
+        }
+        let before = log_of(u64::from(known).saturating_mul(2));
+        let after = log_of(u64::from(alive).saturating_mul(2).max(1));
+        let halved = summed(self.halved, before.saturating_sub(after), share);
+        let ages = summed(self.ages, u64::from(age) * AGE, share);
+        Rate {
+            halvings: halved.saturating_mul(ALL * AGE) / ages.max(1),
+            halved,
+            ages,
+        }
+    }
 }
 
 // What a pass knows of its segments, and how fast rows die by others' writes.
@@ -51,9 +156,9 @@ pub(crate) struct Live {
     segments: Vec<Known>,
     // How many rows the pass stored into. It begins again after the largest number.
     stored: u32,
-    // How often the live rows of a segment halve while the pass stores into one row, in 2^-32.
-    rate: u64,
-    is_rate_known: bool,
+    // How fast rows die by others' writes that were stored in place of another, and the others.
+    updates: Rate,
+    others: Rate,
     // The share of rows that were alive lately in segments that were gone over.
     share: u64,
     // The share of rows that were given up lately in full segments that had expired.
@@ -79,15 +184,15 @@ impl Live {
     pub(crate) fn new(alloc: Global, segments: u32) -> Result<Live, AllocError> {
         let known = Known {
             used: 0,
-            died: 0,
+            alive: Kinds::none(),
             since: 0,
             deadline: 0,
         };
         Ok(Live {
             segments: vec![in alloc; known; segments as usize]?,
             stored: 0,
-            rate: 0,
-            is_rate_known: false,
+            updates: Rate::unknown(),
+            others: Rate::unknown(),
             share: FIRST_SHARE,
             expired: 0,
         })
@@ -99,7 +204,10 @@ impl Live {
         if let Some(place) = self.segments.get_mut(at as usize) {
             *place = Known {
                 used,
-                died: 0,
+                alive: Kinds {
+                    updates: 0,
+                    others: used.min(u32::from(u16::MAX)) as u16,
+                },
                 since,
                 deadline,
             };
@@ -107,9 +215,10 @@ impl Live {
     }
 
     // A row more of the segment was used. The pass stored into it, or moved an item there.
-    pub(crate) fn was_used(&mut self, at: u32, is_stored: bool) {
+    pub(crate) fn was_used(&mut self, at: u32, is_stored: bool, is_update: bool) {
         if let Some(place) = self.segments.get_mut(at as usize) {
             place.used = place.used.wrapping_add(1);
+            place.alive = place.alive.with(is_update);
         }
         if is_stored {
             self.stored = self.stored.wrapping_add(1);
@@ -117,9 +226,9 @@ impl Live {
     }
 
     // A row of the segment died by a write of the pass.
-    pub(crate) fn has_died(&mut self, at: u32) {
+    pub(crate) fn has_died(&mut self, at: u32, is_update: bool) {
         if let Some(place) = self.segments.get_mut(at as usize) {
-            place.died = place.died.wrapping_add(1);
+            place.alive = place.alive.without(is_update);
         }
     }
 
@@ -128,7 +237,7 @@ impl Live {
             Some(place) => *place,
             None => Known {
                 used: 0,
-                died: 0,
+                alive: Kinds::none(),
                 since: 0,
                 deadline: 0,
             },
@@ -151,31 +260,40 @@ impl Live {
     // What would be found in the segment if nobody else had written.
     pub(crate) fn known_of(&self, at: u32) -> Found {
         let known = self.known(at);
-        let alive = known.used.saturating_sub(known.died);
         Found {
-            known: alive,
+            known: known.alive,
             used: known.used,
-            alive,
+            alive: known.alive,
             age: self.age(at),
         }
     }
 
-    // How often the live rows of a segment of this age halved by others' writes, in 2^-16.
-    fn halvings(&self, age: u32) -> u64 {
-        self.rate.saturating_mul(u64::from(age)) >> 16
+    // How many rows of the segment are alive that weren't stored in place of another, in parts.
+    pub(crate) fn others(&self, at: u32) -> u64 {
+        let known = self.known(at);
+        let parts = PARTS.saturating_mul(u64::from(known.alive.others));
+        halved(parts, self.others.at(self.age(at)))
     }
 
     // How many rows of the segment are alive, in parts of a row: those that the pass doesn't know
     // to be dead, less what others' writes did meanwhile.
     pub(crate) fn estimate(&self, at: u32) -> u64 {
-        let known = self.known_of(at);
-        let parts = PARTS.saturating_mul(u64::from(known.known));
-        halved(parts, self.halvings(known.age))
+        let known = self.known(at);
+        let parts = PARTS.saturating_mul(u64::from(known.alive.updates));
+        halved(parts, self.updates.at(self.age(at))).saturating_add(self.others(at))
+    }
+
+    // Whether it is known how fast those die that were stored in place of another.
+    pub(crate) fn are_updates_known(&self) -> bool {
+        self.updates.is_known()
     }
 
     // Whether others' writes may have done much in the segment. Then its estimate may be far off.
     pub(crate) fn is_unsure(&self, at: u32) -> bool {
-        !self.is_rate_known || self.halvings(self.age(at)) > UNSURE
+        let known = self.known(at).alive;
+        let age = self.age(at);
+        known.updates > 0 && self.updates.is_unsure(age)
+            || known.others > 0 && self.others.is_unsure(age)
     }
 
     // The share of rows that were found alive lately.
@@ -204,28 +322,32 @@ impl Live {
     // A segment was gone over.
     pub(crate) fn learn(&mut self, found: Found) {
         let used = u64::from(found.used.max(1));
-        let share = u64::from(found.alive)
+        let share = u64::from(found.alive.sum())
             .saturating_mul(ALL)
             .checked_div(used)
             .unwrap_or(0);
         self.share = mixed(self.share, share);
-        if found.known == 0 || found.age == 0 {
-            return;
-        }
-        let known = log_of(u64::from(found.known).saturating_mul(2));
-        let alive = log_of(u64::from(found.alive).saturating_mul(2).max(1));
-        let halvings = known.saturating_sub(alive).saturating_mul(ALL);
-        let rate = halvings.checked_div(u64::from(found.age)).unwrap_or(0);
-        self.rate = if self.is_rate_known {
-            mixed(self.rate, rate)
-        } else {
-            rate
-        };
-        self.is_rate_known = true;
+        let (known, alive) = (found.known, found.alive);
+        let updates = u64::from(known.updates) * ALL / used;
+        let others = u64::from(known.others) * ALL / used;
+        self.updates = self
+            .updates
+            .learned(known.updates, alive.updates, found.age, updates);
+        self.others = self
+            .others
+            .learned(known.others, alive.others, found.age, others);
     }
 }
 
 // What is kept in mind of a number that was found, after what was found before.
 fn mixed(before: u64, found: u64) -> u64 {
     before.saturating_mul(MEMORY - 1).saturating_add(found) / MEMORY
+}
+
+// A sum of numbers that were found, of which the last ones count most, with one more that counts
+// for a share.
+fn summed(before: u64, found: u64, share: u64) -> u64 {
+    let fades = (before / MEMORY).saturating_mul(share) >> 16;
+    let more = found.saturating_mul(share) >> 16;
+    before.saturating_sub(fades).saturating_add(more)
 }

@@ -44,6 +44,11 @@ impl Needs {
         }
     }
 
+    // Whether the item of the row was stored in place of another, and seldom moved since.
+    pub(crate) fn is_update(&self, segment: u32, row: u32) -> bool {
+        self.of(segment, row) < NEED_OF_RECENT
+    }
+
     // From now on the item of the row needs so much.
     pub(crate) fn set(&mut self, segment: u32, row: u32, need: u8) {
         let at = self.row_at(segment, row);

@@ -14,7 +14,10 @@ use std::alloc::{AllocError, Global};
 // So many free segments are held ready, so that a put finds one.
 const RESERVE: u32 = 2;
 
-// So many free segments aren't plenty, however few there are in all.
+// From so many segments on, those that are many are enough for several times to live.
+const MANY_SEGMENTS: u32 = 64;
+
+// Of fewer segments so many free ones aren't plenty.
 const PLENTY: u32 = 31;
 
 /// How many segments were free and on probation when a round over all of them began.
@@ -52,7 +55,7 @@ pub struct Queues {
     pub(crate) segments: u32,
     pub(crate) rows: u32,
     lists: Lists,
-    needs: Needs,
+    pub(crate) needs: Needs,
     pub(crate) live: Live,
     // Those that have a row left: for puts, and for what moves.
     pub(crate) open: Open,
@@ -182,10 +185,11 @@ impl Queues {
     }
 
     // A row more of the segment was used. If it was the last one, the segment is open no more.
-    fn was_used(&mut self, segment: u32, is_stored: bool) {
-        self.live.was_used(segment, is_stored);
-        if self.live.used(segment) >= self.rows {
-            self.was_closed(segment);
+    fn was_used(&mut self, at: Place, is_stored: bool) {
+        let is_update = self.needs.is_update(at.segment, at.row);
+        self.live.was_used(at.segment, is_stored, is_update);
+        if self.live.used(at.segment) >= self.rows {
+            self.was_closed(at.segment);
         }
     }
 
@@ -196,20 +200,21 @@ impl Queues {
         let more = u8::from(!self.clearing.moves_all);
         self.needs
             .set(into.segment, into.row, need.saturating_add(more));
-        self.was_used(into.segment, false);
-        self.was_done(true);
+        self.was_used(into, false);
+        self.was_done(from, true);
     }
 
     /// A key of this hash was stored into the row.
     pub fn was_stored(&mut self, at: Place, hash: u64, is_update: bool) {
         let need = self.needs.of_put(hash, is_update);
         self.needs.set(at.segment, at.row, need);
-        self.was_used(at.segment, true);
+        self.was_used(at, true);
     }
 
-    /// The item of a row of the segment was replaced or deleted by the pass.
-    pub fn has_died(&mut self, segment: u32) {
-        self.live.has_died(segment);
+    /// The item of the row was replaced or deleted by the pass.
+    pub fn has_died(&mut self, at: Place) {
+        let is_update = self.needs.is_update(at.segment, at.row);
+        self.live.has_died(at.segment, is_update);
     }
 
     // How many free segments are held ready. Of segments of one row it is one more,
@@ -259,9 +264,9 @@ impl Queues {
         self.lists.ready() > self.segments / 8
     }
 
-    /// Whether more than one segment of four is free, and enough of them for several times to live.
+    /// Whether many segments are free, and enough of them for several times to live.
     pub fn are_plenty_free(&self) -> bool {
-        self.lists.ready() > (self.segments / 4).max(PLENTY)
+        self.are_many_free() && (self.segments >= MANY_SEGMENTS || self.lists.ready() > PLENTY)
     }
 
     /// Whether of the rows that are given up two of five are in full segments that have expired.

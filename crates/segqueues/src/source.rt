@@ -3,8 +3,8 @@
 //! Once few rows are dead, what is put must be read on probation to move on, and main segments
 //! alone are cleared for their dead rows, while that takes few moves.
 use crate::lists::Queue;
-use crate::live::{ALL, Found, PARTS};
-use crate::queues::Queues;
+use crate::live::{ALL, Found, Kinds, PARTS};
+use crate::queues::{Place, Queues};
 
 // One segment of so many is on probation. From there on the oldest of these is cleared.
 const PROBATION_SHARE: u32 = 12;
@@ -39,15 +39,15 @@ pub(crate) struct Clearing {
     // What was known of it at first, and found so far in how many rows.
     known: Found,
     looked: u32,
-    alive: u32,
+    alive: Kinds,
 }
 
 impl Clearing {
     pub(crate) fn none() -> Clearing {
         let none = Found {
-            known: 0,
+            known: Kinds::none(),
             used: 0,
-            alive: 0,
+            alive: Kinds::none(),
             age: 0,
         };
         Clearing {
@@ -55,16 +55,18 @@ impl Clearing {
             is_alone: false,
             known: none,
             looked: 0,
-            alive: 0,
+            alive: Kinds::none(),
         }
     }
 }
 
-// A segment that could be cleared, and how many rows of it are alive, in parts of a row.
+// A segment that could be cleared, and how many rows of it are alive, in parts of a row:
+// in all, and how many of those that weren't stored in place of another.
 #[derive(Clone, Copy)]
 struct Choice {
     segment: u32,
     live: u64,
+    others: u64,
 }
 
 // What was seen of the segments: which has the fewest live rows, which has of the main ones,
@@ -101,6 +103,14 @@ impl Seen {
 fn fewer(before: Option<Choice>, next: Choice) -> Option<Choice> {
     match before {
         Some(choice) if choice.live <= next.live => before,
+        _ => Some(next),
+    }
+}
+
+// The one with fewer live rows that weren't stored in place of another.
+fn fewer_others(before: Option<Choice>, next: Choice) -> Option<Choice> {
+    match before {
+        Some(choice) if choice.others <= next.others => before,
         _ => Some(next),
     }
 }
@@ -168,7 +178,11 @@ impl Queues {
             };
         }
         let live = self.live.estimate(segment);
-        let choice = Choice { segment, live };
+        let choice = Choice {
+            segment,
+            live,
+            others: self.live.others(segment),
+        };
         Seen {
             least: fewer(seen.least, choice),
             main: if self.queue_of(segment) == Queue::Main {
@@ -177,12 +191,22 @@ impl Queues {
                 seen.main
             },
             unknown: if self.is_unknown(segment) {
-                fewer(seen.unknown, choice)
+                self.first_tried(seen.unknown, choice)
             } else {
                 seen.unknown
             },
             rows,
             dead: seen.dead.saturating_add(all.saturating_sub(live)),
+        }
+    }
+
+    // Which of two is tried first of which little is known: the one with fewer live rows. Until
+    // one was tried, what was updated before is the likeliest to be updated by others.
+    fn first_tried(&self, before: Option<Choice>, next: Choice) -> Option<Choice> {
+        if self.live.are_updates_known() {
+            fewer(before, next)
+        } else {
+            fewer_others(before, next)
         }
     }
 
@@ -238,19 +262,13 @@ impl Queues {
     }
 
     // Of full segments: the main one with the fewest live rows, while enough rows are dead.
-    // Where that is unsure, it is cleared only if dead rows were found lately.
     // Those on probation come first, which are cleared by frequencies.
     fn main_with_dead_rows(&self, seen: Seen) -> Option<Choice> {
         let has_few = seen.dead.saturating_mul(FEW_DEAD) <= seen.rows;
         if has_few || self.count(Queue::Probation) > self.probation_share() {
             return None;
         }
-        let main = seen.main?;
-        if self.finds_dead_rows() || !self.live.is_unsure(main.segment) {
-            Some(main)
-        } else {
-            None
-        }
+        seen.main
     }
 
     // The segment with the fewest live rows, if they are few enough.
@@ -355,7 +373,7 @@ impl Queues {
             is_alone: self.is_alone(segment),
             known: self.live.known_of(segment),
             looked: 0,
-            alive: 0,
+            alive: Kinds::none(),
         };
         Some(segment)
     }
@@ -409,10 +427,11 @@ impl Queues {
     }
 
     /// A row of the source is done. It was alive, or wasn't.
-    pub fn was_done(&mut self, is_alive: bool) {
+    pub fn was_done(&mut self, at: Place, is_alive: bool) {
         self.clearing.looked = self.clearing.looked.saturating_add(1);
         if is_alive {
-            self.clearing.alive = self.clearing.alive.saturating_add(1);
+            let is_update = self.needs.is_update(at.segment, at.row);
+            self.clearing.alive = self.clearing.alive.with(is_update);
         }
     }
 
@@ -427,7 +446,7 @@ impl Queues {
             ..known
         };
         self.live.learn(found);
-        if u64::from(found.alive).saturating_mul(10)
+        if u64::from(found.alive.sum()).saturating_mul(10)
             <= u64::from(self.rows).saturating_mul(MOST_LIVE)
         {
             self.may_try = true;
