@@ -1,6 +1,7 @@
 pub mod Along
 pub mod Answering
 pub mod Closed
+pub mod Copied
 pub mod Dealt
 pub mod Ended
 pub mod Held

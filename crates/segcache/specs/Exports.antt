@@ -1,7 +1,8 @@
 -- What an export answers, and what it does with a handle, a key and a value.
-use Rattle.std.specs.Prelude.{◌≡◌, ℕ, ◌≤◌, List, length, ◌++◌, drop, Option, Some}
+use Rattle.std.specs.Prelude.{◌≡◌, ℕ, ◌≤◌, List, length, Option, Some}
 use Rattle.segword.specs.declared.key.TheConstants.{KEY_BYTES}
 use Rattle.segword.specs.Words.{value_limit}
+use Rattle.segstore.specs.Words.{CopiesValue}
 use Rattle.segcache.specs.declared.client.SharedClient.{SharedClient}
 use Rattle.segcache.specs.declared.kept.Kept.{Kept}
 use Rattle.segcache.specs.declared.kept.Kept.TheVariants as kept
@@ -57,7 +58,4 @@ pub record ByValue (Refuses : Status → Type 0) (value : List ℕ)
 -- to its front, and what is behind them is as it was. A shorter buffer is as it was.
 pub record CopiesOut (bytes : List ℕ) (returned : Status) (out next : Out) : Type 0 where
   pub len : next.1 ≡ length bytes
-  pub fits : length bytes ≤ length out.0
-      → (returned ≡ status.Ok) × (next.0 ≡ bytes ++ drop (length bytes) out.0)
-  pub short : ¬ (length bytes ≤ length out.0)
-      → (returned ≡ status.ShortBuffer) × (next.0 ≡ out.0)
+  pub copies : CopiesValue bytes (returned ≡ status.Ok) (returned ≡ status.ShortBuffer) out.0 next.0

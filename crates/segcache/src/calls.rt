@@ -6,20 +6,21 @@ ghost use Rattle.segcache.specs.Made.{WritesWhen};
 use crate::guest::Guest;
 use crate::when::When;
 use segclient::{
-    DeleteAnswer, GetAnswer, GetsAnswer, Index, Key, Member, PutAnswer, Value, WriteAnswer,
+    DeleteAnswer, GetsAnswer, Index, IntoAnswer, Key, Member, PutAnswer, Value, WriteAnswer,
 };
 
 impl Guest {
-    ghost use Rattle.segclient.specs.Made.{DeletesKey, Gets, GetsVersion};
+    ghost use Rattle.segclient.specs.Made.{DeletesKey, GetsInto, GetsVersion};
     ghost use Rattle.segclient.specs.Puts.{Puts, PutsFor};
     ghost use Rattle.segcache.specs.Guest.{At, MakesCall};
 
-    /// The value under a key.
-    pub(crate) fn get(&mut self, key: &Key, now: u32) -> GetAnswer
-        ensures { MakesCall (At now (Gets key.now result)) self.old self.new }
+    /// The value under a key, which goes to the front of a buffer, if that has room for it.
+    pub(crate) fn get_into(&mut self, key: &Key, now: u32, bytes: &mut [u8]) -> IntoAnswer
+        ensures { MakesCall (At now (GetsInto key.now result bytes.old bytes.new))
+            self.old self.new }
     {
         self.member.set_now(now);
-        self.member.get(self.share.index(), key)
+        self.member.get_into(self.share.index(), key, bytes)
     }
 
     /// The value under a key, with the version of its bucket.

@@ -5,7 +5,7 @@ ghost use Rattle.segcache.specs.Wants.{put_wants, write_wants};
 
 use crate::guest::Guest;
 use crate::when::When;
-use segclient::{DeleteAnswer, GetAnswer, GetsAnswer, Key, PutAnswer, Value, WriteAnswer};
+use segclient::{DeleteAnswer, GetsAnswer, IntoAnswer, Key, PutAnswer, Value, WriteAnswer};
 use segshards::shard_of;
 use segword::hash;
 
@@ -25,7 +25,7 @@ pub struct SharedClient {
 
 impl SharedClient {
     ghost use Rattle.std.specs.Prelude.{length, None};
-    ghost use Rattle.segclient.specs.Made.{DeletesKey, Gets, GetsVersion};
+    ghost use Rattle.segclient.specs.Made.{DeletesKey, GetsInto, GetsVersion};
     ghost use Rattle.segclient.specs.Puts.{Puts, PutsFor};
     ghost use Rattle.segshards.specs.Shards.{shard_of};
     ghost use Rattle.segcache.specs.Calls.{CallsKey, MakesCall};
@@ -56,14 +56,15 @@ impl SharedClient {
         shard_of(hash(key), self.guests.len())
     }
 
-    /// The value under a key.
+    /// The value under a key, which goes to the front of a buffer, if that has room for it.
     #[inline(always)]
-    pub(crate) fn get(&mut self, key: &Key, now: u32) -> GetAnswer
-        ensures { MakesCall key.now (At now (Gets key.now result)) self.old self.new }
+    pub(crate) fn get_into(&mut self, key: &Key, now: u32, bytes: &mut [u8]) -> IntoAnswer
+        ensures { MakesCall key.now (At now (GetsInto key.now result bytes.old bytes.new))
+            self.old self.new }
     {
         let place = self.place_of(key);
         let guest = &mut self.guests[place];
-        guest.get(key, now)
+        guest.get_into(key, now, bytes)
     }
 
     /// The value under a key, with the version of its bucket.

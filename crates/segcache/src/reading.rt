@@ -2,13 +2,13 @@
 ghost use Rattle.std.specs.Prelude.{Some};
 ghost use Rattle.segcache.specs.Exports.{Answers, CopiesOut};
 ghost use Rattle.segcache.specs.Reading.{Got, GotKey, GotKeyVersion, GotVersion};
-ghost use Rattle.segcache.specs.Reading.{ReturnsGet, ReturnsGets};
+ghost use Rattle.segcache.specs.Reading.{ReturnsGets, TellsLength};
 
 use crate::client::SharedClient;
 use crate::handle::Handle;
 use crate::kept::Kept;
 use crate::status::Status;
-use segclient::{GetAnswer, GetsAnswer, Key, Value};
+use segclient::{GetsAnswer, IntoAnswer, Key, Value};
 use std::alloc::Global;
 
 /// Looks up a key at a moment, and copies its value to the buffer.
@@ -94,17 +94,24 @@ pub(crate) fn get_key(
     let Some(key) = Key::new(key) else {
         return Status::BadKey;
     };
-    copy_get(client.get(&key, now), value, value_len)
+    tell_length(client.get_into(&key, now, value), value_len)
 }
 
-// Copies out what a get found, and returns its status.
-fn copy_get(answer: GetAnswer, value: &mut [u8], value_len: &mut usize) -> Status
-    ensures { ReturnsGet answer result (value.old, value_len.old) (value.new, value_len.new) }
+// Writes the length of the value that a get found, and returns its status.
+fn tell_length(told: IntoAnswer, value_len: &mut usize) -> Status
+    ensures { TellsLength told result value_len.old value_len.new }
 {
-    match answer {
-        GetAnswer::Found(found) => copy_out(&found, value, value_len),
-        GetAnswer::Miss => Status::Miss,
-        GetAnswer::Busy => Status::Busy,
+    match told {
+        IntoAnswer::Found(length) => {
+            *value_len = length;
+            Status::Ok
+        }
+        IntoAnswer::Short(length) => {
+            *value_len = length;
+            Status::ShortBuffer
+        }
+        IntoAnswer::Miss => Status::Miss,
+        IntoAnswer::Busy => Status::Busy,
     }
 }
 

@@ -6,8 +6,8 @@ use Rattle.segmodel.specs.Words.{DeleteAnswer, GetAnswer, GetsAnswer, Request, W
 use Rattle.segbase.specs.Words.{Board, Pass}
 use Rattle.segstore.specs.Words.{memo}
 use Rattle.segread.specs.declared.held.HoldAnswer.{HoldAnswer}
-use Rattle.segread.specs.Words.{HeldRow, Hold, HoldsItem, HoldsRow, ReadsKey, ReadsRow}
-use Rattle.segread.specs.Words.{ReadsVersion, ReleasesHold, RowAnswer}
+use Rattle.segread.specs.Words.{HeldRow, Hold, HoldsItem, HoldsRow, Into, IntoAnswer, ReadsKey}
+use Rattle.segread.specs.Words.{ReadsRow, ReadsVersion, ReleasesHold, RowAnswer}
 use Rattle.segwrite.specs.Words.{Deletes, Writes}
 use Rattle.segindex.specs.Words.{LearnsNote, MakesNote, MeetsPass, Note, ReturnsStats}
 use Rattle.segindex.specs.declared.table_stats.IndexStats.{IndexStats}
@@ -37,6 +37,10 @@ pub record Gets (key : List ℕ) (told : GetAnswer) (b : Board) (old new : Membe
 pub record GetsVersion (key : List ℕ) (told : GetsAnswer) (b : Board) (old new : Member)
     : Type 0 where
   pub reads : ReadsVersion b key (draw_of old) old.clock told old.pass new.pass
+-- a get of the key had an answer, and its value went into a buffer
+abbrev pub GetsInto : List ℕ → IntoAnswer → List ℕ → List ℕ → Board → Member → Member → Type 0
+GetsInto key told bytes next b old new = Into (λ answer. Gets key answer b old new) told bytes next
+
   pub counts : new.stats ≡ counted (gets_tally told) old.stats
   pub draws : DrawsOnce old new
   pub keeps : Keeps old new

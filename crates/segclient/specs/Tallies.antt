@@ -8,6 +8,8 @@ use Rattle.segmodel.specs.declared.answer.GetAnswer.TheVariants as get
 use Rattle.segmodel.specs.declared.answer.GetsAnswer.TheVariants as gets
 use Rattle.segmodel.specs.declared.answer.RefillAnswer.TheVariants as refill
 use Rattle.segmodel.specs.declared.answer.WriteAnswer.TheVariants as write
+use Rattle.segread.specs.declared.into.IntoAnswer.TheVariants as into
+use Rattle.segread.specs.Words.{IntoAnswer}
 use Rattle.segclient.specs.declared.put.PutAnswer.{PutAnswer}
 use Rattle.segclient.specs.declared.put.PutAnswer.TheVariants as put
 use Rattle.segclient.specs.declared.tally.Tally.{Tally}
@@ -17,6 +19,13 @@ abbrev pub get_tally : GetAnswer → Tally
 get_tally (get.Found value) = tally.Hit
 get_tally get.Miss = tally.Miss
 get_tally get.Busy = tally.Busy
+
+-- as of the get, also where the buffer was too short
+abbrev pub into_tally : IntoAnswer → Tally
+into_tally (into.Found length) = tally.Hit
+into_tally (into.Short length) = tally.Hit
+into_tally into.Miss = tally.Miss
+into_tally into.Busy = tally.Busy
 
 abbrev pub gets_tally : GetsAnswer → Tally
 gets_tally (gets.Found value version) = tally.Hit

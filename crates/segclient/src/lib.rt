@@ -8,6 +8,7 @@ mod clearing;
 mod client;
 mod effort;
 mod hold;
+mod into;
 mod lives;
 mod many;
 mod member;
@@ -30,8 +31,9 @@ pub use note::{what_a_put_adds, what_is_put_stands};
 pub use put::PutAnswer;
 pub use ring::own_ring;
 pub use segindex::{
-    DeleteAnswer, GetAnswer, GetsAnswer, Hold, HoldAnswer, Index, IndexStats, Key, MakeFault, Note,
-    OutOfMemory, Pass, RowAnswer, Shape, ShapeFault, Share, Value, WriteAnswer, hold_stays,
+    DeleteAnswer, GetAnswer, GetsAnswer, Hold, HoldAnswer, Index, IndexStats, IntoAnswer, Key,
+    MakeFault, Note, OutOfMemory, Pass, RowAnswer, Shape, ShapeFault, Share, Value, WriteAnswer,
+    hold_stays,
 };
 pub use stats::Stats;
 pub use tally::Tally;

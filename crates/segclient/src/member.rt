@@ -37,7 +37,7 @@ pub struct Member {
 }
 
 // The state of the draws after the next one.
-fn drawn(draws: u32) -> u32
+pub(crate) fn drawn(draws: u32) -> u32
     ensures { result ≡ next_draws draws }
 {
     draws.wrapping_mul(1_664_525).wrapping_add(1_013_904_223)

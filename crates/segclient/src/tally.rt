@@ -1,9 +1,10 @@
 //! How an answer is counted, by clients and by loads.
 ghost use Rattle.std.specs.Prelude.{◌≡◌};
-ghost use Rattle.segclient.specs.Tallies.{delete_tally, get_tally, gets_tally};
+ghost use Rattle.segclient.specs.Tallies.{delete_tally, get_tally, gets_tally, into_tally};
 ghost use Rattle.segclient.specs.Tallies.{put_tally, write_tally};
 
 use crate::put::PutAnswer;
+use segindex::IntoAnswer;
 use segmodel::{DeleteAnswer, GetAnswer, GetsAnswer, WriteAnswer};
 
 /// The outcome of a call.
@@ -33,6 +34,17 @@ impl Tally {
             GetAnswer::Found(_) => Tally::Hit,
             GetAnswer::Miss => Tally::Miss,
             GetAnswer::Busy => Tally::Busy,
+        }
+    }
+
+    /// How an answer to a get is counted whose value goes into a buffer.
+    pub fn of_into(told: &IntoAnswer) -> Tally
+        ensures { result ≡ into_tally told.now }
+    {
+        match told {
+            IntoAnswer::Found(_) | IntoAnswer::Short(_) => Tally::Hit,
+            IntoAnswer::Miss => Tally::Miss,
+            IntoAnswer::Busy => Tally::Busy,
         }
     }
 

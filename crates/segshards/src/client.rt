@@ -2,7 +2,7 @@
 ghost use Rattle.std.specs.Prelude.{◌≤◌, vec_len};
 
 use crate::shard::shard_of;
-use segclient::{GetAnswer, GetsAnswer, Index, Key};
+use segclient::{GetAnswer, GetsAnswer, Index, IntoAnswer, Key};
 use segword::hash;
 
 /// A client of each shard of a cache, for one thread at a time, with one clock.
@@ -24,7 +24,7 @@ pub struct Client<'c> {
 
 impl<'c> Client<'c> {
     ghost use Rattle.std.specs.Prelude.{◌≡◌, ◌<◌, length};
-    ghost use Rattle.segclient.specs.Made.{Gets, GetsVersion};
+    ghost use Rattle.segclient.specs.Made.{Gets, GetsInto, GetsVersion};
     ghost use Rattle.segshards.specs.Client.{MakesCall};
     ghost use Rattle.segshards.specs.Clients.{IsSame};
     ghost use Rattle.segshards.specs.Shards.{shard_of};
@@ -48,6 +48,20 @@ impl<'c> Client<'c> {
         let shard = &mut self.shards[place];
         shard.set_now(self.clock);
         shard.get(key)
+    }
+
+    /// The value under a key, as `get` reads it, but it goes to the front of a buffer.
+    /// What is behind the value stays as it was, and so does a buffer that is too short.
+    #[inline(always)]
+    pub fn get_into(&mut self, key: &Key, bytes: &mut [u8]) -> IntoAnswer
+        ensures reads { MakesCall key.now (GetsInto key.now result bytes.old bytes.new)
+            self.old self.new }
+        ensures same { IsSame self.old self.new }
+    {
+        let place = self.place_of(key);
+        let shard = &mut self.shards[place];
+        shard.set_now(self.clock);
+        shard.get_into(key, bytes)
     }
 
     /// The value under a key, with the version of the key's bucket, for a later compare-and-swap.

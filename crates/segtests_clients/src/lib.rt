@@ -15,6 +15,8 @@ mod client_caller;
 #[cfg(test)]
 mod closing;
 #[cfg(test)]
+mod copied_reads;
+#[cfg(test)]
 mod counting;
 #[cfg(test)]
 mod draws;

@@ -7,6 +7,7 @@ use Rattle.segcache.specs.Guest.{At}
 use Rattle.segclient.specs.Made.{Gets}
 use Rattle.segcache.specs.Reading.{MakesGet}
 use Rattle.segcache.proofs.Answering.{bad_key, good_key}
+use Rattle.segcache.proofs.Copied.{answer_of, call_of, copies_of, returns_copy}
 use Rattle.segcache.proofs.reading.get_key.Goals as goal
 
 pub returns-in_default : goal.returns-in_default
@@ -18,12 +19,17 @@ returns-in_default c =
 pub returns : goal.returns
 returns c =
     let out : Out = (c.args.value.now, c.args.value_len.now) in
-    let next : Out = (c.copy_get.new.value, c.copy_get.new.value_len) in
-    good_key (WritesNothing out next c.copy_get.result) c.args.key.now
-    (MakesGet c.args.key.now c.args.now out next c.copy_get.result) c.args.client.now c.get.new.self
+    let next : Out = (c.get_into.new.bytes, c.tell_length.new.value_len) in
+    let old = c.args.client.now in let new = c.get_into.new.self in
+    let told = c.get_into.result in
+    let answer = answer_of _ c.args.now told out.0 next.0 old new c.get_into.ensures in
+    good_key (WritesNothing out next c.tell_length.result) c.args.key.now
+    (MakesGet c.args.key.now c.args.now out next c.tell_length.result) old new
     (c.in-Some.ensures.variant.0 refl)
     (record {
-      answer = c.get.result;
-      calls = subst (λ (k : List ℕ). MakesCall k (At c.args.now (Gets k c.get.result)) c.args.client.now c.get.new.self) c.in-Some.ensures.some c.get.ensures;
-      returns = c.copy_get.ensures;
+      answer = answer;
+      calls = subst (λ (k : List ℕ). MakesCall k (At c.args.now (Gets k answer)) old new) c.in-Some.ensures.some
+          (call_of _ c.args.now told out.0 next.0 old new c.get_into.ensures);
+      returns = returns_copy answer told c.tell_length.result out.0 next.0 out.1 next.1
+          (copies_of _ c.args.now told out.0 next.0 old new c.get_into.ensures) c.tell_length.ensures;
     })
