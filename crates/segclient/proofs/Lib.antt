@@ -10,6 +10,7 @@ pub mod Order
 pub mod Places
 pub mod Rooms
 pub mod Runs
+pub mod Serving
 pub mod Setting
 pub mod Steps
 pub mod Together

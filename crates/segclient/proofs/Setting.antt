@@ -40,12 +40,12 @@ pub not_outside : (span : Span) (until : ℕ) (p : Pass) → StoresUntil until p
 not_outside span until p stores within = ap (misses span) (until_is until p stores)
     ∙ or_from (nat_lt until span.earliest) (nat_lt span.latest until) (le-ltb until span.earliest within.0) (le-ltb span.latest until within.1)
 
+pub timely_span : (span : Span) (p : Pass) → is_outside span p ≡ false → (until : ℕ) → StoresUntil until p → IsInSpan span until
+timely_span span p timely until stores = in_span span until (ap (misses span) (sym (until_is until p stores)) ∙ timely)
+
 module _ (b : Board) (order : Order) where
   abbrev IsTimely : Pass → Type 0
   IsTimely p = is_outside order.policy.span p ≡ false
-
-  timely_until : (p : Pass) → IsTimely p → (until : ℕ) → StoresUntil until p → IsInSpan order.policy.span until
-  timely_until p timely until stores = in_span order.policy.span until (ap (misses order.policy.span) (sym (until_is until p stores)) ∙ timely)
 
   pub no_sets : (p : Pass) → Makes b (plan_of order) (busy_sets 0) p p
   unfolding busy_sets
@@ -59,7 +59,7 @@ module _ (b : Board) (order : Order) where
   set_more told busy p q r timely were same set writes =
       let until = same_until p q same in
       one_more b (plan_of order) (sets told) (busy_sets busy) p q r were
-      (order.key.now, order.value.now, order.policy.moment, refl, timely_until q (ap (misses order.policy.span) until ∙ timely), set, writes)
+      (order.key.now, order.value.now, order.policy.moment, refl, timely_span order.policy.span q (ap (misses order.policy.span) until ∙ timely), set, writes)
 
   pub busy_more : (busy : ℕ) (p q r : Pass) → IsTimely p → Makes b (plan_of order) (busy_sets busy) p q
       → q.plain ≡ p.plain → Writes b (Set order.key.now order.value.now order.policy.moment) write.Busy q r

@@ -19,6 +19,10 @@ latest_of now time = until_last (now + time) (now + time)
 abbrev pub earliest_of : ℕ → ℕ → ℕ
 earliest_of now time = until_last (now + time) (now + time - time / 8)
 
+-- all deadlines that come in this time, and not before seven eighths of it
+abbrev pub life_span : ℕ → ℕ → Span
+life_span now time = record { earliest = earliest_of now time; latest = latest_of now time }
+
 -- what a client refills for this time has a multiple of an eighth of it, or of a 64th, which only a
 -- client with queues asks for
 abbrev pub IsDeadlineFor : Bool → ℕ → ℕ → ℕ → Type 0

@@ -1,6 +1,6 @@
 -- What each call of a client is, in one record: over the index's board and what it has
 -- beside the index.
-use Rattle.std.specs.Prelude.{◌≡◌, ◌≢◌, ℕ, ◌≤◌, false, is_some, List, [], length, Option, Some, None, IsSomeAnd}
+use Rattle.std.specs.Prelude.{◌≡◌, ◌≢◌, ◌⊎◌, ℕ, ◌≤◌, Bool, true, false, not, is_some, List, [], length, Option, Some, None, IsSomeAnd}
 use Rattle.segmodel.specs.declared.answer.WriteAnswer.TheVariants as write
 use Rattle.segmodel.specs.Words.{DeleteAnswer, GetAnswer, GetsAnswer, Request, WriteAnswer}
 use Rattle.segbase.specs.Words.{Board, Pass}
@@ -15,6 +15,10 @@ use Rattle.segclient.specs.declared.member.Member.{Member}
 use Rattle.segclient.specs.declared.effort.Effort.{Effort}
 use Rattle.segclient.specs.Clearing.{Clears, ClearsSome, Step}
 use Rattle.segclient.specs.Counting.{cleared_too, counted}
+use Rattle.segclient.specs.Lives.{life_span}
+use Rattle.segclient.specs.declared.segments.Span.{Span}
+use Rattle.segclient.specs.PutParts.{is_outside}
+use Rattle.segclient.specs.Puts.{ChoosesFor, StoredFor}
 use Rattle.segclient.specs.Member.{draw_of, DrawsOnce, Keeps, KeepsDraws, KeepsSettings}
 use Rattle.segclient.specs.Tallies.{delete_tally, get_tally, gets_tally, write_tally}
 
@@ -33,14 +37,14 @@ pub record Gets (key : List ℕ) (told : GetAnswer) (b : Board) (old new : Membe
   pub draws : DrawsOnce old new
   pub keeps : Keeps old new
 
--- a get of the key with its version had this answer
-pub record GetsVersion (key : List ℕ) (told : GetsAnswer) (b : Board) (old new : Member)
-    : Type 0 where
-  pub reads : ReadsVersion b key (draw_of old) old.clock told old.pass new.pass
 -- a get of the key had an answer, and its value went into a buffer
 abbrev pub GetsInto : List ℕ → IntoAnswer → List ℕ → List ℕ → Board → Member → Member → Type 0
 GetsInto key told bytes next b old new = Into (λ answer. Gets key answer b old new) told bytes next
 
+-- a get of the key with its version had this answer
+pub record GetsVersion (key : List ℕ) (told : GetsAnswer) (b : Board) (old new : Member)
+    : Type 0 where
+  pub reads : ReadsVersion b key (draw_of old) old.clock told old.pass new.pass
   pub counts : new.stats ≡ counted (gets_tally told) old.stats
   pub draws : DrawsOnce old new
   pub keeps : Keeps old new
@@ -73,12 +77,36 @@ pub record EndsWrite (told : WriteAnswer) (b : Board) (old new : Member) : Type 
   pub draws : KeepsDraws old new
   pub settings : KeepsSettings old new
 
--- What is asked at this moment had this answer.
+-- the deadlines that let an item live for seven eighths of the client's time to live at least,
+-- and for all of it at most
+abbrev pub life_of : Member → Span
+life_of member = life_span member.clock member.time_to_live
+
+-- Before a write the pass chose a segment for it. The write can be made unless the deadline of the
+-- segment that the pass then stores into lets no item live so.
+pub record BeginsWrite (begun : Bool) (b : Board) (old new : Member) : Type 0 where
+  pub chooses : ChoosesFor (life_of old) b old.pass new.pass
+  pub timely : begun ≡ not (is_outside (life_of old) new.pass)
+  pub counts : KeepsCounts old new
+
+-- A write was made. Or the deadline of the segment that the pass stores into isn't one of these,
+-- and then it is NoRoom, and nothing was done.
+abbrev pub WritesIfTimely : Board → Span → Request → WriteAnswer → Pass → Pass → Type 0
+WritesIfTimely b span request told p q =
+    ((is_outside span p ≡ true) × (told ≡ write.NoRoom) × (q ≡ p))
+    ⊎ ((is_outside span p ≡ false) × Writes b request told p q)
+
+-- What is asked at this moment had this answer. Before, the pass chose a segment, without a step.
+-- Where it is Stored, the deadline of the segment it is stored into comes in the client's time to
+-- live, and not before seven eighths of it: it can be read so long, unless it goes before.
 -- Once it is Stored, a client with queues clears rows of another segment, as after a put.
 pub record MakesWrite (request : ℕ → Request) (told : WriteAnswer) (b : Board)
     (old new : Member) : Type 0 where
+  pub chosen : Pass
+  pub chooses : ChoosesFor (life_of old) b old.pass chosen
   pub between : Pass
-  pub writes : Writes b (request old.clock) told old.pass between
+  pub writes : WritesIfTimely b (life_of old) (request old.clock) told chosen between
+  pub stored : told ≡ write.Stored → StoredFor (life_of old) between
   pub steps : List Step
   pub clears : Clears b old.cutoff steps between new.pass
   pub few_steps : length steps ≤ 16

@@ -32,7 +32,7 @@ abbrev pub draw_of : Member → ℕ
 draw_of member = next_draws member.draws / 256
 
 -- a new one of the pass: its ring begins with its first segment, its draws with the pass's
--- number, its clock shows 0, what it puts expires at the largest moment,
+-- number, its clock shows 0, what it stores expires at the largest moment,
 -- its puts keep by queues nothing under this cutoff, or nothing, and it counted nothing
 pub record Begins (shape : Shape) (least : Option ℕ) (p : Pass) (member : Member) : Type 0 where
   pub pass : member.pass ≡ p
@@ -44,7 +44,7 @@ pub record Begins (shape : Shape) (least : Option ℕ) (p : Pass) (member : Memb
   pub queues : is_some member.segments.queues ≡ is_some least
   pub stats : member.stats ≡ no_stats
 
--- it has the same pass, with the same clock; what it puts expires as before,
+-- it has the same pass, with the same clock; what it stores expires as before,
 -- and its puts keep what they kept before, by queues if they did
 pub record KeepsSettings (old new : Member) : Type 0 where
   pub number : number new.pass ≡ number old.pass
@@ -81,7 +81,7 @@ pub record SetsNow (now : ℕ) (old new : Member) : Type 0 where
   pub time_to_live : new.time_to_live ≡ old.time_to_live
   pub cutoff : new.cutoff ≡ old.cutoff
 
--- what it puts expires so much later, and nothing else is changed
+-- what it stores expires so much later, and nothing else is changed
 pub record SetsTimeToLive (time : ℕ) (old new : Member) : Type 0 where
   pub rest : KeepsRest old new
   pub clock : new.clock ≡ old.clock

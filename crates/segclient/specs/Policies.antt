@@ -2,17 +2,14 @@
 use Rattle.std.specs.Prelude.{◌≡◌, ℕ, is_some}
 use Rattle.segclient.specs.declared.member.Member.{Member}
 use Rattle.segclient.specs.declared.segments.Policy.{Policy}
-use Rattle.segclient.specs.Lives.{earliest_of, IsDeadlineFor, IsLife, latest_of}
+use Rattle.segclient.specs.Lives.{IsDeadlineFor, IsLife, life_span}
 use Rattle.segclient.specs.Puts.{deadline_of}
 
 abbrev pub policy_of : Member → Policy
 policy_of member = record {
   cutoff = member.cutoff;
   deadline = deadline_of member;
-  span = record {
-    earliest = earliest_of member.clock member.time_to_live;
-    latest = latest_of member.clock member.time_to_live;
-  };
+  span = life_span member.clock member.time_to_live;
   moment = member.clock;
 }
 

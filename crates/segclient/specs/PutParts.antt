@@ -6,8 +6,8 @@ use Rattle.segmodel.specs.declared.answer.RefillAnswer.TheVariants as refill
 use Rattle.segmodel.specs.declared.answer.WriteAnswer.TheVariants as write
 use Rattle.segmodel.specs.declared.request.Request.TheVariants.{Set}
 use Rattle.segmodel.specs.Words.{EvictAnswer, owner, Request}
-use Rattle.segbase.specs.Words.{Board, current_of, deadline_of, number, Pass}
-use Rattle.segstore.specs.Words.{has_room}
+use Rattle.segbase.specs.Words.{Board, current_of, deadline_of, number, Pass, used_of}
+use Rattle.segstore.specs.Words.{has_room, is_below}
 use Rattle.segevict.specs.Words.{EvictsSegment}
 use Rattle.segindex.specs.Refilling.{RefillsSegment}
 use Rattle.segclient.specs.declared.put.Order.{Order}
@@ -117,6 +117,12 @@ misses span (Some deadline) = nat_lt deadline span.earliest || nat_lt span.lates
 
 abbrev pub is_outside : Span → Pass → Bool
 is_outside span p = misses span (current_deadline p)
+
+-- a row of the segment is left, and its deadline is one of these
+abbrev pub IsOpen : Shape → Span → Pass → ℕ → Type 0
+IsOpen shape span p segment =
+    (is_below shape.rows (used_of p segment) ≡ true)
+    × (misses span (deadline_of p segment) ≡ false)
 
 -- ---- sets
 

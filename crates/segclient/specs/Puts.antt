@@ -1,5 +1,6 @@
 -- What a put of a client came to.
 use Rattle.std.specs.Prelude.{◌≡◌, ◌≢◌, ◌⊎◌, ℕ, ◌/◌, ◌≤◌, Bool, true, false, is_some, List, [], length, All, Some}
+use Rattle.segword.specs.Words.{Shape}
 use Rattle.segmodel.specs.declared.answer.WriteAnswer.TheVariants as write
 use Rattle.segmodel.specs.declared.request.Request.TheVariants.{Set}
 use Rattle.segmodel.specs.Words.{owner}
@@ -17,6 +18,7 @@ use Rattle.segclient.specs.Lives.{deadline_by, IsDeadlineFor, IsLife}
 use Rattle.segclient.specs.Member.{KeepsSettings}
 use Rattle.segclient.specs.PutCalls.{IsInSpan, IsRefused, Makes, PutCall, room_plan, sets}
 use Rattle.segclient.specs.PutCalls.{StoresUntil}
+use Rattle.segclient.specs.PutParts.{is_outside}
 use Rattle.segclient.specs.Putting.{IsPutAnswer, most_calls, SetsAtMost16, SetsUntilFull}
 use Rattle.segclient.specs.Tallies.{put_tally}
 
@@ -29,6 +31,17 @@ deadline_of member = deadline_by member.clock member.time_to_live (member.time_t
 abbrev pub Chooses : Board → Pass → Pass → Type 0
 Chooses b p q =
     (q ≡ p) ⊎ ((segment : ℕ) × MakesCurrent b segment current_answer.Current p q)
+
+-- it is as it was, or it stores into a segment with one of these deadlines and a row left
+abbrev pub Moves : Shape → Span → Pass → Pass → Type 0
+Moves shape span p q = (q ≡ p) ⊎ ((is_outside span q ≡ false) × (has_room shape q ≡ true))
+
+-- The pass chose so, for one of these deadlines: it stays where it stored with such a deadline
+-- and a row left.
+pub record ChoosesFor (span : Span) (b : Board) (p q : Pass) : Type 0 where
+  pub chooses : Chooses b p q
+  pub moves : Moves b.shape span p q
+  pub stays : is_outside span p ≡ false → has_room b.shape p ≡ true → q ≡ p
 
 -- what the pass stored has one of these deadlines: that of its current segment
 abbrev pub StoredFor : Span → Pass → Type 0

@@ -1,6 +1,8 @@
 -- What a put that is Stored left, which others may be told of; and what puts add to the history.
-use Rattle.std.specs.Prelude.{ℕ, Bool, List, sum_by}
+use Rattle.std.specs.Prelude.{◌≢◌, ℕ, Bool, true, List, sum_by}
+use Rattle.segmodel.specs.declared.answer.WriteAnswer.TheVariants as write
 use Rattle.segmodel.specs.declared.request.Request.TheVariants.{Set}
+use Rattle.segmodel.specs.Words.{Request, WriteAnswer}
 use Rattle.segbase.specs.Words.{mine, number, seen, SinceFirst}
 use Rattle.segcore.specs.Event as event
 use Rattle.segindex.specs.Words.{board_of, Index, shape_of, StoresBetween}
@@ -9,6 +11,7 @@ use Rattle.segclient.specs.declared.put.PutAnswer.{PutAnswer}
 use Rattle.segclient.specs.declared.put.PutAnswer.TheVariants as put
 use Rattle.segclient.specs.Clearing.{effort_of_steps}
 use Rattle.segclient.specs.Entries.{AddsForPut, AddsRoom, IsOnly}
+use Rattle.segclient.specs.Made.{MakesWrite}
 use Rattle.segclient.specs.Member.{IsMember}
 use Rattle.segclient.specs.PutCalls.{came_to, evicted_keys, kept_items, refilled_segments}
 use Rattle.segclient.specs.PutParts.{effort_of}
@@ -42,3 +45,11 @@ RoomAdds = (i : Index) (made : Bool) (old new : Member)
     → AddsRoom (shape_of i) (number old.pass) old.cutoff (IsOnly (deadline_of old))
     (sum_by (came_to refilled_segments) room.calls) (sum_by (came_to kept_items) room.calls)
     (sum_by (came_to evicted_keys) room.calls) (mine old.pass) (mine new.pass)
+
+-- A write right after room was made, at the same moment and for the same time to live, isn't NoRoom.
+abbrev pub RoomServes : Type 0
+RoomServes = (i : Index) (request : ℕ → Request) (told : WriteAnswer) (old made new : Member)
+    → IsMember i old
+    → MakesRoomFor true (board_of i) old made
+    → MakesWrite request told (board_of i) made new
+    → told ≢ write.NoRoom

@@ -1,9 +1,9 @@
-//! Which of the open segments of a pass a put stores into: one with a deadline that is asked.
-ghost use Rattle.std.specs.Prelude.{◌≡◌, true, false, is_some};
+//! Which of the open segments of a pass is stored into: one with a deadline that is asked.
+ghost use Rattle.std.specs.Prelude.{◌≡◌, true, false, is_some, IfSome};
 ghost use Rattle.segindex.specs.Words.{board_of, shape_of};
-ghost use Rattle.segstore.specs.Words.{has_room, IsQuiet};
-ghost use Rattle.segclient.specs.PutParts.{is_outside};
-ghost use Rattle.segclient.specs.Puts.{Chooses};
+ghost use Rattle.segstore.specs.Words.{IsQuiet};
+ghost use Rattle.segclient.specs.PutParts.{is_outside, IsOpen};
+ghost use Rattle.segclient.specs.Puts.{Chooses, ChoosesFor, Moves};
 
 use crate::queues::segment_at;
 use crate::room::has_room;
@@ -26,7 +26,9 @@ pub(crate) fn is_outside(pass: &Pass, span: Span) -> bool
 }
 
 // Whether the segment is in use, with such a deadline and a row left.
-fn is_open(index: &Index, pass: &Pass, segment: u32, span: Span) -> bool {
+fn is_open(index: &Index, pass: &Pass, segment: u32, span: Span) -> bool
+    ensures { result ≡ true → IsOpen (shape_of index.now) span pass.now segment }
+{
     let (Some(used), Some(deadline)) = (pass.used(segment), pass.deadline(segment)) else {
         return false;
     };
@@ -37,7 +39,9 @@ fn is_open(index: &Index, pass: &Pass, segment: u32, span: Span) -> bool {
 }
 
 // The first segment of the pass that is open so.
-fn first_open(index: &Index, pass: &Pass, span: Span) -> Option<u32> {
+fn first_open(index: &Index, pass: &Pass, span: Span) -> Option<u32>
+    ensures { IfSome result (IsOpen (shape_of index.now) span pass.now) }
+{
     let segments = index.shape().segments_each;
     let first = pass.number().saturating_mul(segments);
     for at in 0..segments {
@@ -52,6 +56,7 @@ fn first_open(index: &Index, pass: &Pass, span: Span) -> Option<u32> {
 // A segment of the pass that is open so. The queues know one without a look at all.
 fn open_for(index: &Index, pass: &Pass, segments: &Segments, span: Span) -> Option<u32>
     requires quiet { IsQuiet (board_of index.now) pass.now }
+    ensures { IfSome result (IsOpen (shape_of index.now) span pass.now) }
 {
     let Some(queues) = segments.queues.as_ref() else {
         return first_open(index, pass, span);
@@ -110,20 +115,19 @@ pub(crate) fn is_filled_fine(segments: &Segments) -> bool
 fn switch(index: &Index, pass: &mut Pass, segments: &Segments, span: Span)
     requires quiet { IsQuiet (board_of index.now) pass.old }
     ensures chooses { Chooses (board_of index.now) pass.old pass.new }
+    ensures moves { Moves (shape_of index.now) span pass.old pass.new }
 {
     if let Some(segment) = open_for(index, pass, segments, span) {
         index.make_current(pass, segment);
     }
 }
 
-// Before a put: the pass stores into a segment with a row left and a deadline that is asked,
-// if it has one.
+// Before a put or another write: the pass stores into a segment with a row left and a deadline that
+// is asked, if it has one.
 #[inline(always)]
 pub(crate) fn choose(index: &Index, pass: &mut Pass, segments: &Segments, span: Span)
     requires quiet { IsQuiet (board_of index.now) pass.old }
-    ensures chooses { Chooses (board_of index.now) pass.old pass.new }
-    ensures stays { is_outside span pass.old ≡ false → has_room (shape_of index.now) pass.old ≡ true
-        → pass.new ≡ pass.old }
+    ensures { ChoosesFor span (board_of index.now) pass.old pass.new }
 {
     if is_outside(pass, span) || !has_room(index, pass) {
         switch(index, pass, segments, span);

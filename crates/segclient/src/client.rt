@@ -103,6 +103,10 @@ impl<'i> Client<'i> {
     }
 
     /// Stores the value under the key. It makes no room, but `put` does.
+    ///
+    /// As `put` does, it stores into a segment of its own that has a row left and expires a time
+    /// to live from now, or up to an eighth of that earlier. If the client finds none, it is NoRoom
+    /// until `make_room`, and so are `add`, `replace` and `cas`.
     pub fn set(&mut self, key: &Key, value: &Value) -> WriteAnswer
         ensures writes { MakesCall (MakesWrite (Set key.now value.now) result) self.old self.new }
         ensures set { IsSetAnswer result }
@@ -141,9 +145,9 @@ impl<'i> Client<'i> {
         self.member.delete(self.index, key)
     }
 
-    /// Sets how long what `put` stores from now on can be read: for this time at most,
-    /// and for seven eighths of it at least, unless it is evicted or replaced before.
-    /// What is put expires with its segment, and a segment keeps its deadline.
+    /// Sets how long what is stored from now on can be read, but for that of `put_for`: for this
+    /// time at most, and for seven eighths of it at least, unless it is evicted or replaced before.
+    /// What is stored expires with its segment, and a segment keeps its deadline.
     /// At the start it is the largest number, and then nothing expires
     /// before the largest moment.
     pub fn set_time_to_live(&mut self, time_to_live: u32)
@@ -208,7 +212,7 @@ impl<'i> Client<'i> {
     /// it doesn't expire before the largest moment.
     ///
     /// Items with different times stand in different segments, which the client fills by turns.
-    /// `set`, `add`, `replace` and `cas` store into the one that the last put stored into.
+    /// `set`, `add`, `replace` and `cas` store for the client's own time.
     #[inline(always)]
     pub fn put_for(&mut self, key: &Key, value: &Value, time_to_live: u32) -> PutAnswer
         ensures puts { MakesCall (PutsFor time_to_live key.now value.now result)

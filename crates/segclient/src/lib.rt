@@ -27,7 +27,7 @@ pub use all::{clients, into_passes, keep_back};
 pub use client::Client;
 pub use effort::{evicted_by, refilled_by};
 pub use member::Member;
-pub use note::{what_a_put_adds, what_is_put_stands};
+pub use note::{what_a_put_adds, what_is_put_stands, what_room_is_made_for};
 pub use put::PutAnswer;
 pub use ring::own_ring;
 pub use segindex::{

@@ -1,6 +1,6 @@
 //! How long what is put can be read: which deadlines its segment can have.
 ghost use Rattle.std.specs.Prelude.{◌≡◌};
-ghost use Rattle.segclient.specs.Lives.{deadline_by, earliest_of, latest_of};
+ghost use Rattle.segclient.specs.Lives.{deadline_by, life_span};
 
 use crate::segments::Span;
 
@@ -26,10 +26,7 @@ pub(crate) fn deadline_by(moment: u32, time: u32, step: u32) -> u32
 // The deadlines that do for what is put now for this time.
 #[inline(always)]
 pub(crate) fn span_for(moment: u32, time: u32) -> Span
-    ensures { result ≡ record {
-      earliest = earliest_of moment time;
-      latest = latest_of moment time;
-    } }
+    ensures { result ≡ life_span moment time }
 {
     let latest = moment.saturating_add(time);
     let earliest = if latest < u32::MAX {

@@ -4,7 +4,7 @@ ghost use Rattle.segindex.specs.Words.{board_of, shape_of};
 ghost use Rattle.segstore.specs.Words.{IsQuiet};
 ghost use Rattle.segclient.specs.Member.{next_draws};
 
-use crate::choosing::{choose, is_filled_fine, is_fine};
+use crate::choosing::{choose, is_filled_fine, is_fine, is_outside};
 use crate::clearing::{clear_some, is_due};
 use crate::effort::Effort;
 use crate::lives::{FINE_PARTS, PARTS, deadline_by, span_for};
@@ -45,9 +45,10 @@ pub(crate) fn drawn(draws: u32) -> u32
 
 impl Member {
     ghost use Rattle.segbase.specs.Words.{number_of};
+    ghost use Rattle.segmodel.specs.declared.answer.WriteAnswer.TheVariants.{NoRoom};
     ghost use Rattle.segmodel.specs.declared.request.Request.TheVariants.{Set, Add, Replace, Cas};
     ghost use Rattle.segwrite.specs.Words.{IsSetAnswer};
-    ghost use Rattle.segclient.specs.Made.{ClearsThen, DeletesKey, EndsWrite, Gets};
+    ghost use Rattle.segclient.specs.Made.{BeginsWrite, ClearsThen, DeletesKey, EndsWrite, Gets};
     ghost use Rattle.segclient.specs.Made.{GetsVersion, MakesWrite, ReturnsTable};
     ghost use Rattle.segclient.specs.Member.{Begins, IsMember, SetsCutoff, SetsNow, SetsTimeToLive};
     ghost use Rattle.segclient.specs.Policies.{IsPolicyFor, policy_of};
@@ -177,6 +178,19 @@ impl Member {
         index.row_of(hash(key))
     }
 
+    // Before a write: the pass stores into an open segment with a deadline that is asked, if it has
+    // one. The write can be made unless what it stores into then has another deadline.
+    #[inline(always)]
+    fn begin_write(&mut self, index: &Index) -> bool
+        requires member { IsMember index.now self.old }
+        ensures member { IsMember index.now self.new }
+        ensures begins { BeginsWrite result (board_of index.now) self.old self.new }
+    {
+        let span = span_for(self.clock, self.time_to_live);
+        choose(index, &mut self.pass, &self.segments, span);
+        !is_outside(&self.pass, span)
+    }
+
     // After a write that was answered so: once it is stored, the queues are told of it,
     // and clear some rows.
     #[inline(always)]
@@ -217,6 +231,19 @@ impl Member {
         self.stats.count_effort(rows);
     }
 
+    // A write that can't be made has no room.
+    #[cold]
+    #[inline(never)]
+    fn refuse_write(&mut self, index: &Index, key: &Key) -> WriteAnswer
+        requires member { IsMember index.now self.old }
+        ensures member { IsMember index.now self.new }
+        ensures refuses { result ≡ NoRoom }
+        ensures ends { EndsWrite NoRoom (board_of index.now) self.old self.new }
+    {
+        self.end_write(index, key, WriteAnswer::NoRoom, None);
+        WriteAnswer::NoRoom
+    }
+
     /// As `Client::set`.
     pub fn set(&mut self, index: &Index, key: &Key, value: &Value) -> WriteAnswer
         requires member { IsMember index.now self.old }
@@ -225,6 +252,9 @@ impl Member {
             (board_of index.now) self.old self.new }
         ensures set { IsSetAnswer result }
     {
+        if !self.begin_write(index) {
+            return self.refuse_write(index, key);
+        }
         let (told, replaced) = index.set_and_tell(&mut self.pass, key, value, self.clock);
         self.end_write(index, key, told, replaced);
         told
@@ -237,6 +267,9 @@ impl Member {
         ensures writes { MakesWrite (Add key.now value.now) result
             (board_of index.now) self.old self.new }
     {
+        if !self.begin_write(index) {
+            return self.refuse_write(index, key);
+        }
         let replaced = self.row_of(index, key);
         let told = index.add(&mut self.pass, key, value, self.clock);
         self.end_write(index, key, told, replaced);
@@ -250,6 +283,9 @@ impl Member {
         ensures writes { MakesWrite (Replace key.now value.now) result
             (board_of index.now) self.old self.new }
     {
+        if !self.begin_write(index) {
+            return self.refuse_write(index, key);
+        }
         let replaced = self.row_of(index, key);
         let told = index.replace(&mut self.pass, key, value, self.clock);
         self.end_write(index, key, told, replaced);
@@ -263,6 +299,9 @@ impl Member {
         ensures writes { MakesWrite (Cas key.now value.now expected) result
             (board_of index.now) self.old self.new }
     {
+        if !self.begin_write(index) {
+            return self.refuse_write(index, key);
+        }
         let replaced = self.row_of(index, key);
         let told = index.cas(&mut self.pass, key, value, expected, self.clock);
         self.end_write(index, key, told, replaced);

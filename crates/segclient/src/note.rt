@@ -1,6 +1,6 @@
 //! What one client hands to another by a note.
 ghost use Rattle.std.specs.Prelude.{◌≡◌};
-ghost use Rattle.segclient.specs.Told.{PutAdds, PutStands, RoomAdds};
+ghost use Rattle.segclient.specs.Told.{PutAdds, PutStands, RoomAdds, RoomServes};
 
 use crate::client::Client;
 use crate::member::Member;
@@ -89,4 +89,11 @@ pub fn what_is_put_stands()
 pub fn what_a_put_adds()
     ensures put { PutAdds }
     ensures room { RoomAdds }
+{}
+
+/// Right after `make_room` returned true, no write has too little room: the segment that the client
+/// then stores into has a row left, and a deadline that does.
+/// This function does nothing: its contract is the law.
+pub fn what_room_is_made_for()
+    ensures { RoomServes }
 {}

@@ -59,4 +59,6 @@ mod several_shards;
 #[cfg(test)]
 mod several_times;
 #[cfg(test)]
+mod timely_writes;
+#[cfg(test)]
 mod updates;

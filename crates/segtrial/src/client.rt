@@ -104,7 +104,7 @@ impl<'a> ClientCaller<'a> {
         ensures index { self.new.client.index.now ≡ self.old.client.index.now }
         ensures held { holding self.new.client.member.pass ≡ holding self.old.client.member.pass }
     {
-        let Some(asked) = self.session.ask(self.number, self.current.deadline()) else {
+        let Some(mut asked) = self.session.ask(self.number, self.current.deadline()) else {
             return;
         };
         match &asked.command {
@@ -112,7 +112,7 @@ impl<'a> ClientCaller<'a> {
                 if self.session.draws.is_put(request) && self.current.is_known() => {
                 self.put(asked.place, asked.item, request);
             }
-            _ => self.serve(&asked),
+            _ => self.serve(&mut asked),
         }
     }
 
@@ -138,8 +138,9 @@ impl<'a> ClientCaller<'a> {
         self.note_if(is_allowed, (called, returned), said);
     }
 
-    // Makes a command as it is. If there is no room for it, the client makes some.
-    fn serve(&mut self, asked: &Asked)
+    // Makes a command as it is. What it stores comes into a segment that the client chooses then.
+    // If there is no room for it, the client makes some.
+    fn serve(&mut self, asked: &mut Asked)
         ensures index { self.new.client.index.now ≡ self.old.client.index.now }
         ensures held { holding self.new.client.member.pass ≡ holding self.old.client.member.pass }
     {
@@ -150,10 +151,11 @@ impl<'a> ClientCaller<'a> {
         };
         let returned = self.session.log.stamp();
         let recycled = self.recycled(before);
+        asked.item.deadline = self.client.stores_until().unwrap_or(0);
         self.session
             .note_answer((called, returned), asked, &answer, recycled);
         if let Answer::Write(told) = answer {
-            if !self.current.was_stored_into(told) {
+            if !self.current.was_stored_into(told) || self.is_late(asked, told) {
                 self.session.note((called, returned), Said::Wrong);
             }
             self.current.were_moved(recycled.kept);
@@ -223,7 +225,15 @@ impl<'a> ClientCaller<'a> {
         }
     }
 
-    // Whether what is put at this moment and expires at the deadline lives seven eighths of its
+    // Whether what was stored doesn't live as long as a put's.
+    fn is_late(&self, asked: &Asked, told: WriteAnswer) -> bool {
+        let Command::Write(request) = &asked.command else {
+            return false;
+        };
+        told == WriteAnswer::Stored && !self.is_timely(asked.item.deadline, request.moment())
+    }
+
+    // Whether what is stored at this moment and expires at the deadline lives seven eighths of its
     // time or more, and no longer.
     fn is_timely(&self, deadline: u32, now: u32) -> bool {
         let latest = now.saturating_add(self.time_to_live);
