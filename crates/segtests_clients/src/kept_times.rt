@@ -57,6 +57,29 @@ fn deadlines_are_fine_while_many_segments_are_free(rt: HostRuntime) {
     same(&rt, &client.stores_until(), &Some(6_600));
 }
 
+// One pass with 64 segments, as a small cache has.
+const WIDE: Shape = Shape {
+    segments_each: 64,
+    ..SHAPE
+};
+
+// Each put comes at another moment, a sixty-fourth of the time after the one before. While more
+// than eight of 64 segments are free it has a deadline of its own, however few rows are used.
+#[test]
+fn deadlines_are_fine_while_more_than_one_segment_in_eight_is_free(rt: HostRuntime) {
+    let (index, passes) = Index::new(rt.alloc(), WIDE).expect(&rt, "an index");
+    let mut client = only_client(&rt, &index, passes);
+    for number in 0..56 {
+        client.set_now(100 * number);
+        put_for(&rt, &mut client, number, SHORT);
+        same(&rt, &client.stores_until(), &Some(100 * number + SHORT));
+    }
+    // Eight are free: what comes next goes where the last one went.
+    client.set_now(5_600);
+    put_for(&rt, &mut client, 56, SHORT);
+    same(&rt, &client.stores_until(), &Some(5_500 + SHORT));
+}
+
 // Four segments are free, one in eight. So a new one has a deadline of eighths.
 #[test]
 fn deadlines_are_of_eighths_once_few_segments_are_free(rt: HostRuntime) {

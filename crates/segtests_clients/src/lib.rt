@@ -59,6 +59,8 @@ mod several_shards;
 #[cfg(test)]
 mod several_times;
 #[cfg(test)]
+mod shared_keys;
+#[cfg(test)]
 mod timely_writes;
 #[cfg(test)]
 mod updates;
