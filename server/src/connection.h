@@ -8,7 +8,7 @@
 
 enum {
   MOST_WORDS = 24,             /* of a line that are looked at, but for the keys of a get */
-  MOST_LINE = 8 * 1024,        /* bytes of a line; a longer one ends the connection */
+  MOST_LINE = 8 * 1024,        /* bytes of a line whose end hasn't come; more end the connection */
   MOST_GET_LINE = 1024 * 1024, /* the same of a line that begins with get, gets, gat or gats */
   MOST_REPLY = 64 * 1024,      /* with so much unsent, no further command is served */
   MOST_ALL_KEYS = 250,         /* bytes of memcached's keys; those of the store may be shorter */

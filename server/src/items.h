@@ -78,7 +78,8 @@ enum edited { UNCHANGED, STORED, OVERTAKEN /* others wrote all the while */, REF
 enum edited items_edit(const struct caller *caller, struct word key, items_editor *edit, void *wish,
                        enum finding *finding);
 
-/* Stores an item, whatever the key had. If it can't, the key is absent: nobody is to read what it was to replace. */
+/* Stores an item, whatever the key had. If it can't, the key is absent, unless its bucket stays busy: nobody is to read
+   what it was to replace. */
 enum edited items_set(const struct caller *caller, struct word key, struct item *item, size_t length);
 
 /* Takes a key out. STORED: an item was there. UNCHANGED: it was absent. */

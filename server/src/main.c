@@ -76,8 +76,8 @@ static int catch_signals(void) {
 static bool open_store(struct server *server) {
   const struct options *options = &server->options;
   static struct store_client clients[STORE_MOST_CLIENTS];
-  struct store_plan plan = {options_keys(options), options->threads, options->time_to_live, options->keep_from,
-                            .equal_shares = options->keys == 0};
+  struct store_plan plan = {options->keys > 0 ? 0 : options_bytes(options), options_keys(options), options->threads,
+                            options->time_to_live, options->keep_from};
   const char *why = store_open(&server->store, &plan, clients);
   if (why != NULL) return fault("the cache can't be opened", why);
   for (uint32_t i = 0; i < options->threads; i++) server->workers[i].client = clients[i];

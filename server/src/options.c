@@ -181,15 +181,17 @@ enum reading options_read(struct options *options, int count, char **words) {
     if (!take(options, option, optarg)) return BAD;
   }
   if (optind < count) return bad(words[optind], "isn't an option; -h shows them");
-  uint64_t half = (uint64_t)options->megabytes * 1024 * 512;
+  uint64_t half = options_bytes(options) / 2;
   if (options->most_item > half) return bad("-I", "an item has half of -m at most");
   if (options->most_item == 0) options->most_item = half < USUAL_ITEM ? (uint32_t)half : USUAL_ITEM;
   if (options->socket_path == NULL && options->port == NO_PORT) return bad("-p 0", "needs a socket by -s");
   return RUN;
 }
 
+uint64_t options_bytes(const struct options *options) { return (uint64_t)options->megabytes << 20; }
+
 uint32_t options_keys(const struct options *options) {
-  uint64_t keys = options->keys > 0 ? options->keys : (uint64_t)options->megabytes * 1024 * 1024 / STORE_BYTES_A_KEY;
+  uint64_t keys = options->keys > 0 ? options->keys : options_bytes(options) / STORE_BYTES_A_KEY;
   return keys < UINT32_MAX ? (uint32_t)keys : UINT32_MAX;
 }
 

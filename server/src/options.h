@@ -33,7 +33,10 @@ enum reading { RUN, SHOWN /* what was asked for; the program ends well */, BAD }
 /* Reads the options. What is bad is said on standard error, in one line. */
 enum reading options_read(struct options *options, int count, char **words);
 
-/* For how many keys a store is opened: at most as many as the library has room for. */
+/* The bytes of -m. */
+uint64_t options_bytes(const struct options *options);
+
+/* For how many keys there is room: by --keys, or about so many by -m, 2^32 - 1 at most. */
 uint32_t options_keys(const struct options *options);
 
 /* The data of an item is no longer than this, with a key of so many bytes. */

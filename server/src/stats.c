@@ -46,7 +46,7 @@ static void stat_process(struct connection *connection) {
 }
 
 static uint64_t limit_of(const struct options *options) {
-  return options->keys > 0 ? (uint64_t)options->keys * STORE_BYTES_A_KEY : (uint64_t)options->megabytes * 1024 * 1024;
+  return options->keys > 0 ? (uint64_t)options->keys * STORE_BYTES_A_KEY : options_bytes(options);
 }
 
 /* What memcached counts of things that this server doesn't have. Programs that watch memcached read them. */

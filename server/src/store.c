@@ -1,10 +1,22 @@
 // SPDX-License-Identifier: MIT
 #include "store.h"
+#include <malloc.h>
 #include <time.h>
 
 enum {
   TRIES = 64,       /* of a call that is Busy, or for which room was made */
   PAUSE_NS = 50000, /* after a Busy one, so that a preempted thread goes on */
+};
+
+/* What the library makes of a budget, with room to spare: a table for so many bytes, up to so many tables, and then for
+ * so many more; for each row of 64 bytes 3 bytes of a client, which are a part of the table; and so many bytes for each
+ * client of a table, and once. */
+enum {
+  SMALL_TABLE = 8 << 20,
+  SMALL_TABLES = 8,
+  LARGE_TABLE = 32 << 20,
+  CLIENTS_PART = 21,
+  CLIENT = 8192,
 };
 
 /* Whether a call is to be made again, since it was Busy. */
@@ -31,17 +43,43 @@ static enum store_status status_of(uint32_t status) {
   }
 }
 
+/* The bytes of one table of a budget. A budget has room for one table more than stays once the cache is open. */
+static uint64_t table_of(uint64_t budget, uint32_t clients) {
+  uint64_t small = (budget + SMALL_TABLE - 1) / SMALL_TABLE, large = (budget + LARGE_TABLE - 1) / LARGE_TABLE;
+  uint64_t few = small < SMALL_TABLES ? small : SMALL_TABLES, tables = few > large ? few : large;
+  uint64_t fixed = tables * CLIENT * (clients + 1);
+  return budget < fixed ? 0 : CLIENTS_PART * (budget - fixed) / ((CLIENTS_PART + 1) * tables + CLIENTS_PART);
+}
+
+/* The largest budget of which no more than these bytes stay taken. */
+static uint64_t budget_for(uint64_t bytes, uint32_t clients) {
+  uint64_t least = bytes, over = 2 * bytes + 1;
+  while (over - least > 1) {
+    uint64_t middle = least + (over - least) / 2;
+    if (middle - table_of(middle, clients) <= bytes) least = middle;
+    else over = middle;
+  }
+  return least;
+}
+
+/* Has the allocator give back what the opening needed for a moment. It would keep up to 32 MiB. */
+static void give_back_unused(void) {
+#ifdef __GLIBC__
+  malloc_trim(0);
+#endif
+}
+
 const char *store_open(struct store *store, const struct store_plan *plan, struct store_client *clients) {
   segcache_client opened[STORE_MOST_CLIENTS];
   if (plan->clients < 1 || plan->clients > STORE_MOST_CLIENTS) return "a store has 1 to 64 clients";
-  uint32_t status = plan->equal_shares
-                        ? segcache_open_for_writers(plan->keys, plan->clients, plan->clients, &store->cache, opened)
-                        : segcache_open(plan->keys, plan->clients, &store->cache, opened);
+  uint64_t budget = budget_for(plan->bytes, plan->clients);
+  uint32_t status = plan->bytes > 0 ? segcache_open_bytes(budget, plan->clients, &store->cache, opened)
+                                    : segcache_open(plan->keys, plan->clients, &store->cache, opened);
+  give_back_unused();
   if (status != SEGCACHE_OK) return segcache_text(status);
   store->plan = *plan;
   for (uint32_t i = 0; i < plan->clients; i++) {
-    clients[i] = (struct store_client){.client = opened[i], .plan = *plan};
-    if (plan->time_to_live > 0) segcache_set_time_to_live(&clients[i].client, plan->time_to_live);
+    clients[i] = (struct store_client){opened[i], *plan, UINT32_MAX};
     if (plan->keep_from != STORE_BY_QUEUES) segcache_keep_from(&clients[i].client, plan->keep_from);
   }
   return NULL;
@@ -61,21 +99,31 @@ enum store_status store_read(struct store_client *client, struct word key, uint3
   return status_of(status);
 }
 
-/* A put goes into a segment whose deadline suits it. An add and a cas store into that of the last put, or a new one.
- * A segment's deadline is a multiple of an eighth of the time to live. So one begins for them at each such multiple,
- * and what they store lives for seven eighths of that time at least. */
-static void renew(struct store_client *client, uint32_t now) {
-  uint32_t time_to_live = client->plan.time_to_live;
-  if (time_to_live == 0 || now < client->renew_at) return;
-  uint32_t eighth = time_to_live >= 8 ? time_to_live / 8 : 1;
-  if (segcache_make_room(&client->client, now) == SEGCACHE_OK) client->renew_at = now - now % eighth + eighth;
+/* Values are stored by classes of seconds: all of a segment have one deadline, and a client has few segments. What is
+ * wanted for longer than the last class is stored without end. */
+static const uint32_t classes[] = {8, 60, 3600};
+
+/* The time to live by which a value is stored. The library drops an eighth of it at most, rounded down. So a class has
+ * the shortest time of which its seconds are left: a value with a second of its own is there until then. */
+static uint32_t time_for(const struct store_client *client, uint32_t seconds) {
+  uint32_t most = client->plan.time_to_live > 0 ? client->plan.time_to_live : UINT32_MAX, time = UINT32_MAX;
+  for (size_t i = 0; i < sizeof classes / sizeof *classes && seconds > 0 && time == UINT32_MAX; i++)
+    if (seconds <= classes[i]) time = classes[i] + (classes[i] - 1) / 7;
+  return time < most ? time : most;
 }
 
-/* One time to live holds for all: an add or a cas stores into the segment of the last put, whatever its own time. */
+/* Has an add or a cas store by this time to live. */
+static void live_for(struct store_client *client, uint32_t time) {
+  if (time == client->time_to_live) return;
+  segcache_set_time_to_live(&client->client, time);
+  client->time_to_live = time;
+}
+
+/* A put makes room for itself, in a segment whose deadline suits it. An add or a cas has no room without one. */
 enum store_status store_put(struct store_client *client, struct word key, struct store_value value, uint32_t now) {
-  uint32_t status;
+  uint32_t status, time = time_for(client, value.seconds);
   int tries = 0;
-  do status = segcache_put(&client->client, key.at, key.length, value.at, value.length, now);
+  do status = segcache_put_for(&client->client, key.at, key.length, value.at, value.length, time, now);
   while (was_busy(status, &tries));
   return status_of(status);
 }
@@ -83,7 +131,7 @@ enum store_status store_put(struct store_client *client, struct word key, struct
 enum store_status store_add(struct store_client *client, struct word key, struct store_value value, uint32_t now) {
   uint32_t status;
   int tries = 0;
-  renew(client, now);
+  live_for(client, time_for(client, value.seconds));
   do status = segcache_add(&client->client, key.at, key.length, value.at, value.length, now);
   while (was_busy(status, &tries) || made_room(client, status, &tries, now));
   return status_of(status);
@@ -93,7 +141,7 @@ enum store_status store_cas(struct store_client *client, struct word key, struct
                             uint32_t now) {
   uint32_t status;
   int tries = 0;
-  renew(client, now);
+  live_for(client, time_for(client, value.seconds));
   do status = segcache_cas(&client->client, key.at, key.length, value.at, value.length, version, now);
   while (was_busy(status, &tries) || made_room(client, status, &tries, now));
   return status_of(status);

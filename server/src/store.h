@@ -14,7 +14,7 @@ enum {
   STORE_MOST_KEY = SEGCACHE_MAX_KEY,     /* bytes */
   STORE_MOST_VALUE = SEGCACHE_MAX_VALUE, /* bytes, with the server's header */
   STORE_MOST_CLIENTS = SEGCACHE_MAX_THREADS,
-  STORE_BYTES_A_KEY = 192, /* of memory, for each key that there is room for: measured, rounded up */
+  STORE_BYTES_A_KEY = 192, /* about as many as the library takes for each key that there is room for: 174 to 214 */
 };
 
 enum store_status {
@@ -28,11 +28,11 @@ enum store_status {
 
 /* How a store is opened. */
 struct store_plan {
-  uint32_t keys;         /* that there is to be room for */
+  uint64_t bytes;        /* that it takes at most; 0: as many as the keys need */
+  uint32_t keys;         /* that there is to be room for, without a number of bytes */
   uint32_t clients;      /* 1 to STORE_MOST_CLIENTS */
   uint32_t time_to_live; /* the most seconds that a value lives; 0: until it is evicted */
   uint32_t keep_from;    /* keeps items of this frequency; STORE_BY_QUEUES: what was read, by queues */
-  bool equal_shares;     /* takes no more memory than the keys need if all clients store alike */
 };
 #define STORE_BY_QUEUES UINT32_MAX
 
@@ -44,10 +44,11 @@ struct store {
 struct store_client {
   segcache_client client;
   struct store_plan plan;
-  uint32_t renew_at; /* the moment when the next segment is to begin, if the plan has a time to live */
+  uint32_t time_to_live; /* by which the library stores an add or a cas; at the start without end */
 };
 
-/* The bytes of a value, and for how long they may be wanted: 0 seconds is without end. */
+/* The bytes of a value, and for how long they are wanted: 0 seconds is without end. Until then they are there, unless
+ * they are evicted or the plan has a shorter time. Later, what was wanted for an hour or less goes first. */
 struct store_value {
   const void *at;
   size_t length;
@@ -60,7 +61,8 @@ struct store_counts {
   uint64_t items, rows, overflow; /* now: items in its segments, rows in use there, overflow buckets of the table */
 };
 
-/* Opens a store and its clients, `plan->clients` of them. NULL, or why it can't. */
+/* Opens a store and its clients, `plan->clients` of them. NULL, or why it can't. It takes all memory at once. While it
+ * opens within a number of bytes, it takes as much again for a moment, and at most 32 MiB. */
 const char *store_open(struct store *store, const struct store_plan *plan, struct store_client *clients);
 
 /* Gives all memory back. False if the library says that it can't. */

@@ -7,7 +7,7 @@ import time
 from pathlib import Path
 
 from lines import NOT_A_NUMBER, TOO_LARGE
-from talk import alone, check, connect, memory_of, read, read_to, running, say, stats_of, store_all
+from talk import alone, check, connect, count_there, memory_of, read, read_to, running, say, stats_of, store_all
 
 BUSY = "SERVER_ERROR busy: others write to this key\r\n"
 NO_MEMORY = "SERVER_ERROR out of memory storing object\r\n"
@@ -298,9 +298,10 @@ def full_keys(command):
         check(made < again <= made + 3, f"room is made as often as it's needed: {again - made}")
 
 
-def renewals(command):
-    """Only over the stand-in, whose segments are counted exactly. For an add or a cas one begins at each multiple of an
-    eighth of the time; a set needs none. A value lives for seven eighths of that time or more, and no longer."""
+def segments(command):
+    """Only over the stand-in, whose segments are counted exactly. One begins for what no open one has a deadline for. A
+    value lives for seven eighths of --time-to-live or more, and no longer. With seconds of their own items stand apart
+    by classes: to 8 seconds, to a minute, to an hour, and all others."""
     def begun(connection, sent, wanted, segments):
         say(connection, sent, wanted)
         made = int(stats_of(connection)["refilled_segments"])
@@ -308,11 +309,11 @@ def renewals(command):
 
     with running(command, "-t", "1", "--time-to-live", "40000") as port, connect(port) as connection:
         say(connection, "debugtime 12000\r\n", "OK\r\n")
-        begun(connection, "set a 0 0 1\r\n1\r\n", "STORED\r\n", 0)
+        begun(connection, "set a 0 0 1\r\n1\r\n", "STORED\r\n", 1)
         begun(connection, "add b 0 0 1\r\n2\r\nincr a 0\r\n", "STORED\r\n1\r\n", 1)
         begun(connection, "debugtime 2000\r\nadd c 0 0 1\r\n3\r\n", "OK\r\nSTORED\r\n", 1)
-        begun(connection, "debugtime 2000\r\nset d 0 0 1\r\n4\r\n", "OK\r\nSTORED\r\n", 1)
-        begun(connection, "add e 0 0 1\r\n5\r\n", "STORED\r\n", 2)
+        begun(connection, "debugtime 2000\r\nadd d 0 0 1\r\n4\r\n", "OK\r\nSTORED\r\n", 2)
+        begun(connection, "set e 0 0 1\r\n5\r\n", "STORED\r\n", 2)
         say(connection, "debugtime 33000\r\nget a b c d e\r\n",
             "OK\r\n" + "".join(f"VALUE {key} 0 1\r\n{value}\r\n" for key, value in zip("abcde", "12345")) + "END\r\n")
         begun(connection, "debugtime 2000\r\nincr e 0\r\n", "OK\r\n5\r\n", 3)
@@ -323,9 +324,71 @@ def renewals(command):
             begun(connection, f"debugtime 1\r\nadd a{second} 0 0 1\r\n1\r\n", "OK\r\nSTORED\r\n", second + 1)
     with running(command, "-t", "1", "--time-to-live", "40001") as port, connect(port) as connection:
         for place, segments in enumerate((0, 1, 1)):  # the first one can't be had
-            begun(connection, f"add a{place} 0 0 1\r\n1\r\n", "STORED\r\n", segments)
+            begun(connection, f"add a{place} 0 0 1\r\n1\r\n", "STORED\r\n" if segments else NO_MEMORY, segments)
     with running(command, "-t", "1") as port, connect(port) as connection:
-        begun(connection, "set a 0 0 1\r\n1\r\nadd b 0 0 1\r\n1\r\nincr a 1\r\n", "STORED\r\nSTORED\r\n2\r\n", 0)
+        begun(connection, "set a 0 0 1\r\n1\r\nadd b 0 0 1\r\n1\r\nincr a 1\r\n", "STORED\r\nSTORED\r\n2\r\n", 1)
+        begun(connection, "set c 0 3600 1\r\n1\r\n", "STORED\r\n", 2)
+        begun(connection, "add d 0 61 1\r\n1\r\nincr c 1\r\n", "STORED\r\n2\r\n", 2)
+        begun(connection, "touch a 3601\r\ntouch c 9000\r\ntouch d 3000\r\n", "TOUCHED\r\n" * 3, 2)
+        begun(connection, "touch a 60\r\n", "TOUCHED\r\n", 3)
+        begun(connection, "set b 0 9 1\r\n1\r\n", "STORED\r\n", 3)
+        begun(connection, "set b 0 8 1\r\n1\r\n", "STORED\r\n", 4)
+        begun(connection, "set b 0 -1 1\r\n1\r\nadd b 0 1 1\r\n1\r\nmd b I T60\r\n", "STORED\r\nSTORED\r\nHD\r\n", 4)
+        begun(connection, "touch a 0\r\nincr a 1\r\nget d b\r\n",
+              "TOUCHED\r\n3\r\nVALUE d 0 1\r\n1\r\nVALUE b 0 1\r\n1\r\nEND\r\n", 4)
+
+
+def lives(command):
+    """Each item lives to its own second, whatever the moment, and by whichever call it was stored. --time-to-live is
+    the most, of which an eighth can be missing."""
+    value = "VALUE {} 0 1\r\n1\r\n"
+
+    def after(seconds):
+        return "".join(f"debugtime {min(65535, seconds - at)}\r\n" for at in range(0, seconds, 65535))
+
+    with running(command, "-t", "1") as port, connect(port) as connection:
+        say(connection, "set z 0 0 1\r\n1\r\n", "STORED\r\n")
+        for seconds in (3, 7, 8, 9, 59, 60, 61, 500, 3599, 3600, 3601, 99999, 2592000):
+            for moved in (0, 1, 3, 5, 300):
+                moves = after(seconds - 2)
+                say(connection, f"debugtime {moved}\r\nset s 0 {seconds} 1\r\n1\r\nset c 0 0 1\r\n1\r\n"
+                    f"touch c {seconds}\r\nms m 1 ME T{seconds}\r\n1\r\nset e 0 {seconds} 1\r\n0\r\nincr e 1\r\n"
+                    f"set f 0 {seconds} 1\r\n1\r\ntouch f 0\r\n{moves}get s c m e\r\n",
+                    "OK\r\nSTORED\r\nSTORED\r\nTOUCHED\r\nHD\r\nSTORED\r\n1\r\nSTORED\r\nTOUCHED\r\n"
+                    + "OK\r\n" * moves.count("\n") + "".join(value.format(key) for key in "scme") + "END\r\n")
+                say(connection, "debugtime 2\r\nget s c m e f\r\n", f"OK\r\n{value.format('f')}END\r\n")
+        say(connection, "get z\r\n", value.format("z") + "END\r\n")
+    with running(command, "-t", "1", "--time-to-live", "400") as port, connect(port) as connection:
+        for moved in (0, 1, 13, 49):
+            say(connection, f"debugtime {moved}\r\nset a 0 300 1\r\n1\r\nset b 0 3000 1\r\n1\r\nset c 0 0 1\r\n1\r\n"
+                "touch c 5000\r\ndebugtime 298\r\nget a b c\r\ndebugtime 2\r\nget a b c\r\n",
+                "OK\r\nSTORED\r\nSTORED\r\nSTORED\r\nTOUCHED\r\nOK\r\n" + "".join(value.format(key) for key in "abc")
+                + "END\r\nOK\r\n" + value.format("b") + value.format("c") + "END\r\n")
+            say(connection, "debugtime 48\r\nget b c\r\ndebugtime 52\r\nget b c\r\n",
+                "OK\r\n" + value.format("b") + value.format("c") + "END\r\nOK\r\nEND\r\n")
+
+
+def recycled(command):
+    """Only over the library: what has expired goes first. Items of 2 seconds, many times as many as there is room for,
+    take no item that is without end, by whichever call they are stored."""
+    endless = [f"endless{i}" for i in range(4000)]
+    with running(command, "-t", "1", "--keys", "5000") as port, connect(port) as connection:
+        for key in endless:
+            connection.sendall(f"set {key} 0 0 1 noreply\r\nx\r\n".encode())
+        check(count_there(connection, endless) == 4000, "all have room")
+        for verb in ("set", "add"):
+            before = stats_of(connection)
+            for place in range(100):
+                short = [f"{verb}{place}-{i}" for i in range(500)]
+                for key in short:
+                    connection.sendall(f"{verb} {key} 0 2 1 noreply\r\nx\r\n".encode())
+                connection.sendall(b"debugtime 2\r\n")
+                read_to(connection, b"OK\r\n")
+            counts = stats_of(connection)
+            refilled = int(counts["refilled_segments"]) - int(before["refilled_segments"])
+            there = count_there(connection, endless)
+            check(there == 4000, f"{verb}: {there} of 4,000 endless items are there, after {refilled} segments")
+            check(refilled >= 200, f"{verb}: the segments come back: {refilled}")
 
 
 def given_back(command):

@@ -17,7 +17,7 @@ static struct server server = {.options = {.addresses = "-",
 static struct worker worker;
 
 static void begin(void) {
-  const struct store_plan plan = {server.options.keys, 1, 0, STORE_BY_QUEUES, false};
+  const struct store_plan plan = {.keys = server.options.keys, .clients = 1, .keep_from = STORE_BY_QUEUES};
   if (worker.server != NULL) return;
   clock_begin();
   if (store_open(&server.store, &plan, &worker.client) != NULL) abort();

@@ -6,9 +6,11 @@
  * It has few buckets, so that keys often share one: a cas then finds the bucket's version changed by others. It
  * evicts the oldest item once there are as many as it was opened for.
  *
- * With a time to live a value is absent from a deadline on, which put and make_room set: the last multiple of an eighth
- * of that time that comes in it. Some keys have faults, which the library seldom has: see fault_of. Each call has to
- * have a moment, which the server begins at 2: without one the program is aborted. */
+ * A value is absent from the deadline of its segment on. A client's last segments are open, and never full. What is
+ * stored goes into one whose deadline comes in its time to live, and not before seven eighths of it. If there is none,
+ * put, put_for and make_room begin one, up to the last multiple of an eighth of the time that comes in it, and add and
+ * cas have no room. Some keys have faults, which the library seldom has: see fault_of. Each call has to have a moment,
+ * which the server begins at 2: without one the program is aborted. */
 #include "segcache.h"
 #include <pthread.h>
 #include <stdbool.h>
@@ -18,6 +20,7 @@
 enum {
   BUCKETS = 4096, /* a power of two */
   FIRST_MOMENT = 2,
+  OPEN = 16,                /* segments of a client */
   NO_ROOM_AT_FIRST = 40001, /* with this time to live a client's first room can't be made */
 };
 
@@ -37,9 +40,10 @@ struct map {
 
 struct client {
   struct map *map;
-  bool first;                      /* all items count as its own */
-  uint32_t late, made;             /* calls, and how often room was made */
-  uint32_t time_to_live, deadline; /* deadline: of what is stored next */
+  bool first;          /* all items count as its own */
+  uint32_t late, made; /* calls, and how often room was made */
+  uint32_t time_to_live;
+  uint32_t open[OPEN], begun; /* the deadlines of the last segments, and how many were begun */
   segcache_stats_t counts;
 };
 
@@ -122,7 +126,7 @@ uint32_t segcache_raw_open(uint32_t keys, uint32_t threads, segcache_handle *cac
     if (client == NULL) abort();
     client->map = map;
     client->first = i == 0;
-    client->deadline = UINT32_MAX;
+    client->time_to_live = UINT32_MAX;
     clients[i] = (segcache_handle){client, 1};
   }
   map->clients = threads;
@@ -130,10 +134,11 @@ uint32_t segcache_raw_open(uint32_t keys, uint32_t threads, segcache_handle *cac
   return SEGCACHE_OK;
 }
 
-uint32_t segcache_raw_open_for_writers(uint32_t keys, uint32_t writers, segcache_handle *cache,
-                                       segcache_handle *clients, size_t clients_len) {
-  if (writers == 0 || writers > clients_len) return SEGCACHE_BAD_SHAPE;
-  return segcache_raw_open(keys, (uint32_t)clients_len, cache, clients, clients_len);
+/* With a number of bytes there is room for about as many keys as the library has room for. */
+uint32_t segcache_raw_open_bytes(uint64_t bytes, segcache_handle *cache, segcache_handle *clients, size_t clients_len) {
+  uint64_t keys = bytes / 192;
+  return segcache_raw_open(keys < UINT32_MAX ? (uint32_t)keys : UINT32_MAX, (uint32_t)clients_len, cache, clients,
+                           clients_len);
 }
 
 uint32_t segcache_raw_gets(segcache_handle *handle, const uint8_t *key, size_t key_len, uint8_t *value, size_t room,
@@ -160,6 +165,26 @@ uint32_t segcache_raw_gets(segcache_handle *handle, const uint8_t *key, size_t k
   return status;
 }
 
+/* The sum of a moment and a time, or the largest moment. */
+static uint32_t until_of(uint32_t now, uint32_t time) { return time < UINT32_MAX - now ? now + time : UINT32_MAX; }
+
+/* Begins a segment, and keeps two items by the way. */
+static void begin_segment(struct client *client, uint32_t time, uint32_t now) {
+  uint32_t until = until_of(now, time), eighth = time >= 8 ? time / 8 : 1;
+  client->open[client->begun++ % OPEN] = until < UINT32_MAX ? until - until % eighth : until;
+  client->counts.segments_refilled++;
+  client->counts.items_kept += 2;
+}
+
+/* The deadline of an open segment for what is stored for a time, or 0. */
+static uint32_t deadline_for(const struct client *client, uint32_t time, uint32_t now) {
+  uint32_t latest = until_of(now, time), earliest = latest < UINT32_MAX ? latest - time / 8 : latest;
+  uint32_t open = client->begun < OPEN ? client->begun : OPEN;
+  for (uint32_t i = 0; i < open; i++)
+    if (earliest <= client->open[i] && client->open[i] <= latest) return client->open[i];
+  return 0;
+}
+
 /* Why an entry isn't to be stored, or OK. */
 typedef uint32_t condition(const struct map *map, const struct entry *old, size_t bucket, uint32_t version);
 
@@ -180,18 +205,20 @@ static uint32_t if_same(const struct map *map, const struct entry *old, size_t b
 }
 
 static uint32_t store_locked(struct client *client, const uint8_t *key, size_t key_len, const uint8_t *value,
-                             size_t value_len, uint32_t version, condition *may, uint32_t now) {
+                             size_t value_len, uint32_t version, condition *may, uint32_t time, uint32_t now) {
   struct map *map = client->map;
   size_t bucket = bucket_of(key, key_len);
   struct entry *old = find(map, bucket, key, key_len, now);
-  uint32_t status = fault_of(client, STORE, old != NULL, key, key_len);
-  if (status == SEGCACHE_OK) status = may(map, old, bucket, version);
+  uint32_t status = fault_of(client, STORE, old != NULL, key, key_len), deadline = deadline_for(client, time, now);
+  if (status != SEGCACHE_OK) return status;
+  if (deadline == 0) return client->counts.no_room++, (uint32_t)SEGCACHE_NO_ROOM;
+  status = may(map, old, bucket, version);
   if (status != SEGCACHE_OK) return status;
   struct entry *entry = malloc(sizeof *entry + key_len + value_len);
   if (entry == NULL) return SEGCACHE_NO_ROOM;
   if (old != NULL) drop(map, old);
   if (map->count == map->most) drop(map, map->oldest), client->counts.keys_evicted++;
-  *entry = (struct entry){map->buckets[bucket], map->newest, NULL, bucket, key_len, value_len, client->deadline};
+  *entry = (struct entry){map->buckets[bucket], map->newest, NULL, bucket, key_len, value_len, deadline};
   memcpy(entry->bytes, key, key_len);
   if (value_len > 0) memcpy(entry->bytes + key_len, value, value_len);
   map->buckets[bucket] = entry;
@@ -211,23 +238,23 @@ static uint32_t store_if(segcache_handle *handle, const uint8_t *key, size_t key
   if (key_len < 1 || key_len > SEGCACHE_MAX_KEY) return SEGCACHE_BAD_KEY;
   if (value_len > SEGCACHE_MAX_VALUE) return SEGCACHE_BAD_VALUE;
   pthread_mutex_lock(&client->map->lock);
-  uint32_t status = store_locked(client, key, key_len, value, value_len, version, may, now);
+  uint32_t status = store_locked(client, key, key_len, value, value_len, version, may, client->time_to_live, now);
   pthread_mutex_unlock(&client->map->lock);
   return status;
 }
 
-/* The last multiple of an eighth of the time to live that comes in it. */
-static uint32_t deadline_of(const struct client *client, uint32_t now) {
-  uint32_t eighth = client->time_to_live >= 8 ? client->time_to_live / 8 : 1;
-  uint32_t until = now + client->time_to_live;
-  return client->time_to_live == 0 ? UINT32_MAX : until - until % eighth;
-}
-
-uint32_t segcache_raw_put(segcache_handle *handle, const uint8_t *key, size_t key_len, const uint8_t *value,
-                          size_t value_len, uint32_t now) {
+/* A put by the client's time, which then is this one for a moment. */
+uint32_t segcache_raw_put_for(segcache_handle *handle, const uint8_t *key, size_t key_len, const uint8_t *value,
+                              size_t value_len, uint32_t seconds, uint32_t now) {
   struct client *client = handle->at;
-  client->deadline = deadline_of(client, now);
-  return store_if(handle, key, key_len, value, value_len, 0, always, now);
+  uint32_t before = client->time_to_live;
+  pthread_mutex_lock(&client->map->lock);
+  if (deadline_for(client, seconds, now) == 0) begin_segment(client, seconds, now);
+  pthread_mutex_unlock(&client->map->lock);
+  client->time_to_live = seconds;
+  uint32_t status = store_if(handle, key, key_len, value, value_len, 0, always, now);
+  client->time_to_live = before;
+  return status;
 }
 
 uint32_t segcache_raw_add(segcache_handle *client, const uint8_t *key, size_t key_len, const uint8_t *value,
@@ -282,16 +309,14 @@ uint32_t segcache_raw_keep_from(segcache_handle *client, uint32_t cutoff) {
   return SEGCACHE_OK;
 }
 
-/* Only counts itself, a segment refilled and two items kept, and sets the deadline. */
+/* Only begins a segment. */
 uint32_t segcache_raw_make_room(segcache_handle *handle, uint32_t now) {
   struct client *client = handle->at;
   if (now < FIRST_MOMENT) abort();
   pthread_mutex_lock(&client->map->lock);
   if (client->made++ == 0 && client->time_to_live == NO_ROOM_AT_FIRST)
     return pthread_mutex_unlock(&client->map->lock), (uint32_t)SEGCACHE_NO_ROOM;
-  client->deadline = deadline_of(client, now);
-  client->counts.segments_refilled++;
-  client->counts.items_kept += 2;
+  begin_segment(client, client->time_to_live, now);
   pthread_mutex_unlock(&client->map->lock);
   return SEGCACHE_OK;
 }

@@ -156,9 +156,9 @@ def alone(connection):
     return counts
 
 
-def memory_of(pid):
-    """The resident memory of a process, in KiB."""
-    return int(Path(f"/proc/{pid}/status").read_text().split("VmRSS:")[1].split()[0])
+def memory_of(pid, name="VmRSS"):
+    """The resident memory of a process, in KiB. VmHWM: the most that it ever was."""
+    return int(Path(f"/proc/{pid}/status").read_text().split(f"{name}:")[1].split()[0])
 
 
 def unique_of(connection, key):
