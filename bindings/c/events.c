@@ -8,6 +8,7 @@
 #include <sched.h>
 #include <stdio.h>
 #include <stdlib.h>
+#include <time.h>
 
 enum { THREADS = 4, EVENTS = 1000, ROUNDS = 4, TRIES = 10000 };
 
@@ -16,6 +17,13 @@ struct worker {
   uint32_t first, taken, failed;
 };
 
+/* Waits for whoever works on the bucket: at first by giving up the processor, and then by a short sleep, since that
+ * thread may be off its own. */
+static void pause_after(int tries) {
+  if (tries < 50) sched_yield();
+  else nanosleep(&(struct timespec){.tv_nsec = 100000}, NULL);
+}
+
 /* Whether this event is new, and it is this thread's to work on. -1, if the cache refused. */
 static int is_new(segcache_client *client, uint32_t event) {
   for (int i = 0; i < TRIES; i++) {
@@ -23,7 +31,7 @@ static int is_new(segcache_client *client, uint32_t event) {
     case SEGCACHE_OK: return 1;
     case SEGCACHE_NOT_STORED: return 0;
     case SEGCACHE_NO_ROOM: segcache_make_room(client, 0); break;
-    default: sched_yield(); /* busy: whoever works on the bucket may wait for this processor */
+    default: pause_after(i);
     }
   }
   return -1;

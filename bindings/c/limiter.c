@@ -11,6 +11,7 @@
 #include <sched.h>
 #include <stdio.h>
 #include <stdlib.h>
+#include <time.h>
 
 enum { CLIENTS = 4, ADDRESSES = 1000, MOST = 400, REQUESTS = 500000 /* of each client */, TRIES = 10000 };
 
@@ -19,6 +20,13 @@ struct worker {
   uint64_t draws; /* where its random numbers are */
   uint32_t passed, failed;
 };
+
+/* Waits for whoever works on the bucket: at first by giving up the processor, and then by a short sleep, since that
+ * thread may be off its own. */
+static void pause_after(int tries) {
+  if (tries < 50) sched_yield();
+  else nanosleep(&(struct timespec){.tv_nsec = 100000}, NULL);
+}
 
 /* Counts a request of this address, if it may pass. It returns whether it may; or -1, if the cache refused. */
 static int may_pass(segcache_client *client, uint32_t address) {
@@ -36,7 +44,7 @@ static int may_pass(segcache_client *client, uint32_t address) {
     }
     if (status == SEGCACHE_OK) return 1;
     if (status == SEGCACHE_NO_ROOM) segcache_make_room(client, 0);
-    if (status == SEGCACHE_BUSY) sched_yield(); /* whoever works on the bucket may wait for this processor */
+    if (status == SEGCACHE_BUSY) pause_after(i);
     /* At any other status others counted at the same time: once more. */
   }
   return -1;

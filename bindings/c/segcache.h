@@ -8,13 +8,16 @@
  *     segcache_free(&cache);
  *
  * SHAPES. A key has 1 to 24 bytes, a value 0 to 32: SEGCACHE_MAX_KEY and SEGCACHE_MAX_VALUE. -DSEGCACHE_WIDE makes
- * them 250 and 4,064, for a wide build that isn't made or proved yet: until then an open returns OTHER_SIZES. A key is its bytes: a final NUL counts
- * only if the length counts it. `now` is the caller's clock, a number that grows, in units of the caller's choice
- * (seconds since the start, say); with no time to live set, any number below 4294967295 will do.
+ * them 250 and 4,064, for a wide build that isn't made or proved yet: until then an open returns OTHER_SIZES. A key
+ * is its bytes: a final NUL counts only if the length counts it. `now` is the caller's clock, a number that grows, in
+ * units of the caller's choice (seconds since the start, say). Times to live have the unit of `now`. At 4294967295 all
+ * keys are absent, which milliseconds come to in 49 days. With no time to live set, any smaller number will do. A thread
+ * whose `now` lags behind others' can find what has expired for them: read the clock right before each call.
  *
- * ANSWERS. Each function returns a status, SEGCACHE_OK or another of the list below. A null or freed
- * handle and a key or value of a bad length are answers, and the call did nothing. With a short buffer the
- * read was made and counted, and the length is written.
+ * ANSWERS. Each call on a handle returns a status, SEGCACHE_OK or another of the list below. A null or freed
+ * handle and a key or value of a bad length are answers, and the call did nothing. Only what an open or a close
+ * writes, and the shape of an open, must not be null. With a short buffer the read was made, a get or gets
+ * counted, and the length is written.
  *
  * WHAT IS PROVED, and under which conditions. The functions behind these (segcache_raw_..) are proved
  * under Rattle to be safe and to return, over a proved cache. Of each it is proved what it did for which
@@ -35,7 +38,8 @@
  *   6. A thread that calls has SEGCACHE_STACK bytes of stack left, as each has that wasn't made with a small
  *      stack. The program has one copy of the library, and the names segcache_raw_.. and segcache_opened are its.
  * Compiled with -DSEGCACHE_DEBUG, each call checks some of 1, 2 and 3, and aborts with one line on standard
- * error where it finds a breach. Compile all files of a program alike.
+ * error where it finds a breach, or where more than 4,096 handles live. Its checks take a lock, so calls can wait for
+ * each other there. Compile all files of a program alike.
  */
 #ifndef SEGCACHE_H
 #define SEGCACHE_H
@@ -62,7 +66,7 @@ enum {
   SEGCACHE_SHORT_BUFFER = 10, /* nothing was copied; the length says how much room is needed */
   SEGCACHE_BAD_SHAPE = 11,    /* a shape, or a number of keys or of threads, that cannot be */
   SEGCACHE_OUT_OF_MEMORY = 12,
-  SEGCACHE_NO_HANDLE = 13,       /* the handle is zeroed, given back or freed; or that of a new note is in use */
+  SEGCACHE_NO_HANDLE = 13,       /* the handle is null, zeroed, given back or freed; or that of a new note is in use */
   SEGCACHE_ALREADY_HOLDING = 14, /* the client holds an item: release that first */
   SEGCACHE_NOT_HOLDING = 15,     /* the client holds no item */
   SEGCACHE_CLIENT_OUT = 16,      /* a client of the cache was not given back */
@@ -121,22 +125,24 @@ typedef struct segcache_note_t {
 
 /* The size of a cache with one table. segcache_open makes shapes up from a number of keys. Each bucket, overflow bucket
    and row takes 64 bytes, and each segment 8: 512 MiB at most, and twice that for a moment while it is opened. Clients
-   take 3 bytes more for each row, and 56 for each segment. */
+   take 3 bytes more for each row, and 56 for each segment. Of several segments a client that keeps by queues holds two
+   free, or three if they have one row; one that keeps from a frequency holds one, and one that keeps nothing none. */
 typedef struct segcache_shape {
   uint32_t buckets;       /* a power of two, 65536 at most; a bucket has words for 7 keys */
   uint32_t overflow;      /* overflow buckets, 65536 at most, each for 6 keys more of one bucket */
   uint32_t passes;        /* clients, 1 to 64 */
-  uint32_t segments_each; /* segments of each client, 1 to 1024; one to a quarter stays free, unless it keeps nothing */
+  uint32_t segments_each; /* segments of each client, 1 to 1024 */
   uint32_t rows;          /* items that a segment has room for, 1 to 4096 */
   uint32_t first_version; /* the version that all buckets begin with; 0 will do */
 } segcache_shape;
 
-/* How many calls of one client came to what. keys_evicted has the keys that stood, expired ones among them. Where nothing
-   expires, more than 0 says that the client had too little room for what it stored, or that a segment was held. */
+/* How many calls of one client came to what; holds aren't counted. keys_evicted has the keys that stood, expired ones
+   among them. Where nothing expires, more than 0 says that the client had too little room for what it stored, that a
+   bucket was full, or that a segment was held. */
 typedef struct segcache_stats_t {
-  uint64_t hits, misses; /* of get and gets */
+  uint64_t hits, misses; /* of get and gets, and of each key of get_many and gets_many */
   uint64_t stored, not_stored, exists, not_found, deleted, no_room, bucket_full, busy;
-  uint64_t segments_refilled, items_kept, keys_evicted; /* by puts and make_room */
+  uint64_t segments_refilled, items_kept, keys_evicted; /* by make_room, and by all calls that store */
 } segcache_stats_t;
 
 /* How full the tables are: the sums over all tables of the cache. */
@@ -232,7 +238,7 @@ static inline uint32_t segcache_may_open(uint32_t clients) {
 /* How many caches were opened, by all files of the program. So each has a number of its own. */
 __attribute__((weak)) uint64_t segcache_opened;
 
-/* What open and open_shape hand to the user: handles at their places. */
+/* What an open hands to the user: handles at their places. */
 static inline uint32_t segcache_hand_out(uint32_t status, segcache_handle made, const segcache_handle *raw,
                                          uint32_t count, segcache *cache, segcache_client *clients) {
   uint32_t i;
@@ -252,14 +258,15 @@ static inline uint32_t segcache_hand_out(uint32_t status, segcache_handle made, 
 
 /* Makes a cache for so many keys, and a client for each of so many threads (1 to 64). Each client stores into its own
    equal share of the room. So all keys fit if the clients store about as many each. In a small cache, for at most
-   65,536 / threads keys, all keys fit whichever clients store them, unless several update the same few keys by turns:
-   each of several clients has room for eight times the keys, or for 65,536 / threads if that is less. There is a table for every 200,000 keys, and each key belongs to
+   65,536 / threads keys, all keys fit whichever clients store them: each of several clients has room for eight times
+   the keys, or for 65,536 / threads if that is less. There is a table for every 200,000 keys, and each key belongs to
    one of the tables by its hash. A call on a key goes to that table alone.
-   It takes all memory at once, but for that of notes and of a close: 174 to 214 bytes a key, for a small cache up to
-   11 MB in all, and up to 34 MB more for a moment. `cache` and `clients[threads]` are written, whatever they were: if
-   they are of a cache that is still open, that one is lost. If the answer is not OK they are zeroed, of more than 64
-   clients the first 64. Answers: OK, BAD_SHAPE, OUT_OF_MEMORY; OTHER_VERSION or OTHER_SIZES, if
-   the library has another version than this header, or other sizes, and nothing was made. */
+   It takes all memory at once, but for that of notes and of a close: 174 to 214 bytes a key and up to 8 KB a thread,
+   for a small cache of several threads up to 11 MB in all, and up to 34 MB more for a moment. `cache` and
+   `clients[threads]` are written, whatever they were: if they are of a cache that is still open, that one is lost. If
+   the answer is not OK they are zeroed, of more than 64 clients the first 64. Answers: OK, BAD_SHAPE, OUT_OF_MEMORY;
+   OTHER_VERSION or OTHER_SIZES, if the library has another version than this header, or other sizes, and nothing was
+   made. */
 static inline uint32_t segcache_open(uint32_t keys, uint32_t threads, segcache *cache, segcache_client *clients) {
   segcache_handle made, raw[SEGCACHE_MAX_THREADS];
   uint32_t status = segcache_may_open(threads);
@@ -315,7 +322,8 @@ static inline uint32_t segcache_open_shape(const segcache_shape *shape, segcache
 
 /* Copies the value of a key into `value`, which has room for `room` bytes, and its length into
    `value_len`. It waits for nobody.
-   Answers: OK; MISS; BUSY; SHORT_BUFFER, with the length that is needed; BAD_KEY, NO_HANDLE. */
+   Answers: OK; MISS; BUSY; SHORT_BUFFER, with the length that is needed; BAD_KEY, NO_HANDLE. At all but OK and
+   SHORT_BUFFER nothing is written. */
 static inline uint32_t segcache_get(segcache_client *client, const void *key, size_t key_len, uint32_t now, void *value,
                                     size_t room, size_t *value_len) {
   SEGCACHE_BYTES(key, key_len);
@@ -327,7 +335,8 @@ static inline uint32_t segcache_get(segcache_client *client, const void *key, si
       client, segcache_raw_get(&client->raw, (const uint8_t *)key, key_len, (uint8_t *)value, room, value_len, now));
 }
 
-/* A get that also gives the version of the key's bucket, for segcache_cas. Answers as segcache_get. */
+/* A get that also gives the version of the key's bucket, for segcache_cas, with OK and SHORT_BUFFER. Answers as
+   segcache_get. */
 static inline uint32_t segcache_gets(segcache_client *client, const void *key, size_t key_len, uint32_t now,
                                      void *value, size_t room, size_t *value_len, uint32_t *version) {
   SEGCACHE_BYTES(key, key_len);
@@ -339,9 +348,10 @@ static inline uint32_t segcache_gets(segcache_client *client, const void *key, s
                                                  value_len, version, now));
 }
 
-/* Gets of several keys, one after another. In a cache for more than 8,192 keys (of 4,096 buckets or more) the waits for
-   memory of 8 keys or more overlap. Where gets wait for memory, each key then takes less time than a single get. Fewer
-   keys are single gets, and so are any keys of a smaller cache, whose table fits into the processor's own caches.
+/* Gets of several keys, one after another. In a cache for 6,554 keys or more, and for 820 or more of 2 to 9 threads
+   (of 4,096 buckets or more), the waits for memory of 8 keys or more overlap, 16 keys at a time. Where gets wait for
+   memory, each key then takes less time than a single get. Fewer keys are single gets, and so are any keys of a smaller
+   cache, whose table fits into the processor's own caches.
    Each lookup names its key by key_at and key_len, among the `len` bytes of `keys`. Afterwards it has a status of its
    own, OK, MISS, BUSY or BAD_KEY (also where its bytes aren't all in `keys`), and with OK value and value_len.
    Answers: OK, whatever the lookups have; NO_HANDLE, and they are as they were. */
@@ -364,10 +374,16 @@ static inline uint32_t segcache_gets_many(segcache_client *client, const void *k
 
 /* --- Writing ---------------------------------------------------------------------------------------- */
 
-/* Stores a value under a key, and makes room for it: if no row is left, the client recycles segments of its own.
-   It moves items that were read, and evicts the other keys; which ones no contract states. This is what a server's
-   set command calls. A put that is not OK leaves the old value where it is, if it wasn't evicted: delete the key if
-   nobody may read that any longer.
+/* Each call that stores can evict keys of its client. Once it has stored, a client that keeps by queues goes over up to
+   eight rows of another segment of its own, while few of its segments are free or one has expired: it moves their
+   items, or evicts them. A client that keeps from a frequency, or nothing, evicts only by put, put_for, fill and
+   make_room. Of a set, an add, a replace and a cas NO_ROOM comes first, also where the key's presence or version would
+   refuse it. */
+
+/* Stores a value under a key, and makes room for it: if no row is left, or the key's bucket is full, the client
+   recycles segments of its own. It moves items that were read, and evicts the other keys; which ones no contract
+   states. This is what a server's set command calls. A put that is not OK leaves the old value where it is, if it
+   wasn't evicted: delete the key if nobody may read that any longer.
    Answers: OK; NO_ROOM, if no segment could be had, since somebody read or held there, or a bucket of its keys was
    busy; BUCKET_FULL; BUSY; BAD_KEY, BAD_VALUE, NO_HANDLE. */
 static inline uint32_t segcache_put(segcache_client *client, const void *key, size_t key_len, const void *value,
@@ -402,8 +418,8 @@ static inline uint32_t segcache_fill(segcache_client *clients, uint32_t count, c
   return segcache_put(&clients[(hash ^ hash >> 15) % count], key, key_len, value, value_len, now);
 }
 
-/* Stores a value, and makes no room: NO_ROOM if no row is left, as before a client's first put. Where the deadline of
-   the segment that the client stores into has come, what is stored is absent at once. Answers as put. */
+/* Stores a value, and makes no room: NO_ROOM if the client has no segment with a row left in which the value lives as
+   long as after a put, as before its first put. Then call segcache_make_room, and set again. Answers as put. */
 static inline uint32_t segcache_set(segcache_client *client, const void *key, size_t key_len, const void *value,
                                     size_t value_len, uint32_t now) {
   SEGCACHE_BYTES(key, key_len);
@@ -412,8 +428,7 @@ static inline uint32_t segcache_set(segcache_client *client, const void *key, si
       client, segcache_raw_set(&client->raw, (const uint8_t *)key, key_len, (const uint8_t *)value, value_len, now));
 }
 
-/* A set that stores only if the key is absent. Answers as set, and NOT_STORED. As by set, what is stored is absent at
-   once where the deadline of the segment of the last put has come: segcache_make_room before it begins another one. */
+/* A set that stores only if the key is absent. Answers as set, and NOT_STORED. */
 static inline uint32_t segcache_add(segcache_client *client, const void *key, size_t key_len, const void *value,
                                     size_t value_len, uint32_t now) {
   SEGCACHE_BYTES(key, key_len);
@@ -432,8 +447,8 @@ static inline uint32_t segcache_replace(segcache_client *client, const void *key
 }
 
 /* A set that stores only if no key of the bucket was stored or deleted since the segcache_gets that gave
-   `version`. Another key of the bucket counts too, so EXISTS says: gets again.
-   Answers as set, and EXISTS, NOT_FOUND. */
+   `version`. Another key of the bucket counts too, so EXISTS says: gets again. Versions have 32 bits, and begin again
+   after the largest. Answers as set, and EXISTS, NOT_FOUND. */
 static inline uint32_t segcache_cas(segcache_client *client, const void *key, size_t key_len, const void *value,
                                     size_t value_len, uint32_t version, uint32_t now) {
   SEGCACHE_BYTES(key, key_len);
@@ -510,10 +525,11 @@ static inline uint32_t segcache_note_free(segcache_note_t *note) {
 
 /* --- Settings, room and counts ---------------------------------------------------------------------- */
 
-/* What segcache_put stores from now on lives for this time at most, and for seven eighths of it at least, unless it is
-   evicted, replaced or deleted before. segcache_put_for has a time of its own. A set, add, replace or cas
-   stores into the segment of the client's last put or make_room, and expires with it. After a change of time call
-   segcache_make_room before it. At the start the time is 4294967295. Answers: OK, NO_HANDLE. */
+/* What a put, set, add, replace or cas stores from now on lives for this time at most, and for seven eighths of it at
+   least, unless it is evicted, replaced or deleted before. segcache_put_for has a time of its own. All but a put are
+   NO_ROOM where the client has no segment with such a deadline: segcache_make_room then begins one. At the start the
+   time is 4294967295, and nothing expires before. A time of 0 isn't without end: what is stored is absent at once.
+   Answers: OK, NO_HANDLE. */
 static inline uint32_t segcache_set_time_to_live(segcache_client *client, uint32_t time_to_live) {
   return SEGCACHE_CALL(client, segcache_raw_set_time_to_live(&client->raw, time_to_live));
 }
@@ -532,7 +548,8 @@ static inline uint32_t segcache_keep_nothing(segcache_client *client) {
 
 /* Makes room, as a put does that finds no row: in the table of the client's last write, if that was answered by NO_ROOM,
    and else in each table. What is stored there next goes into a segment with a deadline for `now`: it lives for seven
-   eighths of the time to live at least. Answers: OK; NO_ROOM, of one table at least; NO_HANDLE. */
+   eighths of the time to live at least. Each call begins another segment, also where the one before has rows left. So
+   call it where a write found no room, and not before each. Answers: OK; NO_ROOM, of one table at least; NO_HANDLE. */
 static inline uint32_t segcache_make_room(segcache_client *client, uint32_t now) {
   return SEGCACHE_CALL(client, segcache_raw_make_room(&client->raw, now));
 }
@@ -554,7 +571,8 @@ static inline uint32_t segcache_give_back_entered(segcache *cache, segcache_clie
   return SEGCACHE_CALL(client, segcache_raw_give_back(&cache->raw, &client->raw));
 }
 
-/* Gives a client back to its cache. The client is none afterwards.
+/* Gives a client back to its cache. The client is none afterwards. By rule 1 only one thread at a time gives a client
+   back to a cache: where each thread does it at its end, under a lock.
    Answers: OK; FOREIGN, and nothing changed; NO_HANDLE, of either. */
 static inline uint32_t segcache_give_back(segcache *cache, segcache_client *client) {
   if (client == NULL || cache == NULL || !client->raw.full || !cache->raw.full) return SEGCACHE_NO_HANDLE;

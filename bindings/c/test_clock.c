@@ -23,29 +23,49 @@ static int readers(segcache_client *client, uint32_t now) {
   return found;
 }
 
-/* A value can be read before 110, and from then on it is absent: for a read, and for a write that looks first. */
+/* A value can be read before 180, and from then on it is absent: for a read, and for a write that looks first. What is
+ * written at 180 goes into a segment of its own. */
 static void test_reads_and_writes(segcache_client *client) {
   char value[SEGCACHE_MAX_VALUE];
   size_t length;
   uint32_t version = 0;
   EXPECT(segcache_set(client, "k", 1, "v", 1, 105), SEGCACHE_OK);
   CHECK(readers(client, 105) == EACH);
-  CHECK(readers(client, 109) == EACH);
-  CHECK(readers(client, 110) == 0);
+  CHECK(readers(client, 179) == EACH);
+  CHECK(readers(client, 180) == 0);
   CHECK(readers(client, 4294967294) == 0);
   EXPECT(segcache_gets(client, "k", 1, 109, value, sizeof value, &length, &version), SEGCACHE_OK);
   EXPECT(segcache_add(client, "k", 1, "w", 1, 109), SEGCACHE_NOT_STORED);
-  EXPECT(segcache_replace(client, "k", 1, "w", 1, 110), SEGCACHE_NOT_STORED);
-  EXPECT(segcache_cas(client, "k", 1, "w", 1, version, 110), SEGCACHE_NOT_FOUND);
-  EXPECT(segcache_delete(client, "k", 1, 110), SEGCACHE_NOT_FOUND);
+  EXPECT(segcache_make_room(client, 180), SEGCACHE_OK);
+  EXPECT(segcache_replace(client, "k", 1, "w", 1, 180), SEGCACHE_NOT_STORED);
+  EXPECT(segcache_cas(client, "k", 1, "w", 1, version, 180), SEGCACHE_NOT_FOUND);
+  EXPECT(segcache_delete(client, "k", 1, 180), SEGCACHE_NOT_FOUND);
   EXPECT(segcache_cas(client, "k", 1, "w", 1, version, 109), SEGCACHE_OK);
   EXPECT(segcache_replace(client, "k", 1, "x", 1, 109), SEGCACHE_OK);
   CHECK(reads(client, "k", 109, "x"));
   EXPECT(segcache_delete(client, "k", 1, 109), SEGCACHE_OK);
   EXPECT(segcache_set(client, "k", 1, "v", 1, 109), SEGCACHE_OK);
-  EXPECT(segcache_add(client, "k", 1, "w", 1, 110), SEGCACHE_OK); /* where the deadline of its segment has come */
-  CHECK(readers(client, 110) == 0);
-  CHECK(reads(client, "k", 109, "w"));
+  EXPECT(segcache_add(client, "k", 1, "w", 1, 180), SEGCACHE_OK); /* where the deadline of the key's segment has come */
+  CHECK(reads(client, "k", 250, "w"));
+}
+
+/* What is stored lives for 80 at most, and for 70 at least. Where no segment has such a deadline, a write has no room,
+ * and does nothing. */
+static void test_late_writes(segcache_client *client) {
+  EXPECT(segcache_make_room(client, 1000), SEGCACHE_OK); /* until 1080 */
+  EXPECT(segcache_set(client, "late", 4, "v", 1, 1010), SEGCACHE_OK);
+  EXPECT(segcache_set(client, "late", 4, "w", 1, 1011), SEGCACHE_NO_ROOM);
+  EXPECT(segcache_add(client, "new", 3, "w", 1, 1011), SEGCACHE_NO_ROOM);
+  EXPECT(segcache_replace(client, "late", 4, "w", 1, 1011), SEGCACHE_NO_ROOM);
+  EXPECT(segcache_cas(client, "late", 4, "w", 1, 0, 1011), SEGCACHE_NO_ROOM);
+  CHECK(reads(client, "late", 1079, "v"));
+  CHECK(reads(client, "new", 1011, NULL));
+  EXPECT(segcache_make_room(client, 1011), SEGCACHE_OK); /* until 1090 */
+  EXPECT(segcache_add(client, "new", 3, "w", 1, 1011), SEGCACHE_OK);
+  EXPECT(segcache_replace(client, "late", 4, "w", 1, 1011), SEGCACHE_OK);
+  CHECK(reads(client, "new", 1089, "w"));
+  CHECK(reads(client, "late", 1089, "w"));
+  CHECK(reads(client, "new", 1090, NULL));
 }
 
 /* What is put lives for its time at most, and for seven eighths of it at least: here for 9 or 10. */
@@ -99,9 +119,11 @@ void test_clock(void) {
   segcache cache;
   segcache_client client;
   EXPECT(segcache_open(1000, 1, &cache, &client), SEGCACHE_OK); /* 16 rows in a segment */
-  EXPECT(segcache_set_time_to_live(&client, 10), SEGCACHE_OK);
-  EXPECT(segcache_make_room(&client, 100), SEGCACHE_OK);
+  EXPECT(segcache_set_time_to_live(&client, 80), SEGCACHE_OK);
+  EXPECT(segcache_make_room(&client, 100), SEGCACHE_OK); /* until 180 */
   test_reads_and_writes(&client);
+  test_late_writes(&client);
+  EXPECT(segcache_set_time_to_live(&client, 10), SEGCACHE_OK);
   test_puts(&client);
   test_several_times(&client);
   test_own_time(&client);

@@ -18,7 +18,8 @@ pub struct Shape {
     pub overflow: u32,
     /// Clients, 1 to 64.
     pub passes: u32,
-    /// Segments of each client, 1 to 1,024. One to a quarter stays free, unless the client keeps nothing.
+    /// Segments of each client, 1 to 1,024. By queues two of several are held free, or three if they have one row; by
+    /// [`Client::keep_from`] one, and none by [`Client::keep_nothing`].
     pub segments_each: u32,
     /// Items that a segment has room for, 1 to 4,096.
     pub rows: u32,
@@ -194,7 +195,7 @@ impl std::error::Error for Unclosed {
 
 /// The content of a closed cache: the pairs of each table in the order of their keys' bytes. The tables are
 /// closed one after another, as their pairs are wanted. Where memory for the list of a table's pairs is refused,
-/// `next` returns None, and [`Content::is_whole`] false from then on. The next call goes on.
+/// `next` returns None, and [`Content::is_whole`] false from then on. A loop ends there, and the next call goes on.
 #[derive(Debug)]
 pub struct Content {
     cursor: Handle,

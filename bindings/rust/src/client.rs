@@ -29,8 +29,9 @@ pub enum Cas {
     NotFound,
 }
 
-/// How many calls of one client came to what. `keys_evicted` has the keys that stood, expired ones among them. Where
-/// nothing expires, more than 0 says that the client had too little room for what it stored, or that a segment was held.
+/// How many calls of one client came to what; holds aren't counted. `keys_evicted` has the keys that stood, expired ones
+/// among them. Where nothing expires, more than 0 says that the client had too little room for what it stored, that a
+/// bucket was full, or that a segment was held. All calls that store can evict keys, and `make_room` can.
 #[repr(C)]
 #[derive(Clone, Copy, Debug, Default, PartialEq, Eq)]
 #[allow(missing_docs)]
@@ -85,7 +86,8 @@ impl Client {
         self.handle.get()
     }
 
-    /// Sets the client's clock, a number in units of your choice. It stands still until it is set again.
+    /// Sets the client's clock, a number in units of your choice. It stands still until it is set again. At
+    /// `u32::MAX` all keys are absent, which milliseconds come to in 49 days.
     pub fn set_now(&self, now: u32) {
         self.now.set(now);
     }
@@ -117,8 +119,8 @@ impl Client {
         Ok(found(status, value)?.map(|value| (value, Version(version))))
     }
 
-    /// The value of each key, in their order: one get after another. In a cache for more than 8,192 keys the waits
-    /// for memory of 8 keys or more overlap.
+    /// The value of each key, in their order: one get after another. In a cache for 6,554 keys or more, and for 820 or
+    /// more of 2 to 9 threads, the waits for memory of 8 keys or more overlap.
     ///
     /// # Errors
     /// Of each key, as [`Client::get`].
@@ -153,9 +155,9 @@ impl Client {
         }
     }
 
-    /// Stores a value, and makes room for it: if no row is left, the client recycles segments of its own. It
-    /// moves items that were read to another segment, and evicts the other keys. After an error the old value
-    /// may stand; delete the key if nobody may read it.
+    /// Stores a value, and makes room for it: if no row is left, or the key's bucket is full, the client recycles
+    /// segments of its own. It moves items that were read to another segment, and evicts the other keys. After an
+    /// error the old value may stand; delete the key if nobody may read it.
     ///
     /// # Errors
     /// [`Error::NoRoom`], [`Error::BucketFull`], [`Error::Busy`], [`Error::BadKey`], [`Error::BadValue`].
@@ -184,7 +186,8 @@ impl Client {
     }
 
     /// A [`Client::put`] by one of these clients, which the key chooses: so one thread fills a cache, and uses the
-    /// room of all clients. A key that is filled twice goes to the same client.
+    /// room of all clients. A key that is filled twice goes to the same client. Its time to live and its clock are
+    /// those of the client that is chosen: set all of them before.
     ///
     /// # Errors
     /// As [`Client::put`].
@@ -197,9 +200,8 @@ impl Client {
         clients[(hash ^ hash >> 15) as usize % clients.len()].put(key, value)
     }
 
-    /// Stores a value, and makes no room: [`Error::NoRoom`] if no row is left, as before a client's first put.
-    /// Then [`Client::make_room`], and set again. Where the deadline of the segment that the client stores
-    /// into has come, what is stored is absent at once.
+    /// Stores a value, and makes no room: [`Error::NoRoom`] if the client has no segment with a row left in which
+    /// the value lives as long as after a put, as before its first put. Then [`Client::make_room`], and set again.
     ///
     /// # Errors
     /// As [`Client::put`].
@@ -284,10 +286,11 @@ impl Client {
         done(unsafe { raw::segcache_raw_learn(self.handle(), note.handle()) })
     }
 
-    /// What this client puts from now on lives for this time at most, and for seven eighths of it at least, unless
+    /// What this client stores from now on lives for this time at most, and for seven eighths of it at least, unless
     /// it is evicted, replaced or deleted before. The unit is that of `set_now`, whose clock stands still until it is
-    /// set again. [`Client::put_for`] has a time of its own. An add, a replace or a cas stores into the segment
-    /// of the last put or `make_room`, and expires with it.
+    /// set again. [`Client::put_for`] has a time of its own. A set, an add, a replace or a cas is
+    /// [`Error::NoRoom`] where the client has no segment with such a deadline: `make_room` then begins one.
+    /// At the start the time is `u32::MAX`, and nothing expires before. With 0 what is stored is absent at once.
     pub fn set_time_to_live(&self, time_to_live: u32) {
         // SAFETY: the handle is this client's.
         unsafe { raw::segcache_raw_set_time_to_live(self.handle(), time_to_live) };
@@ -308,7 +311,8 @@ impl Client {
 
     /// Begins another segment of this client's, and returns whether one could be had: in the table of its last
     /// write, if that was answered by [`Error::NoRoom`], and else in each table. It may evict keys that this
-    /// client stored.
+    /// client stored. It does so at each call, also where the segment before has rows left. So call it where a write
+    /// found no room, and not before each.
     ///
     /// # Errors
     /// None that is known.

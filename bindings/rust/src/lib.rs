@@ -3,7 +3,7 @@
 //!
 //! Each thread has a [`Client`] of its own, and reads what all of them put. No call of a client waits; a
 //! client that is dropped waits while another is. A key has 1 to 24 bytes, a value at most 32. The cache takes
-//! its memory when it is made; notes, a close and [`Client::get_many`] take more.
+//! its memory when it is made; notes, a close, [`Client::get_many`] and [`Client::gets_many`] take more.
 //!
 //! ```
 //! let (_cache, mut clients) = segcache::Cache::builder().keys(1_000).threads(2).build()?;
@@ -38,8 +38,9 @@
 //! ```
 //!
 //! A number is raised by [`Client::gets`] and [`Client::cas`]. A call that is [`Error::Busy`] was disturbed by others:
-//! make it again. Of the calls that store only [`Client::put`] makes room by itself; for the others there is
-//! [`Client::make_room`], which may evict keys that this client stored:
+//! make it again. Of the calls that store only [`Client::put`], [`Client::put_for`] and [`Client::fill`] make room by
+//! themselves; for the others there is [`Client::make_room`], which may evict keys that this client stored. Any call that
+//! stores may then evict some keys ahead, so that the next ones find room:
 //!
 //! ```
 //! use segcache::{Cas, Client, Error};
@@ -62,8 +63,9 @@
 //! # Ok::<(), Error>(())
 //! ```
 //!
-//! [`Client::get_many`] gets several keys. In a cache for more than 8,192 keys the waits for memory of 8 keys or more overlap.
-//! Where gets wait for memory, each key then takes less time. Fewer keys are single gets, and so are any of a smaller cache.
+//! [`Client::get_many`] gets several keys. In a cache for 6,554 keys or more, and for 820 or more of 2 to 9 threads, the
+//! waits for memory of 8 keys or more overlap. Where gets wait for memory, each key then takes less time. Fewer keys are
+//! single gets, and so are any of a smaller cache.
 //!
 //! A value that is held reads the same until the hold is dropped, whatever becomes of its key:
 //!

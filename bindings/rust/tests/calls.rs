@@ -4,7 +4,7 @@ use segcache::{Cache, Cas, Client, Error, Shape, Version};
 use std::num::NonZeroU8;
 use std::thread;
 
-// Two clients of 64 segments with sixteen rows each.
+// Two clients of 64 segments with 250 rows each.
 fn two() -> (Cache, Client, Client) {
     let (cache, mut clients) = Cache::builder().keys(1000).threads(2).build().unwrap();
     let second = clients.pop().unwrap();
@@ -136,10 +136,10 @@ fn add_replace_and_cas_look_first() {
     assert_eq!((table.used_rows, table.named_rows), (3, 1));
 }
 
-// A client whose values can be read before 110.
-fn until_110() -> (Cache, Client) {
+// A client whose values can be read before 180.
+fn until_180() -> (Cache, Client) {
     let (cache, client, _other) = two();
-    client.set_time_to_live(10);
+    client.set_time_to_live(80);
     client.set_now(100);
     assert_eq!(client.make_room(), Ok(true));
     client.set_now(105);
@@ -159,22 +159,23 @@ fn is_read_at(client: &Client, now: u32) -> bool {
 
 #[test]
 fn what_is_stored_expires_for_each_read() {
-    let (_cache, client) = until_110();
+    let (_cache, client) = until_180();
     client.set("k", "v").unwrap();
     assert!(is_read_at(&client, 105));
-    assert!(is_read_at(&client, 109));
-    assert!(!is_read_at(&client, 110));
+    assert!(is_read_at(&client, 179));
+    assert!(!is_read_at(&client, 180));
     assert!(!is_read_at(&client, u32::MAX - 1));
 }
 
 #[test]
 fn what_is_stored_expires_for_each_write_that_looks_first() {
-    let (_cache, client) = until_110();
+    let (_cache, client) = until_180();
     client.set("k", "v").unwrap();
     client.set_now(109);
     let version = client.gets("k").unwrap().unwrap().1;
     assert_eq!(client.add("k", "w"), Ok(false));
-    client.set_now(110);
+    client.set_now(180);
+    assert_eq!(client.make_room(), Ok(true));
     assert_eq!(client.replace("k", "w"), Ok(false));
     assert_eq!(client.cas("k", "w", version), Ok(Cas::NotFound));
     assert_eq!(client.delete("k"), Ok(false));
@@ -183,15 +184,33 @@ fn what_is_stored_expires_for_each_write_that_looks_first() {
     assert_eq!(client.replace("k", "x"), Ok(true));
     assert_eq!(client.delete("k"), Ok(true));
     client.set("k", "v").unwrap();
+    client.set_now(180);
+    assert_eq!(client.add("k", "w"), Ok(true)); // where the deadline of the key's segment has come
+    assert!(is_read_at(&client, 250));
+}
+
+// A value that is stored at 110 lives for 70, seven eighths of 80, and at 111 it would for 69.
+#[test]
+fn a_write_has_no_room_where_its_value_expires_early() {
+    let (_cache, client) = until_180();
     client.set_now(110);
-    assert_eq!(client.add("k", "w"), Ok(true));
-    assert!(!is_read_at(&client, 110)); // where the deadline of its segment has come
+    client.set("k", "v").unwrap();
+    client.set_now(111);
+    assert_eq!(client.set("k", "w"), Err(Error::NoRoom));
+    assert_eq!(client.replace("k", "w"), Err(Error::NoRoom));
+    assert_eq!(client.add("new", "w"), Err(Error::NoRoom));
+    assert_eq!(client.get("k").unwrap().unwrap(), b"v");
+    assert_eq!(client.make_room(), Ok(true));
+    client.set("k", "w").unwrap();
+    assert!(is_read_at(&client, 189));
+    assert!(!is_read_at(&client, 190));
 }
 
 // A put for a time of its own leaves the client's time as it is. At 0 what is put is absent at once.
 #[test]
 fn what_is_put_for_a_time_of_its_own_lives_by_that() {
-    let (_cache, client) = until_110();
+    let (_cache, client) = until_180();
+    client.set_time_to_live(10);
     client.put_for("k", "v", 80).unwrap();
     client.put("other", "v").unwrap();
     assert!(is_read_at(&client, 105 + 69));
@@ -213,7 +232,8 @@ fn one_client_of_a_small_cache_has_room_for_all_keys() {
 // What is put lives for its time at most, and for seven eighths of it at least: here for 9 or 10.
 #[test]
 fn what_is_put_lives_for_seven_eighths_of_its_time() {
-    let (_cache, client) = until_110();
+    let (_cache, client) = until_180();
+    client.set_time_to_live(10);
     client.set_now(109);
     client.put("k", "v").unwrap();
     assert!(is_read_at(&client, 117));
