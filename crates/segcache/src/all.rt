@@ -11,7 +11,7 @@ impl SharedClient {
     ghost use Rattle.segcache.specs.All.{AreNotesFor, EachAnswers, EachMakes, ReturnsTables};
     ghost use Rattle.segcache.specs.All.{stats_of};
 
-    /// Sets how long what is put can be read.
+    /// Sets how long what is stored can be read.
     pub(crate) fn set_time_to_live(&mut self, seconds: u32)
         ensures { EachMakes (λ board. SetsTimeToLive seconds) self.old self.new }
     {

@@ -47,7 +47,7 @@ impl Guest {
         }
     }
 
-    /// Sets how long what is put can be read.
+    /// Sets how long what is stored can be read.
     pub(crate) fn set_time_to_live(&mut self, seconds: u32)
         ensures { MakesCall (λ board. SetsTimeToLive seconds) self.old self.new }
     {

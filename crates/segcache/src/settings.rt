@@ -37,7 +37,7 @@ pub struct TableStats {
     pub named_rows: u32,
 }
 
-/// Sets how long what is put from now on can be read.
+/// Sets how long what is stored from now on can be read.
 #[unsafe(no_mangle)]
 pub extern "C" fn segcache_raw_set_time_to_live(
     alloc: Global,

@@ -78,7 +78,7 @@ pub record EndsWrite (told : WriteAnswer) (b : Board) (old new : Member) : Type 
   pub settings : KeepsSettings old new
 
 -- the deadlines that let an item live for seven eighths of the client's time to live at least,
--- and for all of it at most
+-- and for all of it at most; only the largest moment, if that comes within this time
 abbrev pub life_of : Member → Span
 life_of member = life_span member.clock member.time_to_live
 

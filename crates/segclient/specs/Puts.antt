@@ -53,7 +53,8 @@ StoredFor span p = (until : ℕ) × StoresUntil until p × IsInSpan span until
 -- Where it is Stored, the deadline of the segment it is stored into comes in the put's time,
 -- and not before seven eighths of it: it can be read so long, unless it goes before.
 -- It makes at most 16 sets in a row.
--- With a row left in a segment with such a deadline, it makes room only once its bucket was full.
+-- With a row left in its segment, and a deadline that it asks for, it makes room only once its
+-- bucket was full.
 -- Once it is Stored, a client with queues clears rows of another segment, by at most 16 steps.
 -- Hold and lock are as they were, and the client counted the put, and what calls and steps came to.
 pub record PutsFor (time : ℕ) (key value : List ℕ) (told : PutAnswer) (b : Board)

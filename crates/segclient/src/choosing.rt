@@ -101,7 +101,7 @@ pub(crate) fn is_fine(index: &Index, pass: &Pass, segments: &Segments, span: Spa
 }
 
 // Whether a segment that is opened has a finer deadline, though others are filled before:
-// most of what is given up expires in full segments, so few deadlines have to be equal.
+// two fifths of what is evicted have expired in full segments, so few deadlines have to be equal.
 #[inline(always)]
 pub(crate) fn is_filled_fine(segments: &Segments) -> bool
     ensures unqueued { is_some segments.now.queues ≡ false → result ≡ false }

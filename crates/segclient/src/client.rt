@@ -13,7 +13,7 @@ use std::alloc::{AllocError, Global};
 
 /// A pass of an index, for one thread at a time.
 ///
-/// It knows the segments of the pass, which `put` recycles in turn, draws the random numbers
+/// It knows the segments of the pass, which its calls recycle, draws the random numbers
 /// that raise frequencies, and has a clock, which stands still until the caller sets it.
 #[derive(Drop)]
 pub struct Client<'i> {
@@ -44,7 +44,8 @@ impl<'i> Client<'i> {
     }
 
     /// A client of this pass as `new` makes it, but its puts keep what was read, by two queues of
-    /// its segments. For these it takes 3 bytes for each row of its own, and no more later.
+    /// its segments. For these it takes 3 bytes for each row of its own and 44 for each segment,
+    /// and no more later.
     pub fn with_queues(
         alloc: Global,
         index: &'i Index,
@@ -146,7 +147,7 @@ impl<'i> Client<'i> {
     }
 
     /// Sets how long what is stored from now on can be read, but for that of `put_for`: for this
-    /// time at most, and for seven eighths of it at least, unless it is evicted or replaced before.
+    /// time at most, and for seven eighths of it at least, unless it goes before.
     /// What is stored expires with its segment, and a segment keeps its deadline.
     /// At the start it is the largest number, and then nothing expires
     /// before the largest moment.
@@ -208,7 +209,7 @@ impl<'i> Client<'i> {
 
     /// Stores the value under the key as `put` does, but for this time to live in place
     /// of the client's own: it can be read for this time at most, and for seven eighths of it
-    /// at least, unless it is evicted or replaced before. With the largest number
+    /// at least, unless it is evicted, replaced or deleted before. With the largest number
     /// it doesn't expire before the largest moment.
     ///
     /// Items with different times stand in different segments, which the client fills by turns.

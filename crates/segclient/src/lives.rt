@@ -4,7 +4,7 @@ ghost use Rattle.segclient.specs.Lives.{deadline_by, life_span};
 
 use crate::segments::Span;
 
-// An item lives for all parts but one of its time to live, of so many, or longer.
+// A time to live has so many parts. An item lives for all of them but one at least.
 pub(crate) const PARTS: u32 = 8;
 
 // While many segments are free, deadlines are as fine as this.

@@ -227,8 +227,8 @@ impl Member {
         ensures ends { EndsWrite told (board_of index.now) self.old self.new }
     {
         self.stats.count(Tally::of_write(told));
-        let rows = self.clear_then(index, key, told, replaced);
-        self.stats.count_effort(rows);
+        let effort = self.clear_then(index, key, told, replaced);
+        self.stats.count_effort(effort);
     }
 
     // A write that can't be made has no room.
@@ -335,7 +335,7 @@ impl Member {
     }
 
     // How room is made for what is put now for this time. While many segments are free,
-    // or most of what is given up has expired, those are opened that have finer deadlines.
+    // or two fifths of what is evicted have expired, those are opened that have finer deadlines.
     #[inline(always)]
     fn policy_for(&self, index: &Index, time: u32) -> Policy
         requires member { IsMember index.now self.now }

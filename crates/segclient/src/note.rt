@@ -92,7 +92,7 @@ pub fn what_a_put_adds()
 {}
 
 /// Right after `make_room` returned true, no write has too little room: the segment that the client
-/// then stores into has a row left, and a deadline that does.
+/// then stores into has a row left, and a deadline in the item's time to live.
 /// This function does nothing: its contract is the law.
 pub fn what_room_is_made_for()
     ensures { RoomServes }

@@ -6,7 +6,7 @@ ghost use Rattle.segclient.specs.PutParts.{with_effort};
 use crate::effort::Effort;
 use crate::tally::Tally;
 
-/// How often each outcome occurred in a client's calls, and what its puts recycled and kept.
+/// How often each outcome occurred in a client's calls, and what its calls recycled and kept.
 /// Each number stays at its largest once it is there.
 #[derive(Clone, Copy, Debug, PartialEq, Eq)]
 pub struct Stats {
@@ -23,11 +23,11 @@ pub struct Stats {
     pub no_room: u64,
     pub bucket_full: u64,
     pub busy: u64,
-    /// Segments that puts and `make_room` refilled.
+    /// Segments that were refilled: by puts, by `make_room`, and by queues after each write.
     pub segments_refilled: u64,
-    /// Items that puts and `make_room` moved out of a segment before they evicted it.
+    /// Items that the same calls moved out of a segment before they evicted it.
     pub items_kept: u64,
-    /// Keys that puts and `make_room` evicted.
+    /// Keys that the same calls evicted.
     pub keys_evicted: u64,
 }
 
