@@ -56,7 +56,7 @@ enum {
   SEGCACHE_OK = 0,
   SEGCACHE_MISS = 1,          /* the key was absent at a moment of the call */
   SEGCACHE_BUSY = 2,          /* others worked on the key's bucket all the while: call again */
-  SEGCACHE_NO_ROOM = 3,       /* no row is left to store into: make_room, or put again later */
+  SEGCACHE_NO_ROOM = 3,       /* no row is left in a segment whose deadline does: make_room, or put again later */
   SEGCACHE_BUCKET_FULL = 4,   /* the key's bucket has no free word: go on without */
   SEGCACHE_NOT_STORED = 5,    /* an add of a key that is present, a replace of one that is not */
   SEGCACHE_EXISTS = 6,        /* a cas: the bucket was written since the gets */
@@ -418,8 +418,8 @@ static inline uint32_t segcache_fill(segcache_client *clients, uint32_t count, c
   return segcache_put(&clients[(hash ^ hash >> 15) % count], key, key_len, value, value_len, now);
 }
 
-/* Stores a value, and makes no room: NO_ROOM if the client has no segment with a row left in which the value lives as
-   long as after a put, as before its first put. Then call segcache_make_room, and set again. Answers as put. */
+/* Stores a value, and makes no room: NO_ROOM if the client finds no segment of its own with a row left in which the value
+   lives as long as after a put, as before its first put. Then call segcache_make_room, and set again. Answers as put. */
 static inline uint32_t segcache_set(segcache_client *client, const void *key, size_t key_len, const void *value,
                                     size_t value_len, uint32_t now) {
   SEGCACHE_BYTES(key, key_len);
@@ -527,8 +527,9 @@ static inline uint32_t segcache_note_free(segcache_note_t *note) {
 
 /* What a put, set, add, replace or cas stores from now on lives for this time at most, and for seven eighths of it at
    least, unless it is evicted, replaced or deleted before. segcache_put_for has a time of its own. All but a put are
-   NO_ROOM where the client has no segment with such a deadline: segcache_make_room then begins one. At the start the
+   NO_ROOM where the client finds no segment with such a deadline: segcache_make_room then begins one. At the start the
    time is 4294967295, and nothing expires before. A time of 0 isn't without end: what is stored is absent at once.
+   A time that goes past the moment 4294967295 ends there.
    Answers: OK, NO_HANDLE. */
 static inline uint32_t segcache_set_time_to_live(segcache_client *client, uint32_t time_to_live) {
   return SEGCACHE_CALL(client, segcache_raw_set_time_to_live(&client->raw, time_to_live));
@@ -548,8 +549,8 @@ static inline uint32_t segcache_keep_nothing(segcache_client *client) {
 
 /* Makes room, as a put does that finds no row: in the table of the client's last write, if that was answered by NO_ROOM,
    and else in each table. What is stored there next goes into a segment with a deadline for `now`: it lives for seven
-   eighths of the time to live at least. Each call begins another segment, also where the one before has rows left. So
-   call it where a write found no room, and not before each. Answers: OK; NO_ROOM, of one table at least; NO_HANDLE. */
+   eighths of the time to live at least. While one is free each call begins another segment, also where the one before has rows left.
+   So call it where a write found no room, and not before each. Answers: OK; NO_ROOM, of one table at least; NO_HANDLE. */
 static inline uint32_t segcache_make_room(segcache_client *client, uint32_t now) {
   return SEGCACHE_CALL(client, segcache_raw_make_room(&client->raw, now));
 }

@@ -200,8 +200,8 @@ impl Client {
         clients[(hash ^ hash >> 15) as usize % clients.len()].put(key, value)
     }
 
-    /// Stores a value, and makes no room: [`Error::NoRoom`] if the client has no segment with a row left in which
-    /// the value lives as long as after a put, as before its first put. Then [`Client::make_room`], and set again.
+    /// Stores a value, and makes no room: [`Error::NoRoom`] if the client finds no segment of its own with a row left in
+    /// which the value lives as long as after a put, as before its first put. Then [`Client::make_room`], and set again.
     ///
     /// # Errors
     /// As [`Client::put`].
@@ -311,8 +311,8 @@ impl Client {
 
     /// Begins another segment of this client's, and returns whether one could be had: in the table of its last
     /// write, if that was answered by [`Error::NoRoom`], and else in each table. It may evict keys that this
-    /// client stored. It does so at each call, also where the segment before has rows left. So call it where a write
-    /// found no room, and not before each.
+    /// client stored. While one is free it does so at each call, also where the segment before has rows left. So call
+    /// it where a write found no room, and not before each.
     ///
     /// # Errors
     /// None that is known.

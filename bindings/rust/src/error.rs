@@ -8,7 +8,7 @@ use std::fmt;
 pub enum Error {
     /// Others worked on the key's bucket all the while: call again, or treat a get as a miss.
     Busy,
-    /// No row is left to store into. Of a put: no segment can be had, since somebody reads or holds there, or
+    /// No row is left in a segment whose deadline does. Of a put: no segment can be had, since somebody reads or holds there, or
     /// a bucket of its keys is busy.
     NoRoom,
     /// The key's bucket has no free word.
