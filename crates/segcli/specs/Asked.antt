@@ -32,7 +32,7 @@ use Rattle.segcli.specs.declared.asked.WordKind.{WordKind}
 use Rattle.segcli.specs.declared.asked.WordKind.TheVariants as kinds
 use Rattle.segcli.specs.declared.command.Command.{Command}
 use Rattle.segcli.specs.declared.command.Command.TheVariants as command
-use Rattle.segreplay.specs.declared.cache.Policy.TheVariants as policy
+use Rattle.segreplay.specs.declared.cache.Retention.TheVariants as policy
 use Rattle.segreplay.specs.declared.line.Form.TheVariants as form
 use Rattle.segreplay.specs.Policies.{policy_named}
 

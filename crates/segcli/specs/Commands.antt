@@ -10,8 +10,8 @@ use Rattle.segcli.specs.Replayed.{IsPlanOf, replay_text}
 use Rattle.segcli.specs.Totals.{text_in}
 use Rattle.segreplay.specs.declared.fault.ReplayFault.{ReplayFault}
 use Rattle.segreplay.specs.declared.fault.TraceFault.{TraceFault}
-use Rattle.segreplay.specs.declared.run.Plan.{Plan}
 use Rattle.segreplay.specs.declared.run.Replayed.{Replayed}
+use Rattle.segreplay.specs.declared.run.ReplayPlan.{ReplayPlan}
 use Rattle.segreplay.specs.Replays.{IsReplay}
 use Rattle.segcli.specs.declared.asked.Replay.{Replay}
 use Rattle.segscript.specs.Words.{EachTurn, EndsOnce, is_make_fault, is_read_fault, is_write_fault, RunFault}
@@ -103,7 +103,7 @@ end_of_replay (Err f) _ = Err f
 -- If it has none, the reader came to its end.
 pub record ShowsReplay (asked : Replay) {R W : Type 0} (i : Input R) (o : Output W)
     (end : Result (Unit {0}) ProgramFault) : Type 0 where
-  pub plan : Plan
+  pub plan : ReplayPlan
   pub seen : List ℕ
   pub replayed : Replayed
   pub shown : Result (Unit {0}) ProgramFault

@@ -2,10 +2,10 @@
 use Rattle.std.specs.Prelude.{◌≡◌, ◌*◌, ◌/◌, ◌%◌, ℕ, max, Bool, List, [], ◌∷◌, ◌++◌, codes, decimal, if◌then◌else◌, nat_lt}
 use Rattle.std.specs.List.{flat_map}
 use Rattle.segword.specs.Words.{Shape}
-use Rattle.segreplay.specs.declared.cache.Policy.{Policy}
-use Rattle.segreplay.specs.declared.cache.Policy.TheVariants as policy
+use Rattle.segreplay.specs.declared.cache.Retention.{Retention}
+use Rattle.segreplay.specs.declared.cache.Retention.TheVariants as policy
 use Rattle.segreplay.specs.declared.counts.Counts.{Counts}
-use Rattle.segreplay.specs.declared.run.Plan.{Plan}
+use Rattle.segreplay.specs.declared.run.ReplayPlan.{ReplayPlan}
 use Rattle.segreplay.specs.declared.totals.CacheTotals.{CacheTotals}
 use Rattle.segcli.specs.declared.asked.Format.{Format}
 use Rattle.segcli.specs.declared.asked.Format.TheVariants as format
@@ -16,7 +16,7 @@ use Rattle.segcli.specs.declared.asked.Replay.{Replay}
 -- ---- the plan
 
 -- all three policies, or one
-abbrev pub policies_of : Policies → List Policy
+abbrev pub policies_of : Policies → List Retention
 policies_of policies.All = policy.Default ∷ policy.Nothing ∷ policy.Cutoff 3 ∷ []
 policies_of (policies.One p) = p ∷ []
 
@@ -25,7 +25,7 @@ abbrev pub sizes_of : Bool → ℕ
 sizes_of are_compared = if are_compared then 6 else 1
 
 -- the plan of a replay that is asked for
-pub record IsPlanOf (asked : Replay) (plan : Plan) : Type 0 where
+pub record IsPlanOf (asked : Replay) (plan : ReplayPlan) : Type 0 where
   pub form : plan.form ≡ asked.form
   pub value_bytes : plan.value_bytes ≡ asked.value_bytes
   pub warm : plan.warm ≡ asked.warm
@@ -35,7 +35,7 @@ pub record IsPlanOf (asked : Replay) (plan : Plan) : Type 0 where
 
 -- ---- a line for each cache
 
-abbrev pub policy_text : Policy → List ℕ
+abbrev pub policy_text : Retention → List ℕ
 policy_text policy.Default = codes "default"
 policy_text policy.Nothing = codes "nothing"
 policy_text (policy.Cutoff least) = codes "cutoff:" ++ decimal least

@@ -2,8 +2,8 @@
 use Rattle.std.specs.Prelude.{ℕ, List, ◌++◌, codes, decimal}
 use Rattle.segreplay.specs.declared.line.Column.{Column}
 use Rattle.segreplay.specs.declared.line.Column.TheVariants as column
-use Rattle.segreplay.specs.declared.line.LineFault.{LineFault}
-use Rattle.segreplay.specs.declared.line.LineFault.TheVariants as fault
+use Rattle.segreplay.specs.declared.line.TraceLineFault.{TraceLineFault}
+use Rattle.segreplay.specs.declared.line.TraceLineFault.TheVariants as fault
 
 -- what the word of a column isn't
 abbrev pub column_reason : Column → List ℕ
@@ -19,7 +19,7 @@ abbrev pub count_note : ℕ → ℕ → List ℕ
 count_note found wanted =
     codes "it has " ++ decimal found ++ codes " words, not " ++ decimal wanted ++ codes "\n"
 
-abbrev pub trace_note : LineFault → List ℕ
+abbrev pub trace_note : TraceLineFault → List ℕ
 trace_note fault.TooLong = codes "it has more than 4096 bytes\n"
 trace_note (fault.Count found wanted) = count_note found wanted
 trace_note (fault.Word c place) = column_note c place

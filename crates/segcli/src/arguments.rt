@@ -19,7 +19,7 @@ use crate::command::Command;
 use crate::command_line::program;
 use clap::ArgMatches;
 use clap::error::{Error, ErrorKind};
-use segreplay::{Form, Policy};
+use segreplay::{Form, Retention};
 use segword::Shape;
 use std::alloc::{AllocError, Global};
 use std::num::NonZeroU32;
@@ -240,9 +240,9 @@ fn policies_named(word: Option<&str>) -> Option<Policies>
     ensures { result ≡ policies_named (option_map (λ text. text.now) word.entry) }
 {
     match word {
-        None => Some(Policies::One(Policy::Default)),
+        None => Some(Policies::One(Retention::Default)),
         Some("all") => Some(Policies::All),
-        Some(word) => Some(Policies::One(Policy::named(word.as_bytes())?)),
+        Some(word) => Some(Policies::One(Retention::named(word.as_bytes())?)),
     }
 }
 

@@ -1,5 +1,5 @@
 //! What a load, a replay and a word are asked for with.
-use segreplay::{Form, Policy};
+use segreplay::{Form, Retention};
 use segword::Shape;
 use std::num::NonZeroU32;
 
@@ -34,7 +34,7 @@ pub struct Load {
 /// The policies that a replay compares.
 #[derive(Clone, Copy, Debug, PartialEq, Eq)]
 pub enum Policies {
-    One(Policy),
+    One(Retention),
     All,
 }
 

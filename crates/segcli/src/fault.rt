@@ -6,7 +6,7 @@ ghost use Rattle.segcli.specs.Printing.{PrintOutcome, IsPrinted, IsFlushed, WasF
 
 use segindex::MakeFault;
 use segload::LoadFault;
-use segreplay::{LineFault, ReplayFault, TraceFault};
+use segreplay::{ReplayFault, TraceFault, TraceLineFault};
 use segscript::{Failed, Line, RunFault, Sink, line_of, put, put_number, write_all};
 use segword::ShapeFault;
 use std::alloc::AllocError;
@@ -17,7 +17,7 @@ pub enum ProgramFault {
     /// This line of the script is the first bad one. Lines are counted from 1.
     BadLine(u64),
     /// This line of the trace is the first bad one, for this reason. Lines are counted from 1.
-    BadRow(u64, LineFault),
+    BadRow(u64, TraceLineFault),
     /// A word isn't 16 hexadecimal digits, or has no reading as an item word.
     BadWord,
     /// The arguments aren't text.

@@ -7,22 +7,22 @@ ghost use Rattle.segcli.specs.Replayed.{replay_text, rows_of, share, sizes_of};
 
 use crate::asked::{Format, Policies, Replay};
 use crate::totals::{put, put_count};
-use segreplay::{CacheTotals, Plan, Policy};
+use segreplay::{CacheTotals, ReplayPlan, Retention};
 use segword::Shape;
 use std::alloc::{AllocError, Global};
 use std::slice;
 
 /// The policies of `--policy all`.
-const ALL: [Policy; 3] = [Policy::Default, Policy::Nothing, Policy::Cutoff(3)];
+const ALL: [Retention; 3] = [Retention::Default, Retention::Nothing, Retention::Cutoff(3)];
 
 /// How many sizes `--sizes` compares.
 const SIZES: u32 = 6;
 
 /// The plan of a replay that is asked for.
-pub(crate) fn plan_of<'p>(asked: &'p Replay<'_>) -> Plan<'p>
+pub(crate) fn plan_of<'p>(asked: &'p Replay<'_>) -> ReplayPlan<'p>
     ensures { IsPlanOf asked.entry.now result }
 {
-    Plan {
+    ReplayPlan {
         form: asked.form,
         value_bytes: asked.value_bytes as usize,
         warm: asked.warm,
@@ -39,7 +39,7 @@ fn sizes_of(are_compared: bool) -> u32
     if are_compared { SIZES } else { 1 }
 }
 
-fn policies_of<'p>(policies: &'p Policies) -> &'p [Policy]
+fn policies_of<'p>(policies: &'p Policies) -> &'p [Retention]
     ensures { result.now ≡ policies_of policies.entry.now }
 {
     match policies {
@@ -48,13 +48,13 @@ fn policies_of<'p>(policies: &'p Policies) -> &'p [Policy]
     }
 }
 
-fn put_policy(text: &mut Vec<u8>, policy: Policy) -> Result<(), AllocError>
+fn put_policy(text: &mut Vec<u8>, policy: Retention) -> Result<(), AllocError>
     ensures text { IfOk result (λ _. text.new.items ≡ text.old.items ++ policy_text policy) }
 {
     match policy {
-        Policy::Default => put(text, b"default"),
-        Policy::Nothing => put(text, b"nothing"),
-        Policy::Cutoff(cutoff) => put_count(text, b"cutoff:", cutoff),
+        Retention::Default => put(text, b"default"),
+        Retention::Nothing => put(text, b"nothing"),
+        Retention::Cutoff(cutoff) => put_count(text, b"cutoff:", cutoff),
     }
 }
 

@@ -2,7 +2,7 @@
 ghost use Rattle.std.specs.Prelude.{◌≡◌, ◌≤◌, length};
 ghost use Rattle.segcli.specs.TraceNotes.{column_note, column_reason, count_note, trace_note};
 
-use segreplay::{Column, LineFault};
+use segreplay::{Column, TraceLineFault};
 use segscript::{Line, line_of, put, put_number};
 
 // What the word of a column isn't.
@@ -39,12 +39,12 @@ fn count_note(found: usize, wanted: usize) -> Line
 }
 
 /// Why a line of a trace states nothing.
-pub(crate) fn trace_note(fault: LineFault) -> Line
+pub(crate) fn trace_note(fault: TraceLineFault) -> Line
     ensures { result.items ≡ trace_note fault }
 {
     match fault {
-        LineFault::TooLong => line_of(b"it has more than 4096 bytes\n"),
-        LineFault::Count(found, wanted) => count_note(found, wanted),
-        LineFault::Word(column, place) => column_note(column, place),
+        TraceLineFault::TooLong => line_of(b"it has more than 4096 bytes\n"),
+        TraceLineFault::Count(found, wanted) => count_note(found, wanted),
+        TraceLineFault::Word(column, place) => column_note(column, place),
     }
 }

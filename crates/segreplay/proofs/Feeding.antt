@@ -10,19 +10,19 @@ use Rattle.segreplay.specs.declared.fault.TraceFault.TheVariants as fault
 use Rattle.segreplay.specs.declared.line.Columns.{Columns}
 use Rattle.segreplay.specs.declared.line.Form.{Form}
 use Rattle.segreplay.specs.declared.line.Form.TheVariants as form
-use Rattle.segreplay.specs.declared.line.LineFault.{LineFault}
-use Rattle.segreplay.specs.declared.line.LineFault.TheVariants as line_fault
-use Rattle.segreplay.specs.declared.line.Request.{Request}
 use Rattle.segreplay.specs.declared.line.Stated.{Stated}
 use Rattle.segreplay.specs.declared.line.Stated.TheVariants as states
-use Rattle.segreplay.specs.declared.player.Turn.{Turn}
-use Rattle.segreplay.specs.declared.reading.Reading.{Reading}
+use Rattle.segreplay.specs.declared.line.TraceCommand.{TraceCommand}
+use Rattle.segreplay.specs.declared.line.TraceLineFault.{TraceLineFault}
+use Rattle.segreplay.specs.declared.line.TraceLineFault.TheVariants as line_fault
+use Rattle.segreplay.specs.declared.player.Assignment.{Assignment}
 use Rattle.segreplay.specs.declared.reading.Rules.{Rules}
+use Rattle.segreplay.specs.declared.reading.TracePosition.{TracePosition}
 use Rattle.segreplay.specs.Lines.{form_after, stated}
 use Rattle.segreplay.specs.Replays.{is_read_end}
 use Rattle.segreplay.specs.Traces.{EndsBad, EndsEarly, EndsTrace, Feeds, HasRead, line_after, number_after, requests_in, State, TakesCommand, TakesLine, TakesStated, turn_of, turns_from}
 
-state_more : (form last : Form) (lines : List (List ℕ)) (line : List ℕ) (rs : List Request) (said : Stated)
+state_more : (form last : Form) (lines : List (List ℕ)) (line : List ℕ) (rs : List TraceCommand) (said : Stated)
     → State form lines rs last → stated last line ≡ Ok said
     → State form (lines ++ line ∷ []) (rs ++ requests_in said) (form_after last said)
 state_more form last [] line rs said was one =
@@ -35,11 +35,11 @@ state_more form last (l ∷ lines) line rs said was one = (
   ap (λ l. l ++ requests_in said) was.4 ∙ append_assoc (requests_in was.0) was.1 (requests_in said),
 )
 
-turns_more : (rules : Rules) (number : ℕ) (rs more : List Request) → turns_from rules number (rs ++ more) ≡ turns_from rules number rs ++ turns_from rules (number_after number rs) more
+turns_more : (rules : Rules) (number : ℕ) (rs more : List TraceCommand) → turns_from rules number (rs ++ more) ≡ turns_from rules number rs ++ turns_from rules (number_after number rs) more
 turns_more rules number [] more = refl
 turns_more rules number (r ∷ rs) more = ap (λ l. turn_of rules number r ∷ l) (turns_more rules (with_more number 1) rs more)
 
-after_more : (number : ℕ) (rs more : List Request) → number_after number (rs ++ more) ≡ number_after (number_after number rs) more
+after_more : (number : ℕ) (rs more : List TraceCommand) → number_after number (rs ++ more) ≡ number_after (number_after number rs) more
 after_more number [] more = refl
 after_more number (r ∷ rs) more = after_more (with_more number 1) rs more
 
@@ -48,7 +48,7 @@ line_more number [] line = refl
 line_more number (l ∷ lines) line = line_more (with_more number 1) lines line
 
 -- the turns after a line
-turns_taken : (rules : Rules) (made old new : List Turn) (rs more : List Request) (number : ℕ)
+turns_taken : (rules : Rules) (made old new : List Assignment) (rs more : List TraceCommand) (number : ℕ)
     → made ++ old ≡ turns_from rules 0 rs → number ≡ number_after 0 rs → new ≡ old ++ turns_from rules number more
     → made ++ new ≡ turns_from rules 0 (rs ++ more)
 turns_taken rules made old new rs more number was at took =
@@ -58,8 +58,8 @@ turns_taken rules made old new rs more number was at took =
     ∙ ap (λ n. turns_from rules 0 rs ++ turns_from rules n more) at
     ∙ sym (turns_more rules 0 rs more)
 
-module _ (rules : Rules) (seen : List ℕ) (made : List Turn) (old new : Reading) (here : HasRead rules seen made old) where
-  taken : (more : List Request) → new.turns.items ≡ old.turns.items ++ turns_from old.rules old.commands more → made ++ new.turns.items ≡ turns_from rules 0 (here.requests ++ more)
+module _ (rules : Rules) (seen : List ℕ) (made : List Assignment) (old new : TracePosition) (here : HasRead rules seen made old) where
+  taken : (more : List TraceCommand) → new.turns.items ≡ old.turns.items ++ turns_from old.rules old.commands more → made ++ new.turns.items ≡ turns_from rules 0 (here.requests ++ more)
   taken more took =
       turns_taken rules made old.turns.items new.turns.items here.requests more old.commands here.turns here.commands
       (subst (λ (x : Rules). new.turns.items ≡ old.turns.items ++ turns_from x old.commands more) here.same took)
@@ -83,7 +83,7 @@ module _ (rules : Rules) (seen : List ℕ) (made : List Turn) (old new : Reading
     made = kept same;
   }
 
-  bad : (more : List ℕ) (n : ℕ) (why : LineFault) → n ≡ old.number → stated old.form old.line.items ≡ Err why
+  bad : (more : List ℕ) (n : ℕ) (why : TraceLineFault) → n ≡ old.number → stated old.form old.line.items ≡ Err why
       → new.turns.items ≡ old.turns.items → EndsBad rules (seen ++ more) (made ++ new.turns.items) n why
   bad more n why at none same = record {
     form = old.form;
@@ -182,7 +182,7 @@ next_byte : (seen bytes : List ℕ) (i : ℕ) → i < length bytes → (seen ++ 
 next_byte seen bytes i below = append_assoc seen (take i bytes) (get_or bytes i 0 ∷ []) ∙ ap (λ b. seen ++ b) (sym (take_more bytes i 0 below))
 
 -- the trace ends here, in the middle of a line or not
-pub stopped : (rules : Rules) (seen : List ℕ) (made : List Turn) (r : Reading) → HasRead rules seen made r → EndsEarly rules seen (made ++ r.turns.items)
+pub stopped : (rules : Rules) (seen : List ℕ) (made : List Assignment) (r : TracePosition) → HasRead rules seen made r → EndsEarly rules seen (made ++ r.turns.items)
 stopped rules seen made r here = record {
   form = r.form;
   lines = here.lines;
@@ -195,7 +195,7 @@ stopped rules seen made r here = record {
 }
 
 -- a fault before more bytes
-pub fault_later : (rules : Rules) (seen more : List ℕ) (made : List Turn) (new : Reading) (f : TraceFault) → Feeds rules seen made new (Err f) → Feeds rules (seen ++ more) made new (Err f)
+pub fault_later : (rules : Rules) (seen more : List ℕ) (made : List Assignment) (new : TracePosition) (f : TraceFault) → Feeds rules seen made new (Err f) → Feeds rules (seen ++ more) made new (Err f)
 fault_later rules seen more made new (fault.Line n why) fed = record {
   form = fed.form;
   lines = fed.lines;
@@ -224,21 +224,22 @@ fault_later rules seen more made new fault.Read fed = absurd fed
 fault_later rules seen more made new fault.TooLong fed = absurd fed
 
 -- a fault of bytes that were fed ends the trace
-pub fault_ends : (rules : Rules) (seen : List ℕ) (made : List Turn) (new : Reading) (f : TraceFault) → Feeds rules seen made new (Err f) → EndsTrace rules seen (made ++ new.turns.items) (Err f)
+pub fault_ends : (rules : Rules) (seen : List ℕ) (made : List Assignment) (new : TracePosition) (f : TraceFault) → Feeds rules seen made new (Err f)
+    → EndsTrace rules seen (made ++ new.turns.items) (Err f)
 fault_ends rules seen made new (fault.Line n why) fed = fed
 fault_ends rules seen made new fault.OutOfMemory fed = fed
 fault_ends rules seen made new fault.Read fed = absurd fed
 fault_ends rules seen made new fault.TooLong fed = absurd fed
 
 -- the next byte of some
-pub fed_on : (rules : Rules) (seen : List ℕ) (made : List Turn) (bytes : List ℕ) (i : ℕ) (new : Reading)
+pub fed_on : (rules : Rules) (seen : List ℕ) (made : List Assignment) (bytes : List ℕ) (i : ℕ) (new : TracePosition)
     → i < length bytes → HasRead rules ((seen ++ take i bytes) ++ get_or bytes i 0 ∷ []) made new
     → HasRead rules (seen ++ take (i + 1) bytes) made new
 fed_on rules seen made bytes i new below fed =
     subst (λ s. HasRead rules s made new) (next_byte seen bytes i below) fed
 
 -- a fault at one of some
-pub fault_within : (rules : Rules) (seen : List ℕ) (made : List Turn) (bytes : List ℕ) (i : ℕ) (new : Reading)
+pub fault_within : (rules : Rules) (seen : List ℕ) (made : List Assignment) (bytes : List ℕ) (i : ℕ) (new : TracePosition)
     (f : TraceFault) → i < length bytes → Feeds rules ((seen ++ take i bytes) ++ get_or bytes i 0 ∷ []) made new
     (Err f) → Feeds rules (seen ++ bytes) made new (Err f)
 fault_within rules seen made bytes i new f below fed =
@@ -248,13 +249,13 @@ fault_within rules seen made bytes i new f below fed =
     (subst (λ s. Feeds rules s made new (Err f)) (next_byte seen bytes i below) fed))
 
 -- neither feeding nor the end of a line is a failure of the reader
-pub fed_not_read : (rules : Rules) (seen : List ℕ) (made : List Turn) (new : Reading) (f : TraceFault) → Feeds rules seen made new (Err f) → is_read_end (Err f) ≡ false
+pub fed_not_read : (rules : Rules) (seen : List ℕ) (made : List Assignment) (new : TracePosition) (f : TraceFault) → Feeds rules seen made new (Err f) → is_read_end (Err f) ≡ false
 fed_not_read rules seen made new (fault.Line n why) fed = refl
 fed_not_read rules seen made new fault.OutOfMemory fed = refl
 fed_not_read rules seen made new fault.Read fed = absurd fed
 fed_not_read rules seen made new fault.TooLong fed = absurd fed
 
-pub taken_not_read : (old new : Reading) (end : Result (Unit {0}) TraceFault) → TakesLine old new end → is_read_end end ≡ false
+pub taken_not_read : (old new : TracePosition) (end : Result (Unit {0}) TraceFault) → TakesLine old new end → is_read_end end ≡ false
 taken_not_read old new (Ok v) took = refl
 taken_not_read old new (Err (fault.Line n why)) took = refl
 taken_not_read old new (Err fault.OutOfMemory) took = refl
@@ -263,13 +264,13 @@ taken_not_read old new (Err fault.TooLong) took = absurd took
 
 -- ---- what a line states
 
-pub nothing_taken : (said : Stated) (old : Reading) → said ≡ states.Nothing → TakesStated said old old (Ok tt)
+pub nothing_taken : (said : Stated) (old : TracePosition) → said ≡ states.Nothing → TakesStated said old old (Ok tt)
 nothing_taken said old is = rw is (sym (append-nil old.turns.items), refl, refl, refl, refl)
 
-pub header_taken : (said : Stated) (columns : Columns) (old : Reading) → said ≡ states.Header columns → TakesStated said old (record old { form = form.Named columns }) (Ok tt)
+pub header_taken : (said : Stated) (columns : Columns) (old : TracePosition) → said ≡ states.Header columns → TakesStated said old (record old { form = form.Named columns }) (Ok tt)
 header_taken said columns old is = rw is (sym (append-nil old.turns.items), refl, refl, refl, refl)
 
-pub stated_taken : (said : Stated) (old new : Reading) (end : Result (Unit {0}) TraceFault) → stated old.form old.line.items ≡ Ok said → TakesStated said old new end → TakesCommand old new end
+pub stated_taken : (said : Stated) (old new : TracePosition) (end : Result (Unit {0}) TraceFault) → stated old.form old.line.items ≡ Ok said → TakesStated said old new end → TakesCommand old new end
 stated_taken said old new (Ok v) is took = (said, is, took.0, took.1, took.2, took.3, took.4)
 stated_taken said old new (Err fault.OutOfMemory) is took = took
 stated_taken said old new (Err (fault.Line n why)) is took = absurd took

@@ -4,14 +4,14 @@ use Rattle.std.proofs.lemmas.List.{map-append, take_all, take_more}
 use Rattle.std.proofs.Math.Seq.{drop-length}
 use Rattle.std.specs.List.{AllZip}
 use Rattle.segword.specs.Words.{Shape}
-use Rattle.segreplay.specs.declared.cache.Cache.{Cache}
-use Rattle.segreplay.specs.declared.cache.Policy.{Policy}
-use Rattle.segreplay.specs.declared.cache.Policy.TheVariants as policy
+use Rattle.segreplay.specs.declared.cache.CacheConfig.{CacheConfig}
+use Rattle.segreplay.specs.declared.cache.Retention.{Retention}
+use Rattle.segreplay.specs.declared.cache.Retention.TheVariants as policy
 use Rattle.segreplay.specs.declared.cache.Dealt.{Dealt}
 use Rattle.segreplay.specs.Caches.{caches_in, half_of, sizes_of}
 use Rattle.segreplay.specs.declared.lives.Lives.{Lives}
+use Rattle.segreplay.specs.declared.player.Assignment.{Assignment}
 use Rattle.segreplay.specs.declared.player.Player.{Player}
-use Rattle.segreplay.specs.declared.player.Turn.{Turn}
 use Rattle.segreplay.specs.Lives.{lives_after, with_life_of}
 use Rattle.segreplay.specs.Replays.{AddsLives, AllPlay}
 use Rattle.segreplay.proofs.Steps.{plays_on}
@@ -26,7 +26,7 @@ given_back count new old all long =
     ∙ ap (take count) (append-nil new)
     ∙ take_all count new (omega arith)
 
-pub all_play_on : (turns more : List Turn) (old between new : List Player) → AllPlay turns old between → AllPlay more between new → AllPlay (turns ++ more) old new
+pub all_play_on : (turns more : List Assignment) (old between new : List Player) → AllPlay turns old between → AllPlay more between new → AllPlay (turns ++ more) old new
 all_play_on turns more old between new one then = record {
   long = then.long ∙ one.long;
   each = λ n p below.
@@ -34,11 +34,11 @@ all_play_on turns more old between new one then = record {
       (then.each n p (subst (λ count. n < count) (sym one.long) below));
 }
 
-lives_on : (turns more : List Turn) (lives : List ℕ) → lives_after lives (turns ++ more) ≡ lives_after (lives_after lives turns) more
+lives_on : (turns more : List Assignment) (lives : List ℕ) → lives_after lives (turns ++ more) ≡ lives_after (lives_after lives turns) more
 lives_on [] more lives = refl
 lives_on (turn ∷ turns) more lives = lives_on turns more (with_life_of turn.request.verb turn.request.time_to_live lives)
 
-pub adds_on : (turns more : List Turn) (old between new : Lives) → AddsLives turns old between → AddsLives more between new → AddsLives (turns ++ more) old new
+pub adds_on : (turns more : List Assignment) (old between new : Lives) → AddsLives turns old between → AddsLives more between new → AddsLives (turns ++ more) old new
 adds_on turns more old between new one then = then ∙ ap (λ l. lives_after l more) one ∙ sym (lives_on turns more old.seen.items)
 
 -- what holds at any end holds at a good one
@@ -47,23 +47,23 @@ on_ok (Ok v) holds = holds
 on_ok (Err f) holds = tt
 
 -- one size more
-pub size_more : (p : Policy) (shape : Shape) (caches all : List Cache) (sizes size : ℕ) → size < sizes
+pub size_more : (p : Retention) (shape : Shape) (caches all : List CacheConfig) (sizes size : ℕ) → size < sizes
     → caches ++ sizes_of p shape (sizes - size) ≡ all
     → (caches ++ record { policy = p; shape = shape } ∷ []) ++ sizes_of p (half_of shape) (sizes - (size + 1)) ≡ all
 size_more p shape caches all sizes size below was =
-    let cache : Cache = record { policy = p; shape = shape } in
+    let cache : CacheConfig = record { policy = p; shape = shape } in
     let left : suc (sizes - (size + 1)) ≡ sizes - size = omega arith in
     append_assoc caches (cache ∷ []) (sizes_of p (half_of shape) (sizes - (size + 1))) ∙ ap (λ n. caches ++ sizes_of p shape n) left ∙ was
 
 -- what stands for a cache beyond a list
-abbrev pub no_cache : Cache
+abbrev pub no_cache : CacheConfig
 no_cache = record {
   policy = policy.Default;
   shape = record { buckets = 0; overflow = 0; passes = 0; segments_each = 0; rows = 0; first_version = 0 };
 }
 
 -- one cache more
-pub dealt_more : (dealt : List Dealt) (d : Dealt) (caches : List Cache) (i : ℕ) (cache : Cache) → i < length caches
+pub dealt_more : (dealt : List Dealt) (d : Dealt) (caches : List CacheConfig) (i : ℕ) (cache : CacheConfig) → i < length caches
     → d.cache ≡ get_or caches i cache → caches_in dealt ≡ take i caches
     → caches_in (dealt ++ d ∷ []) ≡ take (i + 1) caches
 dealt_more dealt d caches i cache below is was =

@@ -7,10 +7,10 @@ use Rattle.segindex.specs.Words.{Index, IsNew}
 use Rattle.segclient.specs.declared.client.Client.{Client}
 use Rattle.segclient.specs.Client.{MakesCall, Starts}
 use Rattle.segclient.specs.Member.{SetsCutoff}
-use Rattle.segreplay.specs.declared.cache.Cache.{Cache}
+use Rattle.segreplay.specs.declared.cache.CacheConfig.{CacheConfig}
 use Rattle.segreplay.specs.declared.cache.Dealt.{Dealt}
-use Rattle.segreplay.specs.declared.cache.Policy.{Policy}
-use Rattle.segreplay.specs.declared.cache.Policy.TheVariants as policy
+use Rattle.segreplay.specs.declared.cache.Retention.{Retention}
+use Rattle.segreplay.specs.declared.cache.Retention.TheVariants as policy
 use Rattle.segreplay.specs.declared.counts.Counts.{Counts}
 use Rattle.segreplay.specs.declared.player.Player.{Player}
 use Rattle.segreplay.specs.Counting.{no_counts, together}
@@ -24,32 +24,32 @@ half_of shape = record shape {
 }
 
 -- so many caches, each half of the one before
-abbrev pub sizes_of : Policy → Shape → ℕ → List Cache
+abbrev pub sizes_of : Retention → Shape → ℕ → List CacheConfig
 sizes_of p shape zero = []
 sizes_of p shape (suc sizes) =
     record { policy = p; shape = shape } ∷ sizes_of p (half_of shape) sizes
 
 -- so many for each policy
-abbrev pub caches_of : List Policy → Shape → ℕ → List Cache
+abbrev pub caches_of : List Retention → Shape → ℕ → List CacheConfig
 caches_of policies shape sizes = flat_map (λ p. sizes_of p shape sizes) policies
 
 -- the client keeps by this policy from now on
-abbrev pub SetsPolicy : Policy → Client → Client → Type 0
+abbrev pub SetsPolicy : Retention → Client → Client → Type 0
 SetsPolicy policy.Default old new = new ≡ old
 SetsPolicy policy.Nothing old new = MakesCall (λ board. SetsCutoff None) old new
 SetsPolicy (policy.Cutoff least) old new = MakesCall (λ board. SetsCutoff (Some least)) old new
 
 -- how many bytes the queues of clients have: 16 for each segment, and 3 for each of its rows
-abbrev pub queue_bytes : Policy → Shape → ℕ
+abbrev pub queue_bytes : Retention → Shape → ℕ
 queue_bytes policy.Default shape = shape.passes * shape.segments_each * (16 + 3 * shape.rows)
 queue_bytes _ shape = 0
 
 -- how many bytes a cache has: those of its table and of its clients' queues
-abbrev pub bytes_of : Cache → ℕ
+abbrev pub bytes_of : CacheConfig → ℕ
 bytes_of cache = 8 * word_count cache.shape + queue_bytes cache.policy cache.shape
 
 -- an index can have the shape of the cache
-abbrev pub HasValidShape : Cache → Type 0
+abbrev pub HasValidShape : CacheConfig → Type 0
 HasValidShape cache = IsValid cache.shape
 
 -- a new index of the cache's shape, and all its passes
@@ -57,13 +57,13 @@ abbrev pub IsDealt : Index → Dealt → Type 0
 IsDealt index dealt = IsNew dealt.cache.shape index dealt.passes.items
 
 -- the caches that these are dealt for
-abbrev pub caches_in : List Dealt → List Cache
+abbrev pub caches_in : List Dealt → List CacheConfig
 caches_in dealt = map (λ each. each.cache) dealt
 
 -- A player of the cache at this place, with the number of this pass of the index.
 -- It puts this value, and has counted nothing.
 -- Its client is a new one of the pass, which was then let keep by this policy.
-pub record IsFresh (place : ℕ) (value : List ℕ) (kept : Policy) (index : Index) (pass : Pass)
+pub record IsFresh (place : ℕ) (value : List ℕ) (kept : Retention) (index : Index) (pass : Pass)
     (p : Player) : Type 0 where
   pub cache : p.cache ≡ place
   pub number : p.number ≡ number pass
@@ -75,14 +75,14 @@ pub record IsFresh (place : ℕ) (value : List ℕ) (kept : Policy) (index : Ind
 
 -- The players of the cache at this place: one for each pass of a new index of its shape,
 -- in the order of their numbers.
-abbrev pub ArePlayersOf : ℕ → List ℕ → Cache → List Player → Type 0
+abbrev pub ArePlayersOf : ℕ → List ℕ → CacheConfig → List Player → Type 0
 ArePlayersOf place value cache players =
     (index : Index) × (passes : List Pass)
     × IsNew cache.shape index passes
     × AllZip (IsFresh place value cache.policy index) passes players
 
 -- the players of these caches, the first of which is at this place: first those of the first
-abbrev pub AreFresh : ℕ → List ℕ → List Cache → List Player → Type 0
+abbrev pub AreFresh : ℕ → List ℕ → List CacheConfig → List Player → Type 0
 AreFresh place value [] players = players ≡ []
 AreFresh place value (cache ∷ caches) players =
     (first : List Player) × (rest : List Player)

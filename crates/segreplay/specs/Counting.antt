@@ -5,9 +5,9 @@ use Rattle.segmodel.specs.declared.answer.DeleteAnswer.TheVariants as delete
 use Rattle.segclient.specs.declared.put.PutAnswer.{PutAnswer}
 use Rattle.segclient.specs.declared.put.PutAnswer.TheVariants as put
 use Rattle.segclient.specs.Counting.{with_more}
+use Rattle.segreplay.specs.declared.counts.CommandResult.{CommandResult}
+use Rattle.segreplay.specs.declared.counts.CommandResult.TheVariants as outcome
 use Rattle.segreplay.specs.declared.counts.Counts.{Counts}
-use Rattle.segreplay.specs.declared.counts.Outcome.{Outcome}
-use Rattle.segreplay.specs.declared.counts.Outcome.TheVariants as outcome
 
 abbrev pub no_counts : Counts
 no_counts = record {
@@ -40,7 +40,7 @@ abbrev pub one_get : Counts → Counts
 one_get c = record c { gets = with_more c.gets 1 }
 
 -- one command more, which came to this
-abbrev pub counted : Outcome → Counts → Counts
+abbrev pub counted : CommandResult → Counts → Counts
 counted outcome.Hit c = record (one_get c) { hits = with_more c.hits 1 }
 counted (outcome.Miss told) c = put_counted told (one_get c)
 counted outcome.GetBusy c = record (one_get c) { busy = with_more c.busy 1 }
@@ -54,13 +54,13 @@ effort_counted evicted kept c =
     record c { evicted = with_more c.evicted evicted; kept = with_more c.kept kept }
 
 -- a command put its key
-abbrev pub is_stored : Outcome → Bool
+abbrev pub is_stored : CommandResult → Bool
 is_stored (outcome.Miss put.Stored) = true
 is_stored (outcome.Set put.Stored) = true
 is_stored _ = false
 
 -- if it did, it was given this share of its time to live
-abbrev pub given_counted : Outcome → ℕ → Counts → Counts
+abbrev pub given_counted : CommandResult → ℕ → Counts → Counts
 given_counted told given c =
     if is_stored told
     then record c { stored = with_more c.stored 1; given = with_more c.given given } else c

@@ -8,13 +8,13 @@ use Rattle.segreplay.specs.declared.line.Column.TheVariants as column
 use Rattle.segreplay.specs.declared.line.Columns.{Columns}
 use Rattle.segreplay.specs.declared.line.Form.{Form}
 use Rattle.segreplay.specs.declared.line.Form.TheVariants as form
-use Rattle.segreplay.specs.declared.line.LineFault.{LineFault}
-use Rattle.segreplay.specs.declared.line.LineFault.TheVariants as fault
-use Rattle.segreplay.specs.declared.line.Request.{Request}
+use Rattle.segreplay.specs.declared.line.Operation.{Operation}
+use Rattle.segreplay.specs.declared.line.Operation.TheVariants as verb
 use Rattle.segreplay.specs.declared.line.Stated.{Stated}
 use Rattle.segreplay.specs.declared.line.Stated.TheVariants as states
-use Rattle.segreplay.specs.declared.line.Verb.{Verb}
-use Rattle.segreplay.specs.declared.line.Verb.TheVariants as verb
+use Rattle.segreplay.specs.declared.line.TraceCommand.{TraceCommand}
+use Rattle.segreplay.specs.declared.line.TraceLineFault.{TraceLineFault}
+use Rattle.segreplay.specs.declared.line.TraceLineFault.TheVariants as fault
 use Rattle.segreplay.specs.Words.{is_name, key_named, lasting, moment_named, number_named, trimmed, verb_named, without_return}
 
 -- ---- columns
@@ -62,7 +62,7 @@ moment_at None fields = Some 0
 moment_at (Some place) fields = moment_named (field_at place fields)
 
 -- a line without a column of operations is a get
-abbrev pub verb_at : Option ℕ → List (List ℕ) → Option Verb
+abbrev pub verb_at : Option ℕ → List (List ℕ) → Option Operation
 verb_at None fields = Some verb.Get
 verb_at (Some place) fields = verb_named (field_at place fields)
 
@@ -72,8 +72,8 @@ life_at None fields = Some (2 ^ 32 - 1)
 life_at (Some place) fields = lasting (number_named (field_at place fields))
 
 -- a command, if each of its parts is one; else the first part that is none
-abbrev pub request_of : Option ℕ → Option (List ℕ) → Option Verb → Option ℕ
-    → Result Request Column
+abbrev pub request_of : Option ℕ → Option (List ℕ) → Option Operation → Option ℕ
+    → Result TraceCommand Column
 request_of None _ _ _ = Err column.Time
 request_of (Some moment) None _ _ = Err column.Key
 request_of (Some moment) (Some key) None _ = Err column.Verb
@@ -94,11 +94,11 @@ place_in columns column.Verb = place_or_0 columns.verb
 place_in columns column.Life = place_or_0 columns.life
 
 -- the word of this column is none; words are counted from 1
-abbrev pub faulted : Columns → Result Request Column → Result Request LineFault
+abbrev pub faulted : Columns → Result TraceCommand Column → Result TraceCommand TraceLineFault
 faulted columns (Ok r) = Ok r
 faulted columns (Err part) = Err (fault.Word part (with_more (place_in columns part) 1))
 
-abbrev pub request_at : Columns → List (List ℕ) → Result Request LineFault
+abbrev pub request_at : Columns → List (List ℕ) → Result TraceCommand TraceLineFault
 request_at columns fields =
     if length fields == columns.fields
     then faulted columns (request_of (moment_at columns.time fields)
@@ -143,18 +143,19 @@ header_in (form.Named columns) fields = columns_named fields
 -- ---- lines
 
 -- a line that states no command can still be a header
-abbrev pub stated_or : Result Request LineFault → Option Columns → Result Stated LineFault
+abbrev pub stated_or : Result TraceCommand TraceLineFault → Option Columns
+    → Result Stated TraceLineFault
 stated_or (Ok r) _ = Ok (states.Command r)
 stated_or (Err f) (Some columns) = Ok (states.Header columns)
 stated_or (Err f) None = Err f
 
 -- what the fields of a line state
-abbrev pub fields_stated : Form → List (List ℕ) → Result Stated LineFault
+abbrev pub fields_stated : Form → List (List ℕ) → Result Stated TraceLineFault
 fields_stated f fields =
     stated_or (request_at (columns_of f (length fields)) fields) (header_in f fields)
 
 -- what a line states
-abbrev pub stated : Form → List ℕ → Result Stated LineFault
+abbrev pub stated : Form → List ℕ → Result Stated TraceLineFault
 stated f line =
     if length (without_return line) == 0 then Ok states.Nothing
     else fields_stated f (fields_of (separator f) (without_return line))

@@ -1,9 +1,9 @@
 -- The times to live of a trace's commands, and how much of them puts are given.
 use Rattle.std.specs.Prelude.{ℕ, ◌-◌, ◌*◌, ◌/◌, ◌^◌, ◌==◌, ◌||◌, min, max, List, [], ◌∷◌, ◌++◌, length, if◌then◌else◌}
 use Rattle.std.specs.List.{list_any}
-use Rattle.segreplay.specs.declared.line.Verb.{Verb}
-use Rattle.segreplay.specs.declared.line.Verb.TheVariants as verb
-use Rattle.segreplay.specs.declared.player.Turn.{Turn}
+use Rattle.segreplay.specs.declared.line.Operation.{Operation}
+use Rattle.segreplay.specs.declared.line.Operation.TheVariants as verb
+use Rattle.segreplay.specs.declared.player.Assignment.{Assignment}
 
 -- ---- which there are
 
@@ -14,19 +14,19 @@ with_life life lives =
     else lives ++ life ∷ []
 
 -- and with that of a command: a delete puts nothing
-abbrev pub with_life_of : Verb → ℕ → List ℕ → List ℕ
+abbrev pub with_life_of : Operation → ℕ → List ℕ → List ℕ
 with_life_of verb.Get life lives = with_life life lives
 with_life_of verb.Set life lives = with_life life lives
 with_life_of verb.Delete life lives = lives
 
 -- and with those of these commands
-abbrev pub lives_after : List ℕ → List Turn → List ℕ
+abbrev pub lives_after : List ℕ → List Assignment → List ℕ
 lives_after lives [] = lives
 lives_after lives (turn ∷ turns) =
     lives_after (with_life_of turn.request.verb turn.request.time_to_live lives) turns
 
 -- how many different ones these commands have, or 64 if they have more
-abbrev pub lives_of : List Turn → ℕ
+abbrev pub lives_of : List Assignment → ℕ
 lives_of turns = length (lives_after [] turns)
 
 -- ---- how much a put is given

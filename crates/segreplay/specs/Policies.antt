@@ -1,16 +1,16 @@
 -- The policies that words name.
 use Rattle.std.specs.Prelude.{ℕ, List, take, drop, Option, Some, None, if◌then◌else◌, nat_lt, codes}
 use Rattle.std.specs.Str.{bytes_eq}
-use Rattle.segreplay.specs.declared.cache.Policy.{Policy}
-use Rattle.segreplay.specs.declared.cache.Policy.TheVariants as policy
+use Rattle.segreplay.specs.declared.cache.Retention.{Retention}
+use Rattle.segreplay.specs.declared.cache.Retention.TheVariants as policy
 use Rattle.segreplay.specs.Words.{number_named}
 
 -- a frequency has eight bits
-abbrev pub cutoff_of : Option ℕ → Option Policy
+abbrev pub cutoff_of : Option ℕ → Option Retention
 cutoff_of None = None
 cutoff_of (Some least) = if nat_lt least 256 then Some (policy.Cutoff least) else None
 
-abbrev pub policy_named : List ℕ → Option Policy
+abbrev pub policy_named : List ℕ → Option Retention
 policy_named word =
     if bytes_eq word (codes "default") then Some policy.Default
     else (if bytes_eq word (codes "nothing") then Some policy.Nothing

@@ -1,16 +1,16 @@
 -- What a replay comes to.
 use Rattle.std.specs.Prelude.{◌≡◌, ◌<◌, ℕ, ◌+◌, Bool, true, false, min, List, [], ◌∷◌, length, replicate, take, slice_index_or, Result, Err}
 use Rattle.segword.specs.Words.{value_limit}
-use Rattle.segreplay.specs.declared.cache.Cache.{Cache}
+use Rattle.segreplay.specs.declared.cache.CacheConfig.{CacheConfig}
 use Rattle.segreplay.specs.declared.fault.TraceFault.{TraceFault}
 use Rattle.segreplay.specs.declared.fault.TraceFault.TheVariants as fault
 use Rattle.segreplay.specs.declared.lives.Lives.{Lives}
+use Rattle.segreplay.specs.declared.player.Assignment.{Assignment}
 use Rattle.segreplay.specs.declared.player.Player.{Player}
-use Rattle.segreplay.specs.declared.player.Turn.{Turn}
-use Rattle.segreplay.specs.declared.reading.Reading.{Reading}
 use Rattle.segreplay.specs.declared.reading.Rules.{Rules}
-use Rattle.segreplay.specs.declared.run.Plan.{Plan}
+use Rattle.segreplay.specs.declared.reading.TracePosition.{TracePosition}
 use Rattle.segreplay.specs.declared.run.Replayed.{Replayed}
+use Rattle.segreplay.specs.declared.run.ReplayPlan.{ReplayPlan}
 use Rattle.segreplay.specs.declared.totals.CacheTotals.{CacheTotals}
 use Rattle.segreplay.specs.Caches.{AreFresh, bytes_of, caches_of, counts_after}
 use Rattle.segreplay.specs.Counting.{no_counts}
@@ -19,7 +19,7 @@ use Rattle.segreplay.specs.Playing.{CountsItems, Plays}
 use Rattle.segreplay.specs.Traces.{EndsTrace, HandsOn}
 
 -- Each player made its own of these turns, in their order.
-pub record AllPlay (turns : List Turn) (old new : List Player) : Type 0 where
+pub record AllPlay (turns : List Assignment) (old new : List Player) : Type 0 where
   pub long : length new ≡ length old
   pub each : (n : ℕ) (p : Player) → n < length old
       → Plays turns (slice_index_or old n p) (slice_index_or new n p)
@@ -31,16 +31,17 @@ pub record AllCount (old new : List Player) : Type 0 where
       → CountsItems (slice_index_or old n p) (slice_index_or new n p)
 
 -- The times to live of these turns were added.
-abbrev pub AddsLives : List Turn → Lives → Lives → Type 0
+abbrev pub AddsLives : List Assignment → Lives → Lives → Type 0
 AddsLives turns old new = new.seen.items ≡ lives_after old.seen.items turns
 
 -- Some turns were handed on and made, and their times to live added, or none were.
-abbrev pub MakesSome : Reading → Reading → List Player → List Player → Lives → Lives → Type 0
+abbrev pub MakesSome : TracePosition → TracePosition → List Player → List Player → Lives → Lives
+    → Type 0
 MakesSome old new players players' lives lives' =
-    (turns : List Turn) × HandsOn turns old new × AllPlay turns players players'
+    (turns : List Assignment) × HandsOn turns old new × AllPlay turns players players'
     × AddsLives turns lives lives'
 
-abbrev pub rules_of : Plan → Rules
+abbrev pub rules_of : ReplayPlan → Rules
 rules_of plan = record { form = plan.form; clients = plan.shape.passes; warm = plan.warm }
 
 -- the value that is put: so many bytes, all 0
@@ -49,7 +50,7 @@ value_of bytes = take (min bytes value_limit) (replicate value_limit 0)
 
 -- the totals of these caches, the first of which has this number,
 -- over a trace with so many times to live
-abbrev pub totals_from : ℕ → ℕ → List Player → List Cache → List CacheTotals
+abbrev pub totals_from : ℕ → ℕ → List Player → List CacheConfig → List CacheTotals
 totals_from lives place players [] = []
 totals_from lives place players (cache ∷ caches) =
     record {
@@ -61,14 +62,14 @@ totals_from lives place players (cache ∷ caches) =
     ∷ totals_from lives (place + 1) players caches
 
 -- the caches of a plan
-abbrev pub planned : Plan → List Cache
+abbrev pub planned : ReplayPlan → List CacheConfig
 planned plan = caches_of plan.policies.now plan.shape plan.sizes
 
 -- The bytes `seen` came. The commands of their lines were made by the plan's clients:
 -- one for each pass of each of its caches. The totals are what these counted, with the items that
 -- stood at the end, and how many times to live the commands had.
-pub record IsReplay (plan : Plan) (seen : List ℕ) (r : Replayed) : Type 0 where
-  pub turns : List Turn
+pub record IsReplay (plan : ReplayPlan) (seen : List ℕ) (r : Replayed) : Type 0 where
+  pub turns : List Assignment
   pub starts : List Player
   pub made : List Player
   pub ends : List Player

@@ -6,42 +6,42 @@ use Rattle.segscript.specs.Script.{ended, IsLine, Splits}
 use Rattle.segreplay.specs.declared.fault.TraceFault.{TraceFault}
 use Rattle.segreplay.specs.declared.fault.TraceFault.TheVariants as fault
 use Rattle.segreplay.specs.declared.line.Form.{Form}
-use Rattle.segreplay.specs.declared.line.LineFault.{LineFault}
-use Rattle.segreplay.specs.declared.line.LineFault.TheVariants as line_fault
-use Rattle.segreplay.specs.declared.line.Request.{Request}
 use Rattle.segreplay.specs.declared.line.Stated.{Stated}
 use Rattle.segreplay.specs.declared.line.Stated.TheVariants as states
-use Rattle.segreplay.specs.declared.player.Turn.{Turn}
-use Rattle.segreplay.specs.declared.reading.Reading.{Reading}
+use Rattle.segreplay.specs.declared.line.TraceCommand.{TraceCommand}
+use Rattle.segreplay.specs.declared.line.TraceLineFault.{TraceLineFault}
+use Rattle.segreplay.specs.declared.line.TraceLineFault.TheVariants as line_fault
+use Rattle.segreplay.specs.declared.player.Assignment.{Assignment}
 use Rattle.segreplay.specs.declared.reading.Rules.{Rules}
+use Rattle.segreplay.specs.declared.reading.TracePosition.{TracePosition}
 use Rattle.segreplay.specs.Lines.{client_of, form_after, stated}
 
 -- ---- lines
 
 -- the commands that a line states: one, or none
-abbrev pub requests_in : Stated → List Request
+abbrev pub requests_in : Stated → List TraceCommand
 requests_in (states.Command r) = r ∷ []
 requests_in states.Nothing = []
 requests_in (states.Header columns) = []
 
 -- These lines state these commands, of a trace that has the first form before them
 -- and the last one behind them.
-abbrev pub State : Form → List (List ℕ) → List Request → Form → Type 0
+abbrev pub State : Form → List (List ℕ) → List TraceCommand → Form → Type 0
 State form [] requests last = (requests ≡ []) × (last ≡ form)
 State form (line ∷ lines) requests last =
-    (said : Stated) × (rest : List Request) × (stated form line ≡ Ok said)
+    (said : Stated) × (rest : List TraceCommand) × (stated form line ≡ Ok said)
     × State (form_after form said) lines rest last
     × (requests ≡ requests_in said ++ rest)
 
 -- a bad line is too long, or states nothing for this reason
-abbrev pub IsBad : Form → List ℕ → LineFault → Type 0
+abbrev pub IsBad : Form → List ℕ → TraceLineFault → Type 0
 IsBad form line why =
     ((4096 < length line) × (why ≡ line_fault.TooLong)) ⊎ (stated form line ≡ Err why)
 
 -- ---- turns
 
 -- the command with this number, counted from 0: its client, and whether it is counted
-abbrev pub turn_of : Rules → ℕ → Request → Turn
+abbrev pub turn_of : Rules → ℕ → TraceCommand → Assignment
 turn_of rules number r = record {
   request = r;
   client = client_of rules.clients r.key;
@@ -49,13 +49,13 @@ turn_of rules number r = record {
 }
 
 -- these commands, the first of which has this number
-abbrev pub turns_from : Rules → ℕ → List Request → List Turn
+abbrev pub turns_from : Rules → ℕ → List TraceCommand → List Assignment
 turns_from rules number [] = []
 turns_from rules number (r ∷ requests) =
     turn_of rules number r ∷ turns_from rules (with_more number 1) requests
 
 -- the number of the command after these
-abbrev pub number_after : ℕ → List Request → ℕ
+abbrev pub number_after : ℕ → List TraceCommand → ℕ
 number_after number [] = number
 number_after number (r ∷ requests) = number_after (with_more number 1) requests
 
@@ -67,9 +67,10 @@ line_after number (line ∷ lines) = line_after (with_more number 1) lines
 -- ---- how far a trace is read
 
 -- The bytes `seen` came. Their whole lines state commands, of which `made` were handed on.
-pub record HasRead (rules : Rules) (seen : List ℕ) (made : List Turn) (r : Reading) : Type 0 where
+pub record HasRead (rules : Rules) (seen : List ℕ) (made : List Assignment) (r : TracePosition)
+    : Type 0 where
   pub lines : List (List ℕ)
-  pub requests : List Request
+  pub requests : List TraceCommand
   pub same : r.rules ≡ rules
   pub splits : Splits seen lines r.line.items
   pub short : length r.line.items ≤ 4096
@@ -80,13 +81,13 @@ pub record HasRead (rules : Rules) (seen : List ℕ) (made : List Turn) (r : Rea
 
 -- The n-th line is the first bad one, for this reason.
 -- These are the turns of the lines before it.
-pub record EndsBad (rules : Rules) (seen : List ℕ) (turns : List Turn) (n : ℕ) (why : LineFault)
-    : Type 0 where
+pub record EndsBad (rules : Rules) (seen : List ℕ) (turns : List Assignment) (n : ℕ)
+    (why : TraceLineFault) : Type 0 where
   pub form : Form
   pub lines : List (List ℕ)
   pub bad : List ℕ
   pub after : List ℕ
-  pub requests : List Request
+  pub requests : List TraceCommand
   pub whole : seen ≡ flat_map ended lines ++ (bad ++ after)
   pub each : AllByRecursion IsLine lines
   pub unbroken : IsLine bad
@@ -96,28 +97,28 @@ pub record EndsBad (rules : Rules) (seen : List ℕ) (turns : List Turn) (n : �
   pub number : n ≡ line_after 1 lines
 
 -- These are the turns of the first lines of what came.
-pub record EndsEarly (rules : Rules) (seen : List ℕ) (turns : List Turn) : Type 0 where
+pub record EndsEarly (rules : Rules) (seen : List ℕ) (turns : List Assignment) : Type 0 where
   pub form : Form
   pub lines : List (List ℕ)
   pub after : List ℕ
-  pub requests : List Request
+  pub requests : List TraceCommand
   pub whole : seen ≡ flat_map ended lines ++ after
   pub each : AllByRecursion IsLine lines
   pub states : State rules.form lines requests form
   pub made : turns ≡ turns_from rules 0 requests
 
 -- These are the turns of the whole trace. A last line without an end counts too.
-pub record EndsWhole (rules : Rules) (seen : List ℕ) (turns : List Turn) : Type 0 where
+pub record EndsWhole (rules : Rules) (seen : List ℕ) (turns : List Assignment) : Type 0 where
   pub form : Form
   pub lines : List (List ℕ)
   pub last : List ℕ
-  pub requests : List Request
+  pub requests : List TraceCommand
   pub splits : Splits seen lines last
   pub states : State rules.form (lines ++ last ∷ []) requests form
   pub made : turns ≡ turns_from rules 0 requests
 
 -- how a trace ended of which these bytes came, and the turns that it had
-abbrev pub EndsTrace : Rules → List ℕ → List Turn → Result (Unit {0}) TraceFault → Type 0
+abbrev pub EndsTrace : Rules → List ℕ → List Assignment → Result (Unit {0}) TraceFault → Type 0
 EndsTrace rules seen turns (Ok _) = EndsWhole rules seen turns
 EndsTrace rules seen turns (Err (fault.Line n why)) = EndsBad rules seen turns n why
 EndsTrace rules seen turns (Err _) = EndsEarly rules seen turns
@@ -125,7 +126,8 @@ EndsTrace rules seen turns (Err _) = EndsEarly rules seen turns
 -- ---- the parts of a reading
 
 -- what became of what a line states
-abbrev pub TakesStated : Stated → Reading → Reading → Result (Unit {0}) TraceFault → Type 0
+abbrev pub TakesStated : Stated → TracePosition → TracePosition → Result (Unit {0}) TraceFault
+    → Type 0
 TakesStated said old new (Ok _) =
     (new.turns.items ≡ old.turns.items ++ turns_from old.rules old.commands (requests_in said))
     × (new.commands ≡ number_after old.commands (requests_in said))
@@ -136,7 +138,7 @@ TakesStated said old new (Err fault.OutOfMemory) = new.turns.items ≡ old.turns
 TakesStated said old new (Err _) = ⊥
 
 -- what became of the line before its end was taken
-abbrev pub TakesCommand : Reading → Reading → Result (Unit {0}) TraceFault → Type 0
+abbrev pub TakesCommand : TracePosition → TracePosition → Result (Unit {0}) TraceFault → Type 0
 TakesCommand old new (Ok _) =
     (said : Stated)
     × (stated old.form old.line.items ≡ Ok said)
@@ -153,7 +155,7 @@ TakesCommand old new (Err fault.OutOfMemory) = new.turns.items ≡ old.turns.ite
 TakesCommand old new (Err _) = ⊥
 
 -- what became of the line whose end has come
-abbrev pub TakesLine : Reading → Reading → Result (Unit {0}) TraceFault → Type 0
+abbrev pub TakesLine : TracePosition → TracePosition → Result (Unit {0}) TraceFault → Type 0
 TakesLine old new (Ok _) =
     (said : Stated)
     × (stated old.form old.line.items ≡ Ok said)
@@ -166,7 +168,8 @@ TakesLine old new (Ok _) =
 TakesLine old new (Err f) = TakesCommand old new (Err f)
 
 -- what became of bytes that were fed: all that came are `seen`, these among them
-abbrev pub Feeds : Rules → List ℕ → List Turn → Reading → Result (Unit {0}) TraceFault → Type 0
+abbrev pub Feeds : Rules → List ℕ → List Assignment → TracePosition → Result (Unit {0}) TraceFault
+    → Type 0
 Feeds rules seen made new (Ok _) = HasRead rules seen made new
 Feeds rules seen made new (Err (fault.Line n why)) =
     EndsBad rules seen (made ++ new.turns.items) n why
@@ -175,13 +178,14 @@ Feeds rules seen made new (Err fault.OutOfMemory) =
 Feeds rules seen made new (Err _) = ⊥
 
 -- These bytes were fed, whatever came before.
-abbrev pub FeedsMore : List ℕ → Reading → Reading → Result (Unit {0}) TraceFault → Type 0
+abbrev pub FeedsMore : List ℕ → TracePosition → TracePosition → Result (Unit {0}) TraceFault
+    → Type 0
 FeedsMore bytes old new end =
-    (rules : Rules) (seen : List ℕ) (made : List Turn) → HasRead rules seen made old
+    (rules : Rules) (seen : List ℕ) (made : List Assignment) → HasRead rules seen made old
     → Feeds rules (seen ++ bytes) made new end
 
 -- These turns were handed on, whatever came before.
-abbrev pub HandsOn : List Turn → Reading → Reading → Type 0
+abbrev pub HandsOn : List Assignment → TracePosition → TracePosition → Type 0
 HandsOn turns old new =
-    (rules : Rules) (seen : List ℕ) (made : List Turn) → HasRead rules seen made old
+    (rules : Rules) (seen : List ℕ) (made : List Assignment) → HasRead rules seen made old
     → HasRead rules seen (made ++ turns) new

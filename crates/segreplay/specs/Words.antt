@@ -6,8 +6,8 @@ use Rattle.std.specs.List.{list_all, prefix_len, suffix_len}
 use Rattle.std.specs.Str.{str_eq_ignore_ascii_case}
 use Rattle.segword.specs.declared.key.TheConstants.{KEY_BYTES}
 use Rattle.segword.specs.Fnv.{hash_of}
-use Rattle.segreplay.specs.declared.line.Verb.{Verb}
-use Rattle.segreplay.specs.declared.line.Verb.TheVariants as verb
+use Rattle.segreplay.specs.declared.line.Operation.{Operation}
+use Rattle.segreplay.specs.declared.line.Operation.TheVariants as verb
 
 -- ---- texts
 
@@ -45,7 +45,7 @@ is_change text =
     is_name text (codes "append") || is_name text (codes "prepend")
     || is_name text (codes "incr") || is_name text (codes "decr")
 
-abbrev pub verb_named : List ℕ → Option Verb
+abbrev pub verb_named : List ℕ → Option Operation
 verb_named text =
     if is_get text then Some verb.Get
     else (if is_set text || is_change text then Some verb.Set

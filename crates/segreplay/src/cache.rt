@@ -18,7 +18,7 @@ use std::alloc::{AllocError, Global};
 
 /// Which items the puts of a client keep.
 #[derive(Clone, Copy, Debug, PartialEq, Eq)]
-pub enum Policy {
+pub enum Retention {
     /// Those that a new client keeps.
     Default,
     Nothing,
@@ -27,28 +27,28 @@ pub enum Policy {
 }
 
 // The policy that keeps what has this frequency, if it is one.
-fn cutoff_of(least: Option<u32>) -> Option<Policy>
+fn cutoff_of(least: Option<u32>) -> Option<Retention>
     ensures { result ≡ cutoff_of least }
 {
     match least {
-        Some(least) if least < 256 => Some(Policy::Cutoff(least as u8)),
+        Some(least) if least < 256 => Some(Retention::Cutoff(least as u8)),
         _ => None,
     }
 }
 
-impl Policy {
+impl Retention {
     ghost use Rattle.std.specs.Prelude.{◌≡◌};
     ghost use Rattle.segreplay.specs.Policies.{policy_named};
 
     /// The policy of a word: `default`, `nothing`, or `cutoff:` and a frequency.
-    pub fn named(word: &[u8]) -> Option<Policy>
+    pub fn named(word: &[u8]) -> Option<Retention>
         ensures { result ≡ policy_named word.now }
     {
         if word == b"default".as_slice() {
-            return Some(Policy::Default);
+            return Some(Retention::Default);
         }
         if word == b"nothing".as_slice() {
-            return Some(Policy::Nothing);
+            return Some(Retention::Nothing);
         }
         match word.strip_prefix(b"cutoff:".as_slice()) {
             Some(digits) => cutoff_of(number_of(digits)),
@@ -59,19 +59,19 @@ impl Policy {
 
 /// A cache: its shape, and what its clients keep.
 #[derive(Clone, Copy, Debug)]
-pub struct Cache {
-    pub policy: Policy,
+pub struct CacheConfig {
+    pub policy: Retention,
     pub shape: Shape,
 }
 
 // Lets a new client keep by this policy.
-fn set_policy(client: &mut Client<'_>, policy: Policy)
+fn set_policy(client: &mut Client<'_>, policy: Retention)
     ensures { SetsPolicy policy client.old client.new }
 {
     match policy {
-        Policy::Default => {}
-        Policy::Nothing => client.keep_nothing(),
-        Policy::Cutoff(cutoff) => client.keep_from(Some(cutoff)),
+        Retention::Default => {}
+        Retention::Nothing => client.keep_nothing(),
+        Retention::Cutoff(cutoff) => client.keep_from(Some(cutoff)),
     }
 }
 
@@ -89,8 +89,8 @@ fn half_of(shape: Shape) -> Shape
 
 // Puts so many caches at the end of the list, each half of the one before.
 fn add_sizes(
-    caches: &mut Vec<Cache>,
-    policy: Policy,
+    caches: &mut Vec<CacheConfig>,
+    policy: Retention,
     shape: Shape,
     sizes: u32,
 ) -> Result<(), AllocError>
@@ -98,7 +98,7 @@ fn add_sizes(
 {
     let mut shape = shape;
     for size in 0..sizes {
-        caches.push(Cache { policy, shape })?;
+        caches.push(CacheConfig { policy, shape })?;
         shape = half_of(shape);
     }
     Ok(())
@@ -107,10 +107,10 @@ fn add_sizes(
 /// A cache for each policy and each size. Each size is half of the one before.
 pub(crate) fn caches_of(
     alloc: Global,
-    policies: &[Policy],
+    policies: &[Retention],
     shape: Shape,
     sizes: u32,
-) -> Result<Vec<Cache>, AllocError>
+) -> Result<Vec<CacheConfig>, AllocError>
     ensures { IfOk result (λ caches. caches.items ≡ caches_of policies.now shape sizes) }
 {
     let mut caches = Vec::new(alloc);
@@ -123,7 +123,7 @@ pub(crate) fn caches_of(
 /// The passes of an index, and the cache that it was made for.
 #[derive(Drop)]
 pub(crate) struct Dealt {
-    cache: Cache,
+    cache: CacheConfig,
     passes: Vec<Pass>,
 }
 
@@ -135,7 +135,7 @@ pub(crate) struct Made {
 }
 
 /// Makes the index of each cache.
-pub(crate) fn make_all(alloc: Global, caches: &[Cache]) -> Result<Made, ReplayFault>
+pub(crate) fn make_all(alloc: Global, caches: &[CacheConfig]) -> Result<Made, ReplayFault>
     ensures valid { IfOk result (λ _. All HasValidShape caches.now) }
     ensures each { IfOk result (λ made. caches_in made.dealt.items ≡ caches.now) }
     ensures new { IfOk result (λ made. AllZip IsDealt made.indexes.items made.dealt.items) }
@@ -165,7 +165,7 @@ pub(crate) fn make_all(alloc: Global, caches: &[Cache]) -> Result<Made, ReplayFa
 struct Start<'v> {
     // Which of the caches it is of.
     place: usize,
-    policy: Policy,
+    policy: Retention,
     value: &'v Value,
 }
 

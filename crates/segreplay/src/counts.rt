@@ -9,7 +9,7 @@ use segindex::DeleteAnswer;
 
 /// What a command came to.
 #[derive(Clone, Copy, Debug, PartialEq, Eq)]
-pub enum Outcome {
+pub enum CommandResult {
     /// A get found its key.
     Hit,
     /// A get missed its key, and the put of it had this answer.
@@ -20,18 +20,18 @@ pub enum Outcome {
     Delete(DeleteAnswer),
 }
 
-impl Outcome {
+impl CommandResult {
     /// Whether the command put its key.
     pub fn is_stored(self) -> bool
         ensures { result ≡ is_stored self }
     {
         match self {
-            Outcome::Miss(PutAnswer::Stored) | Outcome::Set(PutAnswer::Stored) => true,
-            Outcome::Miss(_)
-            | Outcome::Set(_)
-            | Outcome::Hit
-            | Outcome::GetBusy
-            | Outcome::Delete(_) => false,
+            CommandResult::Miss(PutAnswer::Stored) | CommandResult::Set(PutAnswer::Stored) => true,
+            CommandResult::Miss(_)
+            | CommandResult::Set(_)
+            | CommandResult::Hit
+            | CommandResult::GetBusy
+            | CommandResult::Delete(_) => false,
         }
     }
 }
@@ -90,27 +90,27 @@ impl Counts {
     }
 
     /// Counts a command that came to this.
-    pub fn count(&mut self, outcome: Outcome)
+    pub fn count(&mut self, outcome: CommandResult)
         ensures { self.new ≡ counted outcome self.old }
     {
         match outcome {
-            Outcome::Hit => {
+            CommandResult::Hit => {
                 self.gets = one_more(self.gets);
                 self.hits = one_more(self.hits);
             }
-            Outcome::Miss(answer) => {
+            CommandResult::Miss(answer) => {
                 self.gets = one_more(self.gets);
                 self.count_put(answer);
             }
-            Outcome::GetBusy => {
+            CommandResult::GetBusy => {
                 self.gets = one_more(self.gets);
                 self.busy = one_more(self.busy);
             }
-            Outcome::Set(answer) => {
+            CommandResult::Set(answer) => {
                 self.sets = one_more(self.sets);
                 self.count_put(answer);
             }
-            Outcome::Delete(answer) => {
+            CommandResult::Delete(answer) => {
                 self.deletes = one_more(self.deletes);
                 self.count_delete(answer);
             }
@@ -146,7 +146,7 @@ impl Counts {
 
     /// Counts a command that came to this, if it stored its key:
     /// which share of its time to live it was given.
-    pub fn count_given(&mut self, outcome: Outcome, given: u64)
+    pub fn count_given(&mut self, outcome: CommandResult, given: u64)
         ensures { self.new ≡ given_counted outcome given self.old }
     {
         if outcome.is_stored() {

@@ -1,5 +1,5 @@
 //! Why a replay failed, or its trace ended early.
-use crate::line::LineFault;
+use crate::line::TraceLineFault;
 use segindex::MakeFault;
 use thiserror::Error;
 
@@ -22,7 +22,7 @@ pub enum TraceFault {
     Read,
     /// This line states nothing, for this reason. Lines are counted from 1.
     #[error("bad line {0}")]
-    Line(u64, LineFault),
+    Line(u64, TraceLineFault),
     /// There was no memory for a list of commands.
     #[error("out of memory")]
     OutOfMemory,

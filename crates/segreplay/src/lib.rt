@@ -12,9 +12,9 @@ mod run;
 mod totals;
 mod word;
 
-pub use cache::{Cache, Policy};
-pub use counts::{Counts, Outcome};
+pub use cache::{CacheConfig, Retention};
+pub use counts::{CommandResult, Counts};
 pub use fault::{ReplayFault, TraceFault};
-pub use line::{Column, Columns, Form, LineFault, Request, Stated, Verb, read_line};
-pub use run::{Follow, Plan, Replayed, replay};
+pub use line::{Column, Columns, Form, Operation, Stated, TraceCommand, TraceLineFault, read_line};
+pub use run::{Follow, ReplayPlan, Replayed, replay};
 pub use totals::CacheTotals;

@@ -45,7 +45,7 @@ pub enum Form {
 }
 
 #[derive(Clone, Copy, Debug, PartialEq, Eq)]
-pub enum Verb {
+pub enum Operation {
     /// Reads the key, and puts it if it isn't there.
     Get,
     Set,
@@ -54,8 +54,8 @@ pub enum Verb {
 
 /// A command of a trace.
 #[derive(Drop)]
-pub struct Request {
-    pub verb: Verb,
+pub struct TraceCommand {
+    pub verb: Operation,
     pub key: Key,
     /// The moment that the clock shows.
     pub moment: u32,
@@ -68,14 +68,14 @@ pub struct Request {
 pub enum Stated {
     /// It is empty.
     Nothing,
-    Command(Request),
+    Command(TraceCommand),
     /// It names the columns of the lines behind it.
     Header(Columns),
 }
 
 /// Why a line states nothing.
 #[derive(Clone, Copy, Debug, PartialEq, Eq)]
-pub enum LineFault {
+pub enum TraceLineFault {
     /// It has more than 4096 bytes.
     TooLong,
     /// It has so many words, and not so many.
@@ -159,11 +159,11 @@ fn moment_at(row: Row<'_>, place: Option<usize>) -> Option<u32>
     }
 }
 
-fn verb_at(row: Row<'_>, place: Option<usize>) -> Option<Verb>
+fn verb_at(row: Row<'_>, place: Option<usize>) -> Option<Operation>
     ensures { result ≡ verb_at place (fields_of row.entry.at row.entry.line.now) }
 {
     match place {
-        None => Some(Verb::Get),
+        None => Some(Operation::Get),
         Some(place) => verb_of(field(row.line, row.at, place)),
     }
 }
@@ -181,9 +181,9 @@ fn life_at(row: Row<'_>, place: Option<usize>) -> Option<u32>
 fn request_of(
     moment: Option<u32>,
     key: Option<Key>,
-    verb: Option<Verb>,
+    verb: Option<Operation>,
     time_to_live: Option<u32>,
-) -> Result<Request, Column>
+) -> Result<TraceCommand, Column>
     ensures { result ≡ request_of moment key verb time_to_live }
 {
     let Some(moment) = moment else {
@@ -198,7 +198,7 @@ fn request_of(
     let Some(time_to_live) = time_to_live else {
         return Err(Column::Life);
     };
-    Ok(Request {
+    Ok(TraceCommand {
         verb,
         key,
         moment,
@@ -219,12 +219,12 @@ fn place_in(columns: Columns, column: Column) -> usize
 }
 
 // The command that a line with these columns states.
-fn request_at(row: Row<'_>, columns: Columns, fields: usize) -> Result<Request, LineFault>
+fn request_at(row: Row<'_>, columns: Columns, fields: usize) -> Result<TraceCommand, TraceLineFault>
     requires { fields ≡ length (fields_of row.at row.line.now) }
     ensures { result ≡ request_at columns (fields_of row.entry.at row.entry.line.now) }
 {
     if fields != columns.fields {
-        return Err(LineFault::Count(fields, columns.fields));
+        return Err(TraceLineFault::Count(fields, columns.fields));
     }
     let request = request_of(
         moment_at(row, columns.time),
@@ -234,7 +234,10 @@ fn request_at(row: Row<'_>, columns: Columns, fields: usize) -> Result<Request, 
     );
     match request {
         Ok(request) => Ok(request),
-        Err(column) => Err(LineFault::Word(column, place_in(columns, column).saturating_add(1))),
+        Err(column) => Err(TraceLineFault::Word(
+            column,
+            place_in(columns, column).saturating_add(1),
+        )),
     }
 }
 
@@ -290,7 +293,7 @@ fn header_in(form: Form, row: Row<'_>, fields: usize) -> Option<Columns>
 }
 
 // What the fields of a line state.
-fn fields_stated(form: Form, row: Row<'_>) -> Result<Stated, LineFault>
+fn fields_stated(form: Form, row: Row<'_>) -> Result<Stated, TraceLineFault>
     ensures { result ≡ fields_stated form (fields_of row.entry.at row.entry.line.now) }
 {
     let fields = count(row.line, row.at);
@@ -304,7 +307,7 @@ fn fields_stated(form: Form, row: Row<'_>) -> Result<Stated, LineFault>
 }
 
 /// What a line states.
-pub fn read_line(form: Form, line: &[u8]) -> Result<Stated, LineFault>
+pub fn read_line(form: Form, line: &[u8]) -> Result<Stated, TraceLineFault>
     ensures { result ≡ stated form line.now }
 {
     let line = without_return(line);
@@ -315,7 +318,7 @@ pub fn read_line(form: Form, line: &[u8]) -> Result<Stated, LineFault>
     fields_stated(form, Row { line, at })
 }
 
-impl Request {
+impl TraceCommand {
     /// Which of so many clients makes it: the same one for each command of its key.
     pub fn client(&self, clients: u32) -> u32
         ensures { result ≡ client_of clients self.now.key }

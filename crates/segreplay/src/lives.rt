@@ -2,8 +2,8 @@
 ghost use Rattle.std.specs.Prelude.{◌≡◌};
 ghost use Rattle.segreplay.specs.Lives.{share_given};
 
-use crate::line::{Request, Verb};
-use crate::player::Turn;
+use crate::line::{Operation, TraceCommand};
+use crate::player::Assignment;
 use arrayvec::ArrayVec;
 
 /// How many times to live are told apart, at most.
@@ -36,7 +36,7 @@ impl Lives {
     }
 
     /// Adds those of these commands.
-    pub(crate) fn add_all(&mut self, turns: &[Turn])
+    pub(crate) fn add_all(&mut self, turns: &[Assignment])
         ensures { self.new.seen.items ≡ lives_after self.old.seen.items turns.now }
     {
         for turn in turns {
@@ -45,13 +45,13 @@ impl Lives {
     }
 
     // Adds that of a command. A delete puts nothing.
-    fn add_of(&mut self, request: &Request)
+    fn add_of(&mut self, request: &TraceCommand)
         ensures { self.new.seen.items
             ≡ with_life_of request.now.verb request.now.time_to_live self.old.seen.items }
     {
         match request.verb {
-            Verb::Get | Verb::Set => self.add(request.time_to_live),
-            Verb::Delete => {}
+            Operation::Get | Operation::Set => self.add(request.time_to_live),
+            Operation::Delete => {}
         }
     }
 

@@ -1,14 +1,14 @@
 //! A client that makes its commands of a trace, and counts what they came to.
-use crate::counts::{Counts, Outcome};
-use crate::line::{Request, Verb};
+use crate::counts::{CommandResult, Counts};
+use crate::line::{Operation, TraceCommand};
 use crate::lives::share_given;
 use segclient::{Client, GetAnswer};
 use segword::Value;
 
 /// A command, the client that is to make it, and whether it is counted.
 #[derive(Drop)]
-pub(crate) struct Turn {
-    pub(crate) request: Request,
+pub(crate) struct Assignment {
+    pub(crate) request: TraceCommand,
     pub(crate) client: u32,
     pub(crate) is_counted: bool,
 }
@@ -47,7 +47,7 @@ impl<'i> Player<'i> {
     }
 
     /// Makes those of the commands that are its own, in their order.
-    pub(crate) fn play(&mut self, turns: &[Turn])
+    pub(crate) fn play(&mut self, turns: &[Assignment])
         ensures { Plays turns.now self.old self.new }
     {
         for turn in turns {
@@ -63,7 +63,7 @@ impl<'i> Player<'i> {
     }
 
     // Makes a command if it is its own.
-    fn take_own(&mut self, turn: &Turn)
+    fn take_own(&mut self, turn: &Assignment)
         ensures { TakesOwn turn.now self.old self.new }
     {
         if turn.client == self.number {
@@ -72,7 +72,7 @@ impl<'i> Player<'i> {
     }
 
     // Makes a command, and counts it if it is to be counted.
-    fn take(&mut self, turn: &Turn)
+    fn take(&mut self, turn: &Assignment)
         ensures { Takes turn.now self.old self.new }
     {
         let before = self.client.stats();
@@ -90,7 +90,7 @@ impl<'i> Player<'i> {
     }
 
     // Which share of its time to live a command is given that was stored now.
-    fn given_to(&self, request: &Request) -> u64
+    fn given_to(&self, request: &TraceCommand) -> u64
         ensures { result ≡ given_to request.now self.now.client }
     {
         share_given(
@@ -101,7 +101,7 @@ impl<'i> Player<'i> {
     }
 
     // Makes a command at its moment.
-    fn serve(&mut self, request: &Request) -> Outcome
+    fn serve(&mut self, request: &TraceCommand) -> CommandResult
         ensures serves { Serves self.old.value request.now result self.old.client self.new.client }
         ensures cache { self.new.cache ≡ self.old.cache }
         ensures number { self.new.number ≡ self.old.number }
@@ -111,15 +111,15 @@ impl<'i> Player<'i> {
         self.client.set_now(request.moment);
         self.client.set_time_to_live(request.time_to_live);
         match request.verb {
-            Verb::Get => self.get(request),
-            Verb::Set => Outcome::Set(self.client.put(&request.key, &self.value)),
-            Verb::Delete => Outcome::Delete(self.client.delete(&request.key)),
+            Operation::Get => self.get(request),
+            Operation::Set => CommandResult::Set(self.client.put(&request.key, &self.value)),
+            Operation::Delete => CommandResult::Delete(self.client.delete(&request.key)),
         }
     }
 
     // Reads the key, and puts it if it isn't there.
-    fn get(&mut self, request: &Request) -> Outcome
-        requires { request.now.verb ≡ Verb.Get }
+    fn get(&mut self, request: &TraceCommand) -> CommandResult
+        requires { request.now.verb ≡ Operation.Get }
         ensures makes { Makes self.old.value request.now result self.old.client self.new.client }
         ensures cache { self.new.cache ≡ self.old.cache }
         ensures number { self.new.number ≡ self.old.number }
@@ -127,9 +127,9 @@ impl<'i> Player<'i> {
         ensures counts { self.new.counts ≡ self.old.counts }
     {
         match self.client.get(&request.key) {
-            GetAnswer::Found(_) => Outcome::Hit,
-            GetAnswer::Miss => Outcome::Miss(self.client.put(&request.key, &self.value)),
-            GetAnswer::Busy => Outcome::GetBusy,
+            GetAnswer::Found(_) => CommandResult::Hit,
+            GetAnswer::Miss => CommandResult::Miss(self.client.put(&request.key, &self.value)),
+            GetAnswer::Busy => CommandResult::GetBusy,
         }
     }
 }

@@ -1,7 +1,7 @@
 //! Reads the lines of a trace, byte by byte, into turns.
 use crate::fault::TraceFault;
-use crate::line::{Form, LineFault, Request, Stated, read_line};
-use crate::player::Turn;
+use crate::line::{Form, Stated, TraceCommand, TraceLineFault, read_line};
+use crate::player::Assignment;
 use std::alloc::{AllocError, Global};
 
 /// The most bytes of a line.
@@ -18,7 +18,7 @@ pub(crate) struct Rules {
 
 /// How far a trace is read.
 #[derive(Drop)]
-pub(crate) struct Reading {
+pub(crate) struct TracePosition {
     rules: Rules,
     // How the next line is written.
     form: Form,
@@ -28,19 +28,19 @@ pub(crate) struct Reading {
     /// How many commands were read.
     pub(crate) commands: u64,
     /// Those of them that weren't handed on yet.
-    pub(crate) turns: Vec<Turn>,
+    pub(crate) turns: Vec<Assignment>,
 }
 
-impl Reading {
+impl TracePosition {
     ghost use Rattle.std.specs.Prelude.{[], ◌∷◌, IfOk};
     ghost use Rattle.segreplay.specs.Traces.{FeedsMore, HandsOn, HasRead, TakesCommand};
     ghost use Rattle.segreplay.specs.Traces.{TakesLine, TakesStated};
 
     /// Nothing is read yet.
-    pub(crate) fn new(alloc: Global, rules: Rules) -> Result<Reading, AllocError>
+    pub(crate) fn new(alloc: Global, rules: Rules) -> Result<TracePosition, AllocError>
         ensures { IfOk result (HasRead rules [] []) }
     {
-        Ok(Reading {
+        Ok(TracePosition {
             rules,
             form: rules.form,
             line: Vec::with_capacity(alloc, LINE)?,
@@ -77,7 +77,7 @@ impl Reading {
             return self.end_line();
         }
         if self.line.len() == LINE {
-            return Err(TraceFault::Line(self.number, LineFault::TooLong));
+            return Err(TraceFault::Line(self.number, TraceLineFault::TooLong));
         }
         match self.line.push(byte) {
             Ok(()) => Ok(()),
@@ -122,10 +122,10 @@ impl Reading {
     }
 
     // Puts the turn of a command behind the others.
-    fn take_request(&mut self, request: Request) -> Result<(), TraceFault>
+    fn take_request(&mut self, request: TraceCommand) -> Result<(), TraceFault>
         ensures { TakesStated (Stated.Command request) self.old self.new result }
     {
-        let turn = Turn {
+        let turn = Assignment {
             client: request.client(self.rules.clients),
             request,
             is_counted: self.commands >= self.rules.warm,

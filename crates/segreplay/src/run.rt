@@ -1,18 +1,18 @@
 //! A replay: the commands of a trace, made by the clients of one cache or several.
 ghost use Rattle.std.specs.Prelude.{◌≡◌, ◌++◌, [], ℕ, List, false, IfOk, OnOk};
+ghost use Rattle.segreplay.specs.declared.player.Assignment.{Assignment};
 ghost use Rattle.segreplay.specs.declared.player.Player.{Player};
-ghost use Rattle.segreplay.specs.declared.player.Turn.{Turn};
 ghost use Rattle.segreplay.specs.Playing.{CountsItems, Plays};
 ghost use Rattle.segreplay.specs.Replays.{AddsLives, AllCount, AllPlay, is_read_end, IsReplay};
 ghost use Rattle.segreplay.specs.Replays.{MakesSome, value_of};
 ghost use Rattle.segreplay.specs.Traces.{EndsTrace, HandsOn, HasRead};
 
-use crate::cache::{Made, Policy, caches_of, make_all, players_of};
+use crate::cache::{Made, Retention, caches_of, make_all, players_of};
 use crate::fault::{ReplayFault, TraceFault};
 use crate::line::Form;
 use crate::lives::Lives;
-use crate::player::{Player, Turn};
-use crate::reading::{Reading, Rules};
+use crate::player::{Assignment, Player};
+use crate::reading::{Rules, TracePosition};
 use crate::totals::{CacheTotals, totals_of};
 use segscript::Source;
 use segword::{Shape, VALUE_BYTES, Value};
@@ -27,7 +27,7 @@ const BATCH: usize = 16_384;
 
 /// What is replayed how.
 #[derive(Clone, Copy, Debug)]
-pub struct Plan<'p> {
+pub struct ReplayPlan<'p> {
     pub form: Form,
     /// How many bytes each value has, at most `VALUE_BYTES`.
     pub value_bytes: usize,
@@ -37,7 +37,7 @@ pub struct Plan<'p> {
     pub shape: Shape,
     /// How many sizes there are. Each is half of the one before.
     pub sizes: u32,
-    pub policies: &'p [Policy],
+    pub policies: &'p [Retention],
 }
 
 /// Looks on while a trace is replayed.
@@ -76,7 +76,7 @@ struct Crew<'c, R, F> {
 fn play_all<R: Threads + Sync, F: Follow>(
     crew: &Crew<'_, R, F>,
     players: &mut [Player<'_>],
-    turns: &[Turn],
+    turns: &[Assignment],
 )
     ensures { AllPlay turns.now players.old players.new }
 {
@@ -109,7 +109,7 @@ fn make_turns<R: Threads + Sync, F: Follow>(
     crew: &Crew<'_, R, F>,
     players: &mut [Player<'_>],
     lives: &mut Lives,
-    reading: &mut Reading,
+    reading: &mut TracePosition,
 )
     ensures plays { AllPlay reading.old.turns.items players.old players.new }
     ensures lives { AddsLives reading.old.turns.items lives.old lives.new }
@@ -126,7 +126,7 @@ fn make_many<R: Threads + Sync, F: Follow>(
     crew: &Crew<'_, R, F>,
     players: &mut [Player<'_>],
     lives: &mut Lives,
-    reading: &mut Reading,
+    reading: &mut TracePosition,
 )
     ensures { MakesSome reading.old reading.new players.old players.new lives.old lives.new }
 {
@@ -141,11 +141,11 @@ fn read_all<R: Threads + Sync, S: Source, F: Follow>(
     source: &mut S,
     players: &mut [Player<'_>],
     lives: &mut Lives,
-    reading: &mut Reading,
+    reading: &mut TracePosition,
 ) -> Result<(), TraceFault>
     requires works { S.has_failed source.old ≡ false }
     requires begun { HasRead reading.old.rules [] [] reading.old }
-    ensures outcome { (seen : List ℕ) × (made : List Turn)
+    ensures outcome { (seen : List ℕ) × (made : List Assignment)
         × S.hands source.old seen source.new
         × AllPlay made players.old players.new
         × EndsTrace reading.old.rules seen (made ++ reading.new.turns.items) result
@@ -175,11 +175,11 @@ fn run<R: Threads + Sync, S: Source, F: Follow>(
     source: &mut S,
     players: &mut [Player<'_>],
     lives: &mut Lives,
-    mut reading: Reading,
+    mut reading: TracePosition,
 ) -> Result<(), TraceFault>
     requires works { S.has_failed source.old ≡ false }
     requires begun { HasRead reading.rules [] [] reading }
-    ensures outcome { (seen : List ℕ) × (turns : List Turn) × (made : List Player)
+    ensures outcome { (seen : List ℕ) × (turns : List Assignment) × (made : List Player)
         × S.hands source.old seen source.new
         × AllPlay turns players.old made
         × AllCount made players.new
@@ -203,7 +203,7 @@ pub fn replay<R: Threads + Sync, S: Source, F: Follow>(
     rt: &R,
     alloc: Global,
     source: &mut S,
-    plan: &Plan<'_>,
+    plan: &ReplayPlan<'_>,
     follow: &F,
 ) -> Result<Replayed, ReplayFault>
     requires works { S.has_failed source.old ≡ false }
@@ -229,7 +229,7 @@ pub fn replay<R: Threads + Sync, S: Source, F: Follow>(
         clients: plan.shape.passes,
         warm: plan.warm,
     };
-    let Ok(reading) = Reading::new(alloc, rules) else {
+    let Ok(reading) = TracePosition::new(alloc, rules) else {
         return Err(ReplayFault::OutOfMemory);
     };
     let crew = Crew {

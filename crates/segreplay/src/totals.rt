@@ -4,7 +4,7 @@ ghost use Rattle.segreplay.specs.Counting.{no_counts};
 ghost use Rattle.segreplay.specs.Caches.{bytes_of, counts_after, HasValidShape, queue_bytes};
 ghost use Rattle.segreplay.specs.Replays.{totals_from};
 
-use crate::cache::{Cache, Policy};
+use crate::cache::{CacheConfig, Retention};
 use crate::counts::Counts;
 use crate::player::Player;
 use std::alloc::{AllocError, Global};
@@ -12,7 +12,7 @@ use std::alloc::{AllocError, Global};
 /// A cache, and what its clients counted together.
 #[derive(Clone, Copy, Debug)]
 pub struct CacheTotals {
-    pub cache: Cache,
+    pub cache: CacheConfig,
     /// How many bytes its table and its clients' queues have.
     pub bytes: u64,
     pub counts: Counts,
@@ -21,22 +21,22 @@ pub struct CacheTotals {
 }
 
 // How many bytes the clients' queues have: 16 for each segment, and 3 for each of its rows.
-fn queue_bytes(cache: Cache) -> u64
+fn queue_bytes(cache: CacheConfig) -> u64
     requires { HasValidShape cache }
     ensures value { result ≡ queue_bytes cache.policy cache.shape }
     ensures few { result < 2 ^ 32 }
 {
     let shape = cache.shape;
     match cache.policy {
-        Policy::Default => {
+        Retention::Default => {
             u64::from(shape.passes * shape.segments_each) * u64::from(16 + 3 * shape.rows)
         }
-        Policy::Nothing | Policy::Cutoff(_) => 0,
+        Retention::Nothing | Retention::Cutoff(_) => 0,
     }
 }
 
 // How many bytes a cache has.
-fn bytes_of(cache: Cache) -> u64
+fn bytes_of(cache: CacheConfig) -> u64
     requires { HasValidShape cache }
     ensures { result ≡ bytes_of cache }
 {
@@ -59,7 +59,7 @@ fn counts_of(players: &[Player<'_>], cache: usize) -> Counts
 /// The totals of each cache, by its players, over a trace with so many times to live.
 pub(crate) fn totals_of(
     alloc: Global,
-    caches: &[Cache],
+    caches: &[CacheConfig],
     players: &[Player<'_>],
     lives: usize,
 ) -> Result<Vec<CacheTotals>, AllocError>

@@ -9,7 +9,7 @@ ghost use Rattle.segreplay.specs.Words.{is_change, is_get, is_name, is_set, key_
 ghost use Rattle.segreplay.specs.Words.{moment_named, moment_of, number_named, seconds_of, shown};
 ghost use Rattle.segreplay.specs.Words.{trimmed, verb_named, whole_from, whole_named, without_return};
 
-use crate::line::Verb;
+use crate::line::Operation;
 use segword::{KEY_BYTES, Key};
 
 /// From this number on a moment is one of milliseconds.
@@ -113,17 +113,17 @@ fn is_change(text: &[u8]) -> bool
         || is_name(text, b"decr")
 }
 
-pub(crate) fn verb_of(text: &[u8]) -> Option<Verb>
+pub(crate) fn verb_of(text: &[u8]) -> Option<Operation>
     ensures { result ≡ verb_named text.now }
 {
     if is_get(text) {
-        return Some(Verb::Get);
+        return Some(Operation::Get);
     }
     if is_set(text) || is_change(text) {
-        return Some(Verb::Set);
+        return Some(Operation::Set);
     }
     if is_name(text, b"delete") {
-        return Some(Verb::Delete);
+        return Some(Operation::Delete);
     }
     None
 }

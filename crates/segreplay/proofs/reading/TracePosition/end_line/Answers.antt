@@ -1,6 +1,6 @@
 use Rattle.std.proofs.Common.{◌∙◌, ap}
 use Rattle.segclient.specs.Counting.{with_more}
-use Rattle.segreplay.proofs.reading.Reading.end_line.Goals as goal
+use Rattle.segreplay.proofs.reading.TracePosition.end_line.Goals as goal
 
 pub returns : goal.returns
 returns c =

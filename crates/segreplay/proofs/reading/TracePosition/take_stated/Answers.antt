@@ -1,7 +1,7 @@
 use Rattle.std.proofs.Common.{subst, sym}
 use Rattle.segreplay.specs.Traces.{TakesStated}
 use Rattle.segreplay.proofs.Feeding.{header_taken, nothing_taken}
-use Rattle.segreplay.proofs.reading.Reading.take_stated.Goals as goal
+use Rattle.segreplay.proofs.reading.TracePosition.take_stated.Goals as goal
 
 pub returns-in-Nothing : goal.returns-in-Nothing
 returns-in-Nothing c = nothing_taken c.args.stated c.args.self.now c.in-Nothing.is

@@ -1,7 +1,7 @@
 use Rattle.std.proofs.Common.{◌++◌, take, append-nil}
 use Rattle.std.proofs.lemmas.List.{take_all}
 use Rattle.segreplay.proofs.Feeding.{fault_within, fed_on}
-use Rattle.segreplay.proofs.reading.Reading.feed_all.Goals as goal
+use Rattle.segreplay.proofs.reading.TracePosition.feed_all.Goals as goal
 
 pub loop-byte-init : goal.loop-byte-init
 loop-byte-init c = λ rules seen made here. rw append-nil here

@@ -1,7 +1,7 @@
 use Rattle.std.proofs.Common.{◌∙◌, ap, refl, sym}
 use Rattle.segreplay.specs.Lines.{stated}
 use Rattle.segreplay.proofs.Feeding.{stated_taken}
-use Rattle.segreplay.proofs.reading.Reading.take_line.Goals as goal
+use Rattle.segreplay.proofs.reading.TracePosition.take_line.Goals as goal
 
 pub returns-in-Ok : goal.returns-in-Ok
 returns-in-Ok c =

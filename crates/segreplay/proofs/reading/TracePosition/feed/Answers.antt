@@ -1,6 +1,6 @@
 use Rattle.std.proofs.Common.{◌≡◌, ◌<◌, ◌∙◌, length, refl, sym, arith}
 use Rattle.segreplay.proofs.Feeding.{byte_kept, byte_lost, byte_over, line_fed}
-use Rattle.segreplay.proofs.reading.Reading.feed.Goals as goal
+use Rattle.segreplay.proofs.reading.TracePosition.feed.Goals as goal
 
 pub returns-then-byte-eq10 : goal.returns-then-byte-eq10
 returns-then-byte-eq10 c = λ rules seen made here.
