@@ -8,7 +8,7 @@ use Rattle.segmodel.specs.History as histories
 use Rattle.segbase.specs.Words.{Board, mine, number, number_of, Pass, seen}
 use Rattle.segindex.specs.Words.{AnswersCommand, AreAllQuiet, IsEndOfAll}
 use Rattle.segindex.proofs.Made.{new_quiet}
-use Rattle.segload.specs.Words.{PassTotals, Plan, Totals, Worker}
+use Rattle.segload.specs.Words.{LoadPlan, PassTotals, Totals, Worker}
 use Rattle.segload.specs.Counting.{all_of, CountsRecycled}
 use Rattle.segload.specs.Gates.{RanToEnd, Stops}
 use Rattle.segload.specs.Making.{Makes, start_of}
@@ -22,7 +22,7 @@ use Rattle.segload.specs.Lists.{AllAt}
 use Rattle.segload.proofs.Counted.{counts_made}
 use Rattle.segload.proofs.Made.{calls_make, makes_later}
 
-module _ (b : Board) (may_answer : ℕ → ℕ → Bool → Type 0) (told : ℕ → ℕ → Type 0) (plan : Plan) where
+module _ (b : Board) (may_answer : ℕ → ℕ → Bool → Type 0) (told : ℕ → ℕ → Type 0) (plan : LoadPlan) where
   -- each worker did its work
   abbrev pub AllWorked : List Worker → Type 0
   AllWorked workers = AllAt (HasMadePlan b may_answer told plan) workers

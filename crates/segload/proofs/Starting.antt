@@ -1,11 +1,11 @@
 -- Workers that begin one after the other, and what their threads give back.
 use Rattle.std.proofs.Common.{◌≡◌, ℕ, suc, ◌+◌, Bool, List, ◌∷◌, slice_get, sym, ap, ◌∙◌, subst, arith}
 use Rattle.segbase.specs.Words.{Board, IsNewPass, number}
-use Rattle.segload.specs.Words.{Plan, Worker}
+use Rattle.segload.specs.Words.{LoadPlan, Worker}
 use Rattle.segload.specs.Working.{draws_for, IsAtWork, BeginsLoad, BeginsPlan, HasMadePlan}
 use Rattle.segload.specs.Lists.{AllAt}
 
-module _ (b : Board) (plan : Plan) where
+module _ (b : Board) (plan : LoadPlan) where
   -- those from this place on, of which so many are gone, may begin
   abbrev pub Wait : ℕ → List Worker → Type 0
   Wait gone workers = AllAt (λ n worker. BeginsPlan b plan (gone + n) worker) workers
@@ -32,7 +32,7 @@ module _ (b : Board) (plan : Plan) where
 
   -- what a thread gave back is what its promise says
   pub worked_there : (b' : Board) (s s' : ℕ → ℕ → Bool → Type 0) (t t' : ℕ → ℕ
-      → Type 0) (plan' : Plan) (n n' : ℕ) (w w' : Worker) → b' ≡ b → s' ≡ s → t' ≡ t → plan' ≡ plan → n' ≡ n
+      → Type 0) (plan' : LoadPlan) (n n' : ℕ) (w w' : Worker) → b' ≡ b → s' ≡ s → t' ≡ t → plan' ≡ plan → n' ≡ n
       → w' ≡ w → HasMadePlan b' s' t' plan' n' w' → HasMadePlan b s t plan n w
   worked_there b' s s' t t' plan' n n' w w' e d k c f h worked =
       subst (HasMadePlan b s t plan n) h (subst (λ x. HasMadePlan b s t plan x w') f (subst (λ x. HasMadePlan b s t x n' w') c

@@ -6,8 +6,8 @@ use Rattle.segstore.specs.Words.{IsQuiet}
 use Rattle.segindex.specs.Words.{AnswersCommand, ReturnsStats}
 use Rattle.segpolicy.specs.Words.{Draws, draws_of}
 use Rattle.segload.specs.Lists.{AllAt}
-use Rattle.segload.specs.declared.plan.Plan.{Plan}
-use Rattle.segload.specs.declared.client.Client.{Client}
+use Rattle.segload.specs.declared.plan.LoadPlan.{LoadPlan}
+use Rattle.segload.specs.declared.client.Caller.{Caller}
 use Rattle.segload.specs.declared.totals.PassTotals.{PassTotals}
 use Rattle.segload.specs.declared.worker.Worker.{Worker}
 use Rattle.segload.specs.Gates.{IsToldOf, LetsThrough, Stops}
@@ -16,11 +16,11 @@ use Rattle.segload.specs.Making.{ClientState, draws_after, start_of}
 use Rattle.segload.specs.Calls.{MakesCalls}
 
 -- what the next commands of a client depend on
-abbrev pub course_of : Client → ClientState
+abbrev pub course_of : Caller → ClientState
 course_of client = record { segments = client.segments; version = client.version }
 
 -- The client has counted the evictions and the refillings of its pass.
-abbrev pub HasCounted : Client → Type 0
+abbrev pub HasCounted : Caller → Type 0
 HasCounted client = CountsRecycled client.recycled (mine client.pass)
 
 -- The worker's pass made so many commands of a workload since it was this one,
@@ -56,16 +56,16 @@ pub record BeginsLoad (b : Board) (draws : Draws) (pass : ℕ) (worker : Worker)
   pub runs : worker.is_stopped ≡ false
 
 -- the workload of a pass: the plan says with which seed it is drawn, and over how many keys
-abbrev pub draws_for : Plan → ℕ → Draws
+abbrev pub draws_for : LoadPlan → ℕ → Draws
 draws_for plan pass = draws_of plan.seed pass (non_zero_u32_get plan.keys)
 
 -- The worker begins what the plan says.
-abbrev pub BeginsPlan : Board → Plan → ℕ → Worker → Type 0
+abbrev pub BeginsPlan : Board → LoadPlan → ℕ → Worker → Type 0
 BeginsPlan b plan pass worker = BeginsLoad b (draws_for plan pass) pass worker
 
 -- From a new pass on, the pass of this number did what the plan says, as far as the gate let it.
 pub record HasMadePlan (b : Board) (may_answer : ℕ → ℕ → Bool → Type 0) (told : ℕ → ℕ → Type 0)
-    (plan : Plan) (pass : ℕ) (worker : Worker) : Type 0 where
+    (plan : LoadPlan) (pass : ℕ) (worker : Worker) : Type 0 where
   pub first : Pass
   pub new : IsNewPass b pass first
   pub worked : HasWorked b may_answer told (draws_for plan pass) first pass plan.commands worker

@@ -16,7 +16,7 @@ const MOMENT: u32 = 0;
 
 /// A pass, and what its next commands depend on.
 #[derive(Drop)]
-pub(crate) struct Client {
+pub(crate) struct Caller {
     pub(crate) pass: Pass,
     // The segments of the pass, in the order in which they are given up for new keys.
     segments: Ring,
@@ -61,7 +61,7 @@ fn tally_of(answer: &Answer) -> Tally
     }
 }
 
-impl Client {
+impl Caller {
     ghost use Rattle.segindex.specs.Words.{AnswersCommand, board_of};
     ghost use Rattle.segstore.specs.Words.{GoesOn, IsQuiet};
     ghost use Rattle.segpolicy.specs.Words.{next_of};
@@ -73,12 +73,12 @@ impl Client {
     ghost use Rattle.segload.specs.Working.{course_of, HasCounted};
 
     /// A client whose pass made no command yet.
-    pub(crate) fn new(pass: Pass, segments: Ring) -> Client
+    pub(crate) fn new(pass: Pass, segments: Ring) -> Caller
         ensures pass { result.pass ≡ pass }
         ensures course { course_of result ≡ record { segments = segments; version = 0 } }
         ensures recycled { result.recycled ≡ none_recycled }
     {
-        Client {
+        Caller {
             pass,
             segments,
             version: 0,
@@ -90,7 +90,7 @@ impl Client {
     pub(crate) fn into_pass(self) -> Pass
         ensures { result ≡ self.pass }
     {
-        let Client {
+        let Caller {
             pass,
             segments: _,
             version: _,

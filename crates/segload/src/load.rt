@@ -13,7 +13,7 @@ ghost use Rattle.segload.specs.Loads.{keys_of, IsLoad, IsLetThrough, IsToldOfAll
 
 use crate::fault::LoadFault;
 use crate::gate::Gate;
-use crate::plan::Plan;
+use crate::plan::LoadPlan;
 use crate::totals::{PassTotals, Totals};
 use crate::worker::Worker;
 use segindex::{Index, Pass};
@@ -30,7 +30,7 @@ use std::thread::{Promise, Threads};
 struct Worked<'i, G> {
     index: &'i Index,
     gate: &'i G,
-    plan: Plan,
+    plan: LoadPlan,
     pass: u32,
 }
 
@@ -48,7 +48,7 @@ fn work_at_once<R: Threads + Wait + AllocGlobal + Sync, G: Gate>(
     rt: &R,
     index: &Index,
     gate: &G,
-    plan: Plan,
+    plan: LoadPlan,
     workers: Vec<Worker>,
 ) -> Result<Vec<Worker>, AllocError>
     requires ready { AllAt (BeginsPlan (board_of index.now) plan) workers.items }
@@ -99,7 +99,7 @@ fn work_at_once<R: Threads + Wait + AllocGlobal + Sync, G: Gate>(
 fn begin_all(
     alloc: Global,
     index: &Index,
-    plan: Plan,
+    plan: LoadPlan,
     passes: Vec<Pass>,
 ) -> Result<Vec<Worker>, AllocError>
     requires new { IsNew (shape_of index.now) index.now passes.items }
@@ -171,7 +171,7 @@ fn run_plan<R: Threads + Wait + AllocGlobal + Sync, G: Gate>(
     rt: &R,
     alloc: Global,
     shape: Shape,
-    plan: Plan,
+    plan: LoadPlan,
     gate: &G,
 ) -> Result<Totals, LoadFault>
     ensures load { IfOk result
@@ -228,7 +228,7 @@ pub fn run_crowd<R: Threads + Wait + AllocGlobal + Sync, G: Gate>(
     ensures fault { IfErr result (IsLoadFault shape commands
         (G.may_answer gate.now) (G.told gate.now)) }
 {
-    run_plan(rt, alloc, shape, Plan::new(seed, commands, keys), gate)
+    run_plan(rt, alloc, shape, LoadPlan::new(seed, commands, keys), gate)
 }
 
 /// Runs a load over the 64 keys `k0` to `k63`, as `run_crowd` does.

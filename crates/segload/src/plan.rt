@@ -7,22 +7,22 @@ use std::num::NonZeroU32;
 
 /// So many commands for each pass, over so many keys, drawn with this seed.
 #[derive(Clone, Copy, Debug)]
-pub(crate) struct Plan {
+pub(crate) struct LoadPlan {
     pub(crate) seed: u64,
     pub(crate) commands: u32,
     pub(crate) keys: NonZeroU32,
 }
 
-impl Plan {
+impl LoadPlan {
     ghost use Rattle.segload.specs.Working.{draws_for};
 
-    pub(crate) fn new(seed: u64, commands: u32, keys: u32) -> Plan
+    pub(crate) fn new(seed: u64, commands: u32, keys: u32) -> LoadPlan
         requires { 1 ≤ keys }
         ensures seed { result.seed ≡ seed }
         ensures commands { result.commands ≡ commands }
         ensures keys { non_zero_u32_get result.keys ≡ keys }
     {
-        Plan {
+        LoadPlan {
             seed,
             commands,
             keys: NonZeroU32::new(keys).unwrap(),

@@ -2,9 +2,9 @@
 ghost use Rattle.std.specs.Prelude.{◌≡◌};
 ghost use Rattle.segindex.specs.Words.{board_of};
 
-use crate::client::Client;
+use crate::client::Caller;
 use crate::gate::Gate;
-use crate::plan::Plan;
+use crate::plan::LoadPlan;
 use crate::totals::{PassTotals, Tallies};
 use segclient::own_ring;
 use segindex::{Index, Pass};
@@ -13,7 +13,7 @@ use segpolicy::Workload;
 /// A pass with its commands, and how they were counted so far.
 #[derive(Drop)]
 pub(crate) struct Worker {
-    pub(crate) client: Client,
+    pub(crate) client: Caller,
     pub(crate) workload: Workload,
     pub(crate) tallies: Tallies,
     pub(crate) is_stopped: bool,
@@ -32,7 +32,7 @@ impl Worker {
     ghost use Rattle.segload.specs.Working.{BeginsLoad, BeginsPlan, EndsWork, HasWorked};
 
     /// A worker whose pass made no command yet.
-    pub(crate) fn new(index: &Index, plan: Plan, pass: Pass) -> Worker
+    pub(crate) fn new(index: &Index, plan: LoadPlan, pass: Pass) -> Worker
         requires quiet { IsQuiet (board_of index.now) pass }
         requires new { IsNewPass (board_of index.now) (number pass) pass }
         ensures { BeginsPlan (board_of index.now) plan (number pass) result }
@@ -40,7 +40,7 @@ impl Worker {
         let ring = own_ring(index, &pass);
         let workload = plan.workload(pass.number());
         Worker {
-            client: Client::new(pass, ring),
+            client: Caller::new(pass, ring),
             workload,
             tallies: Tallies::new(),
             is_stopped: false,

@@ -3,7 +3,7 @@ use Rattle.std.proofs.lemmas.Option.{slice_get_read, slice_get_within, get_or_fr
 use Rattle.std.specs.Vec.{vec_len}
 use Rattle.std.specs.Vec.Iter.{into_iter_len, into_iter_items}
 use Rattle.std.specs.declared.thread.PromisedHandle.{PromisedHandle}
-use Rattle.segload.specs.Words.{Plan, Worker}
+use Rattle.segload.specs.Words.{LoadPlan, Worker}
 use Rattle.segload.specs.declared.load.Worked.{Worked}
 use Rattle.segbase.specs.Words.{Board, number}
 use Rattle.segload.specs.Working.{BeginsPlan, HasMadePlan, HasWorked}
@@ -13,7 +13,7 @@ use Rattle.segload.proofs.Starting.{first_begins, first_numbered, rest_begin, wo
 use Rattle.segload.proofs.load.fn.work_at_once.scope.Goals as goal
 
 -- a thread's promise is of this index, this gate and this plan, and of the pass whose number is its place
-abbrev Ours : {G : Type 0} → Board → G → Plan → ℕ → PromisedHandle Worker (Worked G) → Type 0
+abbrev Ours : {G : Type 0} → Board → G → LoadPlan → ℕ → PromisedHandle Worker (Worked G) → Type 0
 Ours b gate plan n thread = (thread.promise.index.now.board ≡ b) × (thread.promise.gate.now ≡ gate) × (thread.promise.plan ≡ plan)
 
 abbrev InOrder : {G : Type 0} → ℕ → PromisedHandle Worker (Worked G) → Type 0

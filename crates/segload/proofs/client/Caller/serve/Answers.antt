@@ -9,7 +9,7 @@ use Rattle.segload.specs.Calls.{command_of, course_after, TriesForRoom}
 use Rattle.segbase.specs.Words.{mine}
 use Rattle.segload.specs.Counting.{CanCountMore, CountsRecycled, RecyclesFew}
 use Rattle.segload.proofs.Recycling.{command_recycles, recycles_between, recycles_none}
-use Rattle.segload.proofs.client.Client.serve.Goals as goal
+use Rattle.segload.proofs.client.Caller.serve.Goals as goal
 
 pub returns-then-ne-clause-serves : goal.returns-then-ne-clause-serves
 returns-then-ne-clause-serves c =

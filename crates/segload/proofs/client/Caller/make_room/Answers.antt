@@ -10,7 +10,7 @@ use Rattle.segindex.specs.Words.{AnswersCommand}
 use Rattle.segload.specs.Making.{ClientState, load_deadline}
 use Rattle.segload.specs.Calls.{TriesForRoom}
 use Rattle.segload.proofs.Answered.{is_refilled}
-use Rattle.segload.proofs.client.Client.make_room.Goals as goal
+use Rattle.segload.proofs.client.Caller.make_room.Goals as goal
 
 pub returns-in_default : goal.returns-in_default
 returns-in_default c =

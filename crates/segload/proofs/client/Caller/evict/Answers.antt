@@ -1,6 +1,6 @@
 use Rattle.std.proofs.Common.{◌+◌, refl, ap, ◌∙◌}
 use Rattle.segload.proofs.Recycling.{evict_recycles}
-use Rattle.segload.proofs.client.Client.evict.Goals as goal
+use Rattle.segload.proofs.client.Caller.evict.Goals as goal
 
 pub returns-clause-counts : goal.returns-clause-counts
 returns-clause-counts c =

@@ -1,7 +1,7 @@
 use Rattle.std.proofs.Common.{◌+◌, refl, ap}
 use Rattle.segload.specs.Making.{load_deadline}
 use Rattle.segload.proofs.Recycling.{refill_recycles}
-use Rattle.segload.proofs.client.Client.refill.Goals as goal
+use Rattle.segload.proofs.client.Caller.refill.Goals as goal
 
 pub returns-clause-counts : goal.returns-clause-counts
 returns-clause-counts c =
