@@ -6,7 +6,7 @@ use Rattle.segcli.specs.Explained.{SpellsWord, explanation}
 use Rattle.segcli.specs.Totals.{text_in}
 use Rattle.segcli.specs.Commands.{LoadOutcome, ShowOutcome, WordOutcome}
 use Rattle.segcli.specs.Streams.{Output}
-use Rattle.segcli.specs.declared.asked.Load.{Load}
+use Rattle.segcli.specs.declared.asked.LoadTask.{LoadTask}
 use Rattle.segcli.specs.declared.asked.Word.{Word}
 use Rattle.segcli.specs.declared.explanation.Meaning.{Meaning}
 use Rattle.segcli.specs.declared.fault.ProgramFault.{ProgramFault}
@@ -22,7 +22,7 @@ module _ (word : Word) (m : Meaning) {W : Type 0} (o : Output W) where
   word_shown end says is shown = word_ends end says (subst (λ l. ShowOutcome l o end) is shown)
 
 -- the totals of a load
-module _ (load : Load) {W : Type 0} (o : Output W) where
+module _ (load : LoadTask) {W : Type 0} (o : Output W) where
   load_ends : (totals : Totals) (end : Result (Unit {0}) ProgramFault)
       → IsLoad load.shape load.seed (non_zero_u32_get load.keys) load.commands totals
       → ShowOutcome (text_in load.format totals) o end → LoadOutcome load o end

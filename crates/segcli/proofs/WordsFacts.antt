@@ -11,12 +11,12 @@ use Rattle.clap.proofs.OnLiterals.{clap_on_literals}
 use Rattle.segcli.specs.CommandLine.{command_line, default_shape}
 use Rattle.segcli.specs.Asked.{IsReadAsCommand}
 use Rattle.segcli.specs.declared.asked.Format.TheVariants as format
-use Rattle.segcli.specs.declared.asked.Load.{Load}
+use Rattle.segcli.specs.declared.asked.LoadTask.{LoadTask}
 use Rattle.segcli.specs.declared.arguments.Refusal.TheVariants as refusal
-use Rattle.segcli.specs.declared.command.Command.TheVariants as command
+use Rattle.segcli.specs.declared.command.Task.TheVariants as command
 
 -- the load that no option changes, over so many keys
-load_alone : NonZeroU32 → Load
+load_alone : NonZeroU32 → LoadTask
 load_alone keys = record {
   shape = default_shape;
   seed = 1;

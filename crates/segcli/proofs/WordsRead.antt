@@ -26,8 +26,8 @@ use Rattle.segcli.specs.CommandLine.{Builds, command_line}
 use Rattle.segcli.specs.Asked.{IsAsked, IsCommandName, IsMisnamed, IsReadAsCommand, IsReadByClap, IsRefused, is_request, plain_words}
 use Rattle.segcli.specs.declared.arguments.Refusal.{Refusal}
 use Rattle.segcli.specs.declared.arguments.Refusal.TheVariants as refusal
-use Rattle.segcli.specs.declared.command.Command.{Command}
-use Rattle.segcli.specs.declared.command.Command.TheVariants as command
+use Rattle.segcli.specs.declared.command.Task.{Task}
+use Rattle.segcli.specs.declared.command.Task.TheVariants as command
 use Rattle.segcli.proofs.NoHelp.{IsPastHelp, no_faults, walk_past_help}
 
 -- `clap`'s contracts say of the command line what it finds
@@ -39,13 +39,13 @@ pub some_words : {X : Type 0} (f : X → Text) (xs : List X) → (length xs == 0
 some_words f [] some none = true≢false some
 some_words f (x ∷ xs) some none = absurd (cc)
 
-pub of_words : (words : List Text) (read : Result Command Refusal) → (words ≡ [] → ⊥) → IsReadByClap (plain_words words) read → IsReadAsCommand words read
+pub of_words : (words : List Text) (read : Result Task Refusal) → (words ≡ [] → ⊥) → IsReadByClap (plain_words words) read → IsReadAsCommand words read
 of_words [] read some is = absurd (some refl)
 of_words (word ∷ words) read some is = is
 
 -- ---- a command
 
-pub command_read : (words : List Text) (found : Text × List Row) (asked : Command)
+pub command_read : (words : List Text) (found : Text × List Row) (asked : Task)
     → fault_of command_line words ≡ [] → subcommand_of command_line words ≡ Some found → IsAsked found asked
     → IsReadByClap words (Ok asked)
 command_read words found (command.Script shape explain file) none is asked = (none, subst (λ o. IsSomeAnd o (λ f. IsAsked f (command.Script shape explain file))) (sym is) asked)
@@ -134,7 +134,7 @@ among_any p k [] is among = absurd among
 among_any p k (x ∷ xs) is (inl here) = rw (sym (ap p here) ∙ is) refl
 among_any p k (x ∷ xs) is (inr there) = or_true (p x) (list_any p xs) (among_any p k xs is there)
 
-pub fault_read : (words : List Text) (k : ErrorKind) (read : Result Command Refusal) → (k ≡ kind.OutOfMemory) ⊎ IsAmong k (fault_of command_line words) → IsRefused k read → IsReadByClap words read
+pub fault_read : (words : List Text) (k : ErrorKind) (read : Result Task Refusal) → (k ≡ kind.OutOfMemory) ⊎ IsAmong k (fault_of command_line words) → IsRefused k read → IsReadByClap words read
 fault_read words k (Ok (command.Show text)) (inl memory) refused = absurd (cc (ap is_request memory))
 fault_read words k (Ok (command.Show text)) (inr among) refused = among_any is_request k (fault_of command_line words) refused among
 fault_read words k (Ok (command.Script shape explain file)) why refused = absurd refused

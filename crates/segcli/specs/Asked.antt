@@ -23,15 +23,15 @@ use Rattle.segcli.specs.declared.arguments.Refusal.{Refusal}
 use Rattle.segcli.specs.declared.arguments.Refusal.TheVariants as refusal
 use Rattle.segcli.specs.declared.asked.Format.{Format}
 use Rattle.segcli.specs.declared.asked.Format.TheVariants as format
-use Rattle.segcli.specs.declared.asked.Load.{Load}
+use Rattle.segcli.specs.declared.asked.LoadTask.{LoadTask}
 use Rattle.segcli.specs.declared.asked.Policies.{Policies}
 use Rattle.segcli.specs.declared.asked.Policies.TheVariants as policies
 use Rattle.segcli.specs.declared.asked.Replay.{Replay}
 use Rattle.segcli.specs.declared.asked.Word.{Word}
 use Rattle.segcli.specs.declared.asked.WordKind.{WordKind}
 use Rattle.segcli.specs.declared.asked.WordKind.TheVariants as kinds
-use Rattle.segcli.specs.declared.command.Command.{Command}
-use Rattle.segcli.specs.declared.command.Command.TheVariants as command
+use Rattle.segcli.specs.declared.command.Task.{Task}
+use Rattle.segcli.specs.declared.command.Task.TheVariants as command
 use Rattle.segreplay.specs.declared.cache.Retention.TheVariants as policy
 use Rattle.segreplay.specs.declared.line.Form.TheVariants as form
 use Rattle.segreplay.specs.Policies.{policy_named}
@@ -126,7 +126,7 @@ IsCommandName name =
     ⊎ (name ≡ codes "word")
 
 -- The load is the one with these matches. It has at least one key: `clap` lets no 0 through.
-pub record IsLoadAsked (rows : List Row) (load : Load) : Type 0 where
+pub record IsLoadAsked (rows : List Row) (load : LoadTask) : Type 0 where
   pub shape : IsShapeGiven rows load.shape
   pub seed : load.seed ≡ number_given seed_option rows
   pub commands : load.commands ≡ number_given commands_option rows
@@ -157,7 +157,7 @@ pub record IsWordAsked (rows : List Row) (word : Word) : Type 0 where
   pub explain : word.explain ≡ is_given explain_flag rows
 
 -- The command is the one of this name with these matches.
-abbrev pub IsAsked : Text × List Row → Command → Type 0
+abbrev pub IsAsked : Text × List Row → Task → Type 0
 IsAsked asked (command.Script shape explain file) =
     (asked.0 ≡ codes "script")
     × IsShapeGiven asked.1 shape
@@ -187,7 +187,7 @@ is_request kind.DisplayVersion = true
 is_request _ = false
 
 -- what is read if `clap` ends with a fault of this kind
-abbrev pub IsRefused : ErrorKind → Result Command Refusal → Type 0
+abbrev pub IsRefused : ErrorKind → Result Task Refusal → Type 0
 IsRefused k (Ok (command.Show text)) = is_request k ≡ true
 IsRefused k (Ok asked) = ⊥
 IsRefused k (Err (refusal.Usage text)) = (is_request k ≡ false) × (k ≢ kind.OutOfMemory)
@@ -201,7 +201,7 @@ IsRefused k (Err refusal.OutOfMemory) = ⊤
 -- A word that may be an argument or a command is bad as either.
 -- Of what stands behind the command `help`, `clap` says only that its help is shown,
 -- or that it is no command.
-abbrev pub IsReadByClap : List Text → Result Command Refusal → Type 0
+abbrev pub IsReadByClap : List Text → Result Task Refusal → Type 0
 IsReadByClap words (Ok (command.Show text)) =
     list_any is_request (fault_of command_line words) ≡ true
 IsReadByClap words (Ok asked) =
@@ -225,6 +225,6 @@ abbrev pub plain_words : List Text → List Text
 plain_words words = if asks_help_twice words then codes "help" ∷ [] else words
 
 -- What is read from the words. No words at all are the command `script` with no options.
-abbrev pub IsReadAsCommand : List Text → Result Command Refusal → Type 0
+abbrev pub IsReadAsCommand : List Text → Result Task Refusal → Type 0
 IsReadAsCommand [] read = read ≡ Ok (command.Script default_shape false None)
 IsReadAsCommand (word ∷ words) read = IsReadByClap (plain_words (word ∷ words)) read

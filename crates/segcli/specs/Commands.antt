@@ -21,11 +21,11 @@ use Rattle.segload.specs.Words.{IsLoad, IsLoadFault, knows_nothing, lets_all_thr
 use Rattle.segload.specs.declared.fault.LoadFault.{LoadFault}
 use Rattle.segcli.specs.declared.fault.ProgramFault.{ProgramFault}
 use Rattle.segcli.specs.declared.fault.ProgramFault.TheVariants as fault
-use Rattle.segcli.specs.declared.asked.Load.{Load}
+use Rattle.segcli.specs.declared.asked.LoadTask.{LoadTask}
 use Rattle.segcli.specs.declared.asked.Word.{Word}
 use Rattle.segcli.specs.declared.explanation.Meaning.{Meaning}
-use Rattle.segcli.specs.declared.command.Command.{Command}
-use Rattle.segcli.specs.declared.command.Command.TheVariants as command
+use Rattle.segcli.specs.declared.command.Task.{Task}
+use Rattle.segcli.specs.declared.command.Task.TheVariants as command
 
 -- ---- a script
 
@@ -76,7 +76,8 @@ IsFaultOfLoad shape commands f = (why : LoadFault)
     × (f ≡ fault_of_load why)
 
 -- The totals were shown of this load, in its format. Or there are no totals, and nothing was written.
-abbrev pub LoadOutcome : Load → {W : Type 0} → Output W → Result (Unit {0}) ProgramFault → Type 0
+abbrev pub LoadOutcome : LoadTask → {W : Type 0} → Output W → Result (Unit {0}) ProgramFault
+    → Type 0
 LoadOutcome load o (Ok _) =
     (totals : Totals) × IsLoad load.shape load.seed (non_zero_u32_get load.keys) load.commands totals
     × ShowOutcome (text_in load.format totals) o (Ok tt)
@@ -123,7 +124,7 @@ ReplayOutcome asked i o end =
 
 -- ---- commands
 
-abbrev pub CommandOutcome : {R W : Type 0} → Input R → Output W → Command
+abbrev pub CommandOutcome : {R W : Type 0} → Input R → Output W → Task
     → Result (Unit {0}) ProgramFault → Type 0
 CommandOutcome i o (command.Script shape explain file) end = ScriptOutcome i o shape end
 CommandOutcome i o (command.Load load) end =
@@ -139,7 +140,7 @@ CommandOutcome i o (command.Show text) end =
 -- What follows this command if it ended so. A success has status 0, and nothing more is written.
 -- For a fault the writer is flushed, and the fault's line is printed to the error writer,
 -- with what the command has explained of the fault.
-abbrev pub Concludes : {W E : Type 0} → Output W → Output E → Command
+abbrev pub Concludes : {W E : Type 0} → Output W → Output E → Task
     → Result (Unit {0}) ProgramFault → ℕ → Type 0
 Concludes o errors command (Ok _) status =
     (status ≡ 0) × (o.new ≡ o.old) × (errors.new ≡ errors.old)

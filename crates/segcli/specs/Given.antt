@@ -16,7 +16,7 @@ use Rattle.segcli.specs.Printing.{IsPrinted, IsFlushed}
 use Rattle.segcli.specs.Program.{ProgramOutcome}
 use Rattle.segcli.specs.declared.arguments.Refusal.{Refusal}
 use Rattle.segcli.specs.declared.arguments.Refusal.TheVariants as refusal
-use Rattle.segcli.specs.declared.command.Command.{Command}
+use Rattle.segcli.specs.declared.command.Task.{Task}
 use Rattle.segcli.specs.declared.fault.ProgramFault.{ProgramFault}
 use Rattle.segcli.specs.declared.fault.ProgramFault.TheVariants as fault
 
@@ -26,7 +26,7 @@ fault_of_words kind.OutOfMemory = fault.OutOfMemory
 fault_of_words _ = fault.BadArguments
 
 -- What is read from the words. There may be no memory for their list.
-abbrev pub IsReadOfWords : List Text → Result Command Refusal → Type 0
+abbrev pub IsReadOfWords : List Text → Result Task Refusal → Type 0
 IsReadOfWords words read = IsReadAsCommand words read ⊎ (read ≡ Err refusal.OutOfMemory)
 
 -- The program is run over the words behind the first, which is its name.
@@ -34,7 +34,7 @@ IsReadOfWords words read = IsReadAsCommand words read ⊎ (read ≡ Err refusal.
 abbrev pub GivenOutcome : {R W E : Type 0} → Input R → Output W → Output E
     → Result (IntoIter (String Global) Global) Error → ℕ → Type 0
 GivenOutcome i o errors (Ok given) status =
-    (read : Result Command Refusal)
+    (read : Result Task Refusal)
     × IsReadOfWords (map (λ word. string_bytes word) (drop 1 (into_iter_items given))) read
     × ProgramOutcome i o errors read status
 GivenOutcome i o errors (Err error) status =

@@ -5,8 +5,8 @@ use Rattle.segword.specs.declared.shape.ShapeFault.{ShapeFault}
 use Rattle.segword.specs.declared.shape.ShapeFault.TheVariants as shape_fault
 use Rattle.segcli.specs.declared.asked.WordKind.{WordKind}
 use Rattle.segcli.specs.declared.asked.WordKind.TheVariants as kinds
-use Rattle.segcli.specs.declared.command.Command.{Command}
-use Rattle.segcli.specs.declared.command.Command.TheVariants as command
+use Rattle.segcli.specs.declared.command.Task.{Task}
+use Rattle.segcli.specs.declared.command.Task.TheVariants as command
 use Rattle.segcli.specs.declared.fault.ProgramFault.{ProgramFault}
 use Rattle.segcli.specs.declared.fault.ProgramFault.TheVariants as fault
 use Rattle.segcli.specs.TraceNotes.{trace_note}
@@ -59,18 +59,18 @@ word_note kind text =
 
 -- ---- commands
 
-abbrev pub note_of_word : Command → List ℕ
+abbrev pub note_of_word : Task → List ℕ
 note_of_word (command.Word word) = word_note word.kind word.text.now
 note_of_word _ = []
 
-abbrev pub note_of_fault : Command → ProgramFault → List ℕ
+abbrev pub note_of_fault : Task → ProgramFault → List ℕ
 note_of_fault asked (fault.BadShape f) = shape_note f
 note_of_fault asked (fault.BadRow n why) = trace_note why
 note_of_fault asked fault.BadWord = note_of_word asked
 note_of_fault asked _ = []
 
 -- whether the command is to be explained
-abbrev pub explains : Command → Bool
+abbrev pub explains : Task → Bool
 explains (command.Script shape explain file) = explain
 explains (command.Load load) = load.explain
 explains (command.Replay replay) = replay.explain
@@ -78,5 +78,5 @@ explains (command.Word word) = word.explain
 explains (command.Show text) = false
 
 -- what is said behind the line of a fault
-abbrev pub note_of : Command → ProgramFault → List ℕ
+abbrev pub note_of : Task → ProgramFault → List ℕ
 note_of asked f = if explains asked then note_of_fault asked f else []

@@ -6,7 +6,7 @@ use Rattle.segcli.specs.Faults.{fault_line, fault_status}
 use Rattle.segcli.specs.Printing.{IsPrinted, IsFlushed}
 use Rattle.segcli.specs.declared.arguments.Refusal.{Refusal}
 use Rattle.segcli.specs.declared.arguments.Refusal.TheVariants as refusal
-use Rattle.segcli.specs.declared.command.Command.{Command}
+use Rattle.segcli.specs.declared.command.Task.{Task}
 use Rattle.segcli.specs.declared.fault.ProgramFault.{ProgramFault}
 use Rattle.segcli.specs.declared.fault.ProgramFault.TheVariants as fault
 
@@ -24,7 +24,7 @@ refusal_text refusal.OutOfMemory = fault_line fault.OutOfMemory
 -- If none was read, the reader is left alone, the writer is flushed, and the text that says why is printed
 -- to the error writer.
 abbrev pub ProgramOutcome : {R W E : Type 0} → Input R → Output W → Output E
-    → Result Command Refusal → ℕ → Type 0
+    → Result Task Refusal → ℕ → Type 0
 ProgramOutcome {W = W} i o errors (Ok command) status =
     (there : W) × (end : Result (Unit {0}) ProgramFault)
     × CommandOutcome i (output o.sink o.old there) command end

@@ -14,8 +14,8 @@ ghost use Rattle.segcli.specs.Asked.{IsSized, IsWordAsked, asks_help_twice, form
 ghost use Rattle.segcli.specs.Asked.{IsReplayAsked, kind_named, number_found, number_given};
 ghost use Rattle.segcli.specs.Asked.{plain_words, policies_named};
 
-use crate::asked::{Format, Load, Policies, Replay, Word, WordKind};
-use crate::command::Command;
+use crate::asked::{Format, LoadTask, Policies, Replay, Word, WordKind};
+use crate::command::Task;
 use crate::command_line::program;
 use clap::ArgMatches;
 use clap::error::{Error, ErrorKind};
@@ -63,7 +63,7 @@ impl From<AllocError> for Refusal {
 }
 
 /// Reads the words after the program's name. No words at all are the command `script` without options.
-pub fn read_command<'a>(alloc: Global, words: &'a [String]) -> Result<Command<'a>, Refusal>
+pub fn read_command<'a>(alloc: Global, words: &'a [String]) -> Result<Task<'a>, Refusal>
     ensures { IsReadAsCommand (map (λ word. string_bytes word) words.entry.now) result }
 {
     if words.is_empty() {
@@ -96,7 +96,7 @@ fn plain_words<'a>(words: &'a [String]) -> &'a [String]
 }
 
 // Reads these words by `clap`.
-fn read_words<'a>(alloc: Global, words: &'a [String]) -> Result<Command<'a>, Refusal>
+fn read_words<'a>(alloc: Global, words: &'a [String]) -> Result<Task<'a>, Refusal>
     ensures { IsReadByClap (map (λ word. string_bytes word) words.entry.now) result }
 {
     match program(alloc)?.try_get_matches_from(words) {
@@ -112,10 +112,10 @@ fn read_words<'a>(alloc: Global, words: &'a [String]) -> Result<Command<'a>, Ref
 }
 
 // The script of standard input, over the default shape.
-fn script_alone<'a>() -> Command<'a>
-    ensures { result ≡ Command.Script default_shape false None }
+fn script_alone<'a>() -> Task<'a>
+    ensures { result ≡ Task.Script default_shape false None }
 {
-    Command::Script {
+    Task::Script {
         shape: SHAPE,
         explain: false,
         file: None,
@@ -123,13 +123,13 @@ fn script_alone<'a>() -> Command<'a>
 }
 
 // Shows help or the version if they are asked for, and refuses anything else.
-fn refused<'a>(alloc: Global, error: &Error) -> Result<Command<'a>, Refusal>
+fn refused<'a>(alloc: Global, error: &Error) -> Result<Task<'a>, Refusal>
     ensures { IsRefused (kind_of error.now) result }
 {
     match error.kind() {
         ErrorKind::OutOfMemory => Err(Refusal::OutOfMemory),
         ErrorKind::DisplayHelp | ErrorKind::DisplayVersion => {
-            Ok(Command::Show(format!(in alloc; "{error}")?))
+            Ok(Task::Show(format!(in alloc; "{error}")?))
         }
         _ => Err(Refusal::Usage(format!(in alloc; "{error}")?)),
     }
@@ -154,36 +154,36 @@ For more information, try '--help'.
 }
 
 // The command of this name. It is `None` if a format or a kind is none.
-fn command_of<'a>(name: &str, matches: &ArgMatches<'a>) -> Option<Command<'a>>
+fn command_of<'a>(name: &str, matches: &ArgMatches<'a>) -> Option<Task<'a>>
     requires { IsCommandName name.now }
     ensures some { IfSome result (IsAsked (name.now, rows_of (found_of matches.now))) }
     ensures none { result ≡ None → IsMisnamed (name.now, rows_of (found_of matches.now)) }
 {
     match name {
-        "load" => Some(Command::Load(load_of(matches)?)),
-        "replay" => Some(Command::Replay(replay_of(matches)?)),
-        "word" => Some(Command::Word(word_of(matches)?)),
+        "load" => Some(Task::Load(load_of(matches)?)),
+        "replay" => Some(Task::Replay(replay_of(matches)?)),
+        "word" => Some(Task::Word(word_of(matches)?)),
         _ => Some(script_of(matches)),
     }
 }
 
-fn script_of<'a>(matches: &ArgMatches<'a>) -> Command<'a>
+fn script_of<'a>(matches: &ArgMatches<'a>) -> Task<'a>
     ensures { IsAsked (codes "script", rows_of (found_of matches.now)) result }
 {
-    Command::Script {
+    Task::Script {
         shape: shape_of(matches),
         explain: explain_of(matches),
         file: file_of(matches),
     }
 }
 
-fn load_of(matches: &ArgMatches<'_>) -> Option<Load>
+fn load_of(matches: &ArgMatches<'_>) -> Option<LoadTask>
     ensures some { IfSome result (IsLoadAsked (rows_of (found_of matches.now))) }
     ensures none { result ≡ None
         → format_named (first_of format_choice (rows_of (found_of matches.now))) ≡ None }
 {
     let format = format_of(matches)?;
-    Some(Load {
+    Some(LoadTask {
         shape: shape_of(matches),
         seed: matches.get_one("seed").unwrap_or(SEED),
         commands: matches.get_one("commands").unwrap_or(COMMANDS),

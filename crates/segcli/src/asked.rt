@@ -14,7 +14,7 @@ pub enum Format {
 
 /// A load over an index of this shape.
 #[derive(Clone, Copy, Debug)]
-pub struct Load {
+pub struct LoadTask {
     pub shape: Shape,
     /// The number from which the commands are drawn.
     pub seed: u64,

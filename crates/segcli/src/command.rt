@@ -11,7 +11,7 @@ ghost use Rattle.segcli.specs.Commands.{ScriptOutcome, IsFaultOfLoad, LoadOutcom
 ghost use Rattle.segcli.specs.Commands.{CommandOutcome, Concludes, end_of_replay, end_of_trace};
 ghost use Rattle.segcli.specs.Commands.{ReplayOutcome, ShowOutcome};
 
-use crate::asked::{Load, Replay, Word};
+use crate::asked::{LoadTask, Replay, Word};
 use crate::explanation::{explain, meaning_of};
 use crate::fault::{ProgramFault, print};
 use crate::note::report_explained;
@@ -29,7 +29,7 @@ use std::thread::Threads;
 
 /// What the program is asked to do.
 #[derive(Debug, Drop)]
-pub enum Command<'a> {
+pub enum Task<'a> {
     /// Runs the script of the reader over an index of this shape.
     /// If `explain` is true, the fault of a bad shape is explained.
     /// Who calls the program opens the file, and explains a bad line.
@@ -39,7 +39,7 @@ pub enum Command<'a> {
         file: Option<&'a str>,
     },
     /// Runs a load.
-    Load(Load),
+    Load(LoadTask),
     /// Replays the trace of the reader.
     Replay(Replay<'a>),
     /// Explains a word of the table.
@@ -67,7 +67,7 @@ pub(crate) struct Host<'h, R, V> {
 pub fn run_command<R: Threads + Wait + AllocGlobal + Sync, S: Source, W: Sink, E: Sink, V: Watch>(
     rt: &R,
     alloc: Global,
-    command: &Command<'_>,
+    command: &Task<'_>,
     streams: &mut Streams<S, W, E>,
     watch: &V,
 ) -> u8
@@ -98,13 +98,7 @@ pub(crate) fn carry_out<
     W: Sink,
     E: Sink,
     V: Watch,
->(
-    host: &Host<'_, R, V>,
-    command: &Command<'_>,
-    source: &mut S,
-    writer: &mut W,
-    errors: &mut E,
-) -> u8
+>(host: &Host<'_, R, V>, command: &Task<'_>, source: &mut S, writer: &mut W, errors: &mut E) -> u8
     requires source_works { S.has_failed source.old ≡ false }
     requires writer_works { W.has_failed writer.old ≡ false }
     requires errors_work { E.has_failed errors.old ≡ false }
@@ -121,7 +115,7 @@ pub(crate) fn carry_out<
 // Carries out a command, whose fault isn't reported yet.
 fn perform<R: Threads + Wait + AllocGlobal + Sync, S: Source, W: Sink, V: Watch>(
     host: &Host<'_, R, V>,
-    command: &Command<'_>,
+    command: &Task<'_>,
     source: &mut S,
     writer: &mut W,
 ) -> Result<(), ProgramFault>
@@ -131,11 +125,11 @@ fn perform<R: Threads + Wait + AllocGlobal + Sync, S: Source, W: Sink, V: Watch>
         (output W.Sink writer.old writer.new) command.now result }
 {
     match command {
-        Command::Script { shape, .. } => perform_script(host.alloc, *shape, source, writer),
-        Command::Load(load) => perform_load(host, load, writer),
-        Command::Replay(replay) => perform_replay(host, replay, source, writer),
-        Command::Word(word) => perform_word(word, writer),
-        Command::Show(text) => show(text.as_bytes(), writer),
+        Task::Script { shape, .. } => perform_script(host.alloc, *shape, source, writer),
+        Task::Load(load) => perform_load(host, load, writer),
+        Task::Replay(replay) => perform_replay(host, replay, source, writer),
+        Task::Word(word) => perform_word(word, writer),
+        Task::Show(text) => show(text.as_bytes(), writer),
     }
 }
 
@@ -155,7 +149,7 @@ fn perform_script<S: Source, W: Sink>(
 
 fn perform_load<R: Threads + Wait + AllocGlobal + Sync, W: Sink, V: Watch>(
     host: &Host<'_, R, V>,
-    load: &Load,
+    load: &LoadTask,
     writer: &mut W,
 ) -> Result<(), ProgramFault>
     requires writer_works { W.has_failed writer.old ≡ false }
@@ -169,7 +163,7 @@ fn perform_load<R: Threads + Wait + AllocGlobal + Sync, W: Sink, V: Watch>(
 // Runs a load, and returns the text of its totals.
 fn load_text<R: Threads + Wait + AllocGlobal + Sync, V: Watch>(
     host: &Host<'_, R, V>,
-    load: &Load,
+    load: &LoadTask,
 ) -> Result<Vec<u8>, ProgramFault>
     ensures text { IfOk result (λ text. (totals : Totals)
         × IsLoad load.now.shape load.now.seed (non_zero_u32_get load.now.keys)
@@ -187,7 +181,7 @@ fn load_text<R: Threads + Wait + AllocGlobal + Sync, V: Watch>(
 // Runs a load, at which the watch looks on if it is asked to.
 fn totals_of<R: Threads + Wait + AllocGlobal + Sync, V: Watch>(
     host: &Host<'_, R, V>,
-    load: &Load,
+    load: &LoadTask,
 ) -> Result<Totals, LoadFault>
     ensures load { IfOk result (IsLoad load.now.shape load.now.seed
         (non_zero_u32_get load.now.keys) load.now.commands) }
@@ -195,7 +189,7 @@ fn totals_of<R: Threads + Wait + AllocGlobal + Sync, V: Watch>(
         lets_all_through knows_nothing) }
 {
     let Host { rt, alloc, watch } = *host;
-    let Load {
+    let LoadTask {
         shape,
         seed,
         commands,
@@ -274,7 +268,7 @@ fn show<W: Sink>(text: &[u8], writer: &mut W) -> Result<(), ProgramFault>
 
 // Returns the status of a command that ended so. A fault is reported.
 fn conclude<W: Sink, E: Sink>(
-    command: &Command<'_>,
+    command: &Task<'_>,
     end: Result<(), ProgramFault>,
     writer: &mut W,
     errors: &mut E,

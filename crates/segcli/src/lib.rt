@@ -21,15 +21,15 @@ mod totals;
 mod trace_note;
 
 pub use arguments::{Refusal, read_command};
-pub use asked::{Format, Load, Policies, Replay, Word, WordKind};
+pub use asked::{Format, LoadTask, Policies, Replay, Word, WordKind};
 pub use bad_line::bad_line_text;
-pub use command::{Command, run_command};
+pub use command::{Task, run_command};
 pub use explanation::{Meaning, explain, meaning_of};
 pub use fault::{ProgramFault, print, report};
 pub use given::{run_given, words_of};
 pub use hints::hints_text;
 pub use program::{run_program, run_watched};
-pub use progress::{Nobody, Watch, progress_line, replay_line};
+pub use progress::{NoWatch, Watch, progress_line, replay_line};
 pub use segload::Totals;
 pub use segreplay::CacheTotals;
 pub use stats::{Pace, stats_text};

@@ -8,7 +8,7 @@ ghost use Rattle.segcli.specs.Notes.{shape_note, word_note};
 ghost use Rattle.segcli.specs.Printing.{PrintOutcome, IsPrinted, IsFlushed, WasFlushed};
 
 use crate::asked::{Word, WordKind};
-use crate::command::Command;
+use crate::command::Task;
 use crate::fault::{ProgramFault, print};
 use crate::trace_note::trace_note;
 use segscript::{Failed, Line, Sink, line_of, put, put_number, write_all};
@@ -90,16 +90,16 @@ fn word_note(kind: WordKind, text: &[u8]) -> Line
     letter_note(kind, text.len(), letter(text))
 }
 
-fn note_of_word(command: &Command<'_>) -> Line
+fn note_of_word(command: &Task<'_>) -> Line
     ensures { result.items ≡ note_of_word command.now }
 {
     match command {
-        Command::Word(word) => word_note(word.kind, word.text.as_bytes()),
+        Task::Word(word) => word_note(word.kind, word.text.as_bytes()),
         _ => Line::new(),
     }
 }
 
-fn note_of_fault(command: &Command<'_>, fault: ProgramFault) -> Line
+fn note_of_fault(command: &Task<'_>, fault: ProgramFault) -> Line
     ensures { result.items ≡ note_of_fault command.now fault }
 {
     match fault {
@@ -111,20 +111,20 @@ fn note_of_fault(command: &Command<'_>, fault: ProgramFault) -> Line
 }
 
 // Whether the command is to be explained.
-fn explains(command: &Command<'_>) -> bool
+fn explains(command: &Task<'_>) -> bool
     ensures { result ≡ explains command.now }
 {
     match command {
-        Command::Script { explain, .. } => *explain,
-        Command::Load(load) => load.explain,
-        Command::Replay(replay) => replay.explain,
-        Command::Word(word) => word.explain,
-        Command::Show(_) => false,
+        Task::Script { explain, .. } => *explain,
+        Task::Load(load) => load.explain,
+        Task::Replay(replay) => replay.explain,
+        Task::Word(word) => word.explain,
+        Task::Show(_) => false,
     }
 }
 
 // What is added behind the line of a fault.
-fn note_of(command: &Command<'_>, fault: ProgramFault) -> Line
+fn note_of(command: &Task<'_>, fault: ProgramFault) -> Line
     ensures { result.items ≡ note_of command.now fault }
 {
     if explains(command) {
@@ -157,7 +157,7 @@ fn print_both_after<W: Sink, E: Sink>(_writer: &W, errors: &mut E, line: &[u8], 
 /// Flushes the writer, then prints the line of a fault and what the command has explained of it,
 /// and returns the fault's status. It does so even if the flush or the printing fails.
 pub(crate) fn report_explained<W: Sink, E: Sink>(
-    command: &Command<'_>,
+    command: &Task<'_>,
     fault: ProgramFault,
     writer: &mut W,
     errors: &mut E,

@@ -2,7 +2,7 @@
 ghost use Rattle.std.specs.Prelude.{◌≡◌, false, map, string_bytes, Result};
 ghost use Rattle.segcli.specs.Streams.{input, output};
 ghost use Rattle.segcli.specs.declared.arguments.Refusal.{Refusal};
-ghost use Rattle.segcli.specs.declared.command.Command.{Command as Asked};
+ghost use Rattle.segcli.specs.declared.command.Task.{Task as Asked};
 ghost use Rattle.segcli.specs.Printing.{IsPrinted, IsFlushed};
 ghost use Rattle.segcli.specs.Asked.{IsReadAsCommand};
 ghost use Rattle.segcli.specs.Program.{refusal_status, refusal_text, ProgramOutcome};
@@ -10,7 +10,7 @@ ghost use Rattle.segcli.specs.Program.{refusal_status, refusal_text, ProgramOutc
 use crate::arguments::{Refusal, read_command};
 use crate::command::{Host, carry_out};
 use crate::fault::{ProgramFault, print_after, report};
-use crate::progress::{Nobody, Watch};
+use crate::progress::{NoWatch, Watch};
 use crate::streams::Streams;
 use segscript::{Sink, Source};
 use std::alloc::{AllocGlobal, Global};
@@ -48,7 +48,7 @@ pub fn run_program<R: Threads + Wait + AllocGlobal + Sync, S: Source, W: Sink, E
     let host = Host {
         rt,
         alloc,
-        watch: &Nobody,
+        watch: &NoWatch,
     };
     run_words(&host, words, source, writer, errors)
 }

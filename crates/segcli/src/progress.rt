@@ -27,9 +27,9 @@ pub trait Watch: Sync {
 
 /// A watch that does nothing.
 #[derive(Drop)]
-pub struct Nobody;
+pub struct NoWatch;
 
-impl Watch for Nobody {
+impl Watch for NoWatch {
     fn saw(&self, _made: u64, _of: u64) {}
 }
 

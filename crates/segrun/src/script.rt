@@ -2,7 +2,7 @@
 ghost use Rattle.std.specs.Prelude.{◌≡◌, false};
 
 use crate::progress::Teller;
-use segcli::{Command, Streams, bad_line_text, read_command, run_given, words_of};
+use segcli::{Streams, Task, bad_line_text, read_command, run_given, words_of};
 use segscript::{Explaining, ReadSource, Source, WriteSink};
 use std::alloc::AllocGlobal;
 use std::fs::File;
@@ -33,7 +33,7 @@ pub fn run<T: Threads + Wait + AllocGlobal + Sync>(threads: &T, rt: &HostRuntime
     };
     match read_command(rt.alloc(), words.as_slice()) {
         Ok(
-            Command::Script {
+            Task::Script {
                 shape,
                 explain,
                 file,
@@ -42,7 +42,7 @@ pub fn run<T: Threads + Wait + AllocGlobal + Sync>(threads: &T, rt: &HostRuntime
             let passes = explain.then_some(shape.passes);
             run_file(threads, rt, passes, file, SCRIPT_HINT)
         }
-        Ok(Command::Replay(replay)) => run_trace(threads, rt, replay.file),
+        Ok(Task::Replay(replay)) => run_trace(threads, rt, replay.file),
         _ => run_from(threads, rt, None, rt.reader()),
     }
 }

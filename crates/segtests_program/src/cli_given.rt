@@ -2,7 +2,7 @@
 use crate::cli_runs::{
     End, Ended, REPLIES, SCRIPT, SOUND, check_ended, end_of, fails, streams_of, words_of,
 };
-use segcli::{Nobody, run_given};
+use segcli::{NoWatch, run_given};
 use std::alloc::AllocGlobal;
 use std::env::Args;
 use std::io;
@@ -14,7 +14,7 @@ use std::thread::Threads;
 // Runs the program over what std gives: its status, and what it writes and prints.
 fn run<R: Threads + Wait + AllocGlobal + Abort + Sync>(rt: &R, given: io::Result<Args>) -> Ended {
     let mut streams = streams_of(rt, SCRIPT, SOUND);
-    let status = run_given(rt, rt.alloc(), given, &mut streams, &Nobody);
+    let status = run_given(rt, rt.alloc(), given, &mut streams, &NoWatch);
     end_of(status, streams)
 }
 
