@@ -61,7 +61,7 @@ pub(crate) struct Host<'h, R, V> {
 /// For a fault the writer is asked to flush, and then one line goes to the error writer,
 /// with a second one if the command is to be explained.
 /// (That order is a condition of `print_both_after`.)
-/// If the command asks for it, the watch looks on at a load, and is called at its end.
+/// If the command asks for it, the watch looks on at a load or a replay, and is called at its end.
 ///
 /// A load waits for its threads. The contract holds if this returns.
 pub fn run_command<R: Threads + Wait + AllocGlobal + Sync, S: Source, W: Sink, E: Sink, V: Watch>(

@@ -18,7 +18,7 @@ pub enum ProgramFault {
     BadLine(u64),
     /// This line of the trace is the first bad one, for this reason. Lines are counted from 1.
     BadRow(u64, TraceLineFault),
-    /// A word isn't 16 hexadecimal digits, or has no reading as an item word.
+    /// A word isn't 16 hexadecimal digits, or has no reading as a word of its kind.
     BadWord,
     /// The arguments aren't text.
     BadArguments,
@@ -30,7 +30,7 @@ pub enum ProgramFault {
     Read,
     /// The writer failed, or a write took none of its bytes.
     Write,
-    /// After 2^63 bytes the script had no end.
+    /// After 2^63 bytes the script or the trace had no end.
     TooLong,
     /// This pass of a load was stopped.
     Stopped(u32),

@@ -23,7 +23,7 @@ const BAD_USAGE: u8 = 2;
 /// Does what the words after the program's name ask for, with a script from the source.
 /// It returns the exit status: 0 if that was done,
 /// 2 for a bad line, a bad word or a bad command line, and else 3.
-/// Faults are printed to the error writer. Nobody looks on at a load.
+/// Faults are printed to the error writer. Nobody looks on at a load or a replay.
 ///
 /// A load waits for its threads. The contract holds if this returns.
 pub fn run_program<R: Threads + Wait + AllocGlobal + Sync, S: Source, W: Sink, E: Sink>(

@@ -1,4 +1,5 @@
-//! How far a load has come: a gate that reports it to a watch, and the text of a progress line.
+//! How far a load or a replay has come: a gate that reports it to a watch,
+//! and the texts of progress lines.
 ghost use Rattle.std.specs.Prelude.{◌≡◌, ◌*◌, ◌/◌, ◌++◌, max, IfOk};
 ghost use Rattle.segload.specs.Words.{lets_all_through};
 ghost use Rattle.segcli.specs.Progress.{progress_text, rate_text, replay_line};

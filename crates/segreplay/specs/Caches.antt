@@ -39,9 +39,9 @@ SetsPolicy policy.Default old new = new ≡ old
 SetsPolicy policy.Nothing old new = MakesCall (λ board. SetsCutoff None) old new
 SetsPolicy (policy.Cutoff least) old new = MakesCall (λ board. SetsCutoff (Some least)) old new
 
--- how many bytes the queues of clients have: 16 for each segment, and 3 for each of its rows
+-- how many bytes the queues of clients have: 44 for each segment, and 3 for each of its rows
 abbrev pub queue_bytes : Retention → Shape → ℕ
-queue_bytes policy.Default shape = shape.passes * shape.segments_each * (16 + 3 * shape.rows)
+queue_bytes policy.Default shape = shape.passes * shape.segments_each * (44 + 3 * shape.rows)
 queue_bytes _ shape = 0
 
 -- how many bytes a cache has: those of its table and of its clients' queues

@@ -3,7 +3,7 @@ use crate::line::TraceLineFault;
 use segindex::MakeFault;
 use thiserror::Error;
 
-/// Why no trace was replayed.
+/// Why a replay has no totals.
 #[derive(Clone, Copy, Debug, PartialEq, Eq, Error)]
 pub enum ReplayFault {
     /// A cache couldn't be made, so nothing was read.

@@ -73,12 +73,12 @@ pub enum Stated {
     Header(Columns),
 }
 
-/// Why a line states nothing.
+/// Why a line is bad.
 #[derive(Clone, Copy, Debug, PartialEq, Eq)]
 pub enum TraceLineFault {
     /// It has more than 4096 bytes.
     TooLong,
-    /// It has so many words, and not so many.
+    /// It has the first number of words. The columns need the second.
     Count(usize, usize),
     /// The word of this column, with this number, is none. Words are counted from 1.
     Word(Column, usize),

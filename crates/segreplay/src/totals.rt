@@ -20,7 +20,7 @@ pub struct CacheTotals {
     pub lives: usize,
 }
 
-// How many bytes the clients' queues have: 16 for each segment, and 3 for each of its rows.
+// How many bytes the clients' queues have: 44 for each segment, and 3 for each of its rows.
 fn queue_bytes(cache: CacheConfig) -> u64
     requires { HasValidShape cache }
     ensures value { result ≡ queue_bytes cache.policy cache.shape }
@@ -29,7 +29,7 @@ fn queue_bytes(cache: CacheConfig) -> u64
     let shape = cache.shape;
     match cache.policy {
         Retention::Default => {
-            u64::from(shape.passes * shape.segments_each) * u64::from(16 + 3 * shape.rows)
+            u64::from(shape.passes * shape.segments_each) * u64::from(44 + 3 * shape.rows)
         }
         Retention::Nothing | Retention::Cutoff(_) => 0,
     }

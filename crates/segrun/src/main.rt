@@ -1,5 +1,5 @@
 //! The object index of a segment-structured cache as a program,
-//! which runs scripts and loads, and explains item words.
+//! which runs scripts, loads and replays, and explains words of its table.
 #![tactic(auto)]
 
 mod progress;
