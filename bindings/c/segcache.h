@@ -259,8 +259,9 @@ static inline uint32_t segcache_hand_out(uint32_t status, segcache_handle made, 
 /* Makes a cache for so many keys, and a client for each of so many threads (1 to 64). Each client stores into its own
    equal share of the room. So all keys fit if the clients store about as many each. In a small cache, for at most
    65,536 / threads keys, all keys fit whichever clients store them: each of several clients has room for eight times
-   the keys, or for 65,536 / threads if that is less. There is a table for every 200,000 keys, and each key belongs to
-   one of the tables by its hash. A call on a key goes to that table alone.
+   the keys, or for 65,536 / threads if that is less. A client isn't told of what others delete: where they delete what
+   it stores, in the same order all the while, it can evict keys that have room. There is a table for every 200,000
+   keys, and each key belongs to one of the tables by its hash. A call on a key goes to that table alone.
    It takes all memory at once, but for that of notes and of a close: 174 to 214 bytes a key and up to 8 KB a thread,
    for a small cache of several threads up to 11 MB in all, and up to 34 MB more for a moment. `cache` and
    `clients[threads]` are written, whatever they were: if they are of a cache that is still open, that one is lost. If

@@ -63,8 +63,9 @@ pub struct Builder {
 impl Builder {
     /// How many keys the cache is to have room for. 10,000 if it isn't said. Each client stores into its own equal
     /// share of the room, so all keys fit if the clients store about as many each. In a small cache, for at most
-    /// 65,536 / threads keys, all keys fit whichever clients store them. There is a table for every 200,000 keys, and
-    /// each key belongs to one of the tables by its hash.
+    /// 65,536 / threads keys, all keys fit whichever clients store them. A client isn't told of what others delete:
+    /// where they delete what it stores, in the same order all the while, it can evict keys that have room. There is a
+    /// table for every 200,000 keys, and each key belongs to one of the tables by its hash.
     #[must_use]
     pub fn keys(mut self, keys: u32) -> Builder {
         self.keys = keys;
