@@ -78,6 +78,7 @@ impl KeyWords {
     /// The words of this key and a value.
     pub fn row(&self, value: &Value) -> [u64; ITEM_WORDS]
         ensures row { result ≡ row_of self.now value.now }
+        ensures key { IsKey self.now }
         ensures valid { IsValue value.now }
     {
         if MOST_SPAN > 1 {
@@ -98,7 +99,8 @@ impl KeyWords {
     /// How many of an item's words have the lengths and this key.
     #[inline(always)]
     pub fn head(&self) -> usize
-        ensures { result ≡ 1 + key_width (length self.now) }
+        ensures words { result ≡ 1 + key_width (length self.now) }
+        ensures key { IsKey self.now }
     {
         1 + key_width(self.words[0] as u32) as usize
     }

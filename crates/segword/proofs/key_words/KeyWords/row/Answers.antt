@@ -14,7 +14,7 @@ returns-then-this-gt-MOST_SPAN-clause-row c =
     let key = c.args.self.now in
     let value = c.args.value.now in
     let at = c.head-head.result in
-    let is_key : IsKey key = subst IsKey c.self.view_is c.self.invariant.is_key in
+    let is_key : IsKey key = c.head-head.ensures.key in
     let front : c.copy_from_slice.new.self ≡ take at (key_words key) = c.copy_from_slice.ensures.after
     ∙ ap (take at) (sym (ap key_words (sym c.self.view_is) ∙ c.self.invariant.same_words)) in
     let long : c.len.result ≡ length value = c.len.ensures in
@@ -24,7 +24,7 @@ returns-then-this-gt-MOST_SPAN-clause-row c =
     put_mid at (at + VALUE_WORDS - at) (set (head ++ drop at (replicate ITEM_WORDS 0)) 0
     (bit_or (get_or (head ++ drop at (replicate ITEM_WORDS 0)) 0 0) (n * 2 ^ 8 % 2 ^ 64))) tail in
     (λ i. made (front i) (long i) (back i))
-    ∙ made_row key value at (at + VALUE_WORDS - at) is_key c.words.ensures.valid c.head-head.ensures (omega arith)
+    ∙ made_row key value at (at + VALUE_WORDS - at) is_key c.words.ensures.valid c.head-head.ensures.words (omega arith)
 
 pub returns-clause-row : goal.returns-clause-row
 returns-clause-row c =
@@ -42,3 +42,9 @@ returns-clause-row c =
     let one = c.if-this-gt-MOST_SPAN.false in
     (λ i. made (front i) (long i) (back i))
     ∙ made_row key value HEAD_WORDS (ITEM_WORDS - HEAD_WORDS) is_key is_value (omega (arith, one)) (omega (arith, one))
+
+pub returns-then-this-gt-MOST_SPAN-clause-key : goal.returns-then-this-gt-MOST_SPAN-clause-key
+returns-then-this-gt-MOST_SPAN-clause-key c = c.head-head.ensures.key
+
+pub returns-clause-key : goal.returns-clause-key
+returns-clause-key c = subst IsKey c.self.view_is c.self.invariant.is_key
