@@ -253,8 +253,8 @@ module _ (b : Board) (bucket : ℕ) (sought : Item) (into to : ℕ) (p f : Pass)
               unwritten = ap (λ u. u.written) bucket_now ∙ clean_c.unwritten;
               undrawn = ap (λ u. u.spare) bucket_now ∙ clean_c.undrawn;
             };
-            segments = keeps_named_in b e c r into to (refl, refl) done.did done.plain
+            segments = keeps_named_in b e c r into to 1 (refl, refl) done.did done.plain
                 (ap (λ (x : PlainPart). state_in (own_segment x into)) (plain ∙ i.plain)
-                ∙ target.in_use) used_c next.fits m.pass segments_c;
+                ∙ target.in_use) used_c next.fits refl m.pass segments_c;
             memo = done.memo ∙ (same ∙ i.memo);
           }

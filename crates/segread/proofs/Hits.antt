@@ -20,7 +20,7 @@ use Rattle.segread.proofs.Raising.{raises_after, raises_sooner}
 pub hit_readable : (b : Board) (p q : Pass) (place : Place) (item : Item) (header : ℕ) (key : List ℕ)
     → IsReaderIn b p q item.seg → FoundKey b.shape place item header key (trace p) (trace q)
     → IsReadable b q item.seg item.row
-hit_readable b p q place item header key i f = found_readable b q place item header key (trace p) (is_inside b p q item.seg i.reads) f
+hit_readable b p q place item header key i f = found_readable b q place item header key (trace p) i.reads.moved.pass (is_inside b p q item.seg i.reads) f
 
 pub read_in : (b : Board) (p q v : Pass) (s r : ℕ) → IsReaderIn b p q s → ReadsRow b q v s r → IsReaderIn b p v s
 read_in b p q v s r i reads = then_reader b p q v s i (looks b q v reads.looked)

@@ -8,6 +8,7 @@ use Rattle.segcore.specs.declared.event.Event.TheVariants.{Linked, Relinked, Unl
 use Rattle.segcore.specs.Words.{acts, bucket_after, Event, fresh_position, IsLawful, item, last}
 use Rattle.segcore.specs.Words.{next, NoneRefills, nothing, Row, row_after, Slot, slot}
 use Rattle.segcore.proofs.Chains.{same_item, no_item, next_item}
+use Rattle.segcore.proofs.Quiet.{linked_first, moved_first}
 use Rattle.segcore.proofs.Standing.{coherent, is_calm}
 use Rattle.segcore.proofs.Segments.{row_since}
 
@@ -21,7 +22,7 @@ pub one_before : (z : Shape) (e : Event) (h : List Event) (b n : ℕ) (a : Slot)
 one_before z (Linked p q s r m) h b n a l is' = let e = Linked p q s r m in let u = bucket_after z h b in let new = slot (key_of q) s r in ⊎_elim
     (λ t. let now : cond (eqb m n) (item new) (u.items n) ≡ item a = ap (λ v. v.items n) (sym (cond-true (eqb (bucket_of z (key_of q)) b) (acts e u) u t)) ∙ is' in ⊎_elim
     (λ hit. let same : new ≡ a = same_item new a (sym (cond-true (eqb m n) (item new) (u.items n) hit) ∙ now) in
-    inr (subst (λ (x : Slot). (row_after h x.segment x.row).linked ≡ None) same l.1.suits.0.3))
+    inr (subst (λ (x : Slot). (row_after h x.segment x.row).linked ≡ None) same (linked_first z h p q s r m l.1.suits).3))
     (λ miss. inl (n, sym (cond-false (eqb m n) (item new) (u.items n) miss) ∙ now))
     (cases_Bool (eqb m n)))
     (λ f. inl (n, ap (λ v. v.items n) (sym (cond-false (eqb (bucket_of z (key_of q)) b) (acts e u) u f)) ∙ is'))
@@ -29,7 +30,7 @@ one_before z (Linked p q s r m) h b n a l is' = let e = Linked p q s r m in let 
 one_before z (Relinked p k f i s r m) h b n a l is' = let e = Relinked p k f i s r m in let u = bucket_after z h b in let new = slot k s r in ⊎_elim
     (λ t. let now : cond (eqb m n) (item new) (u.items n) ≡ item a = ap (λ v. v.items n) (sym (cond-true (eqb (bucket_of z k) b) (acts e u) u t)) ∙ is' in ⊎_elim
     (λ hit. let same : new ≡ a = same_item new a (sym (cond-true (eqb m n) (item new) (u.items n) hit) ∙ now) in
-    inr (subst (λ (x : Slot). (row_after h x.segment x.row).linked ≡ None) same l.1.suits.0.3))
+    inr (subst (λ (x : Slot). (row_after h x.segment x.row).linked ≡ None) same (moved_first z h p k f i s r m l.1.suits).3))
     (λ miss. inl (n, sym (cond-false (eqb m n) (item new) (u.items n) miss) ∙ now))
     (cases_Bool (eqb m n)))
     (λ off. inl (n, ap (λ v. v.items n) (sym (cond-false (eqb (bucket_of z k) b) (acts e u) u off)) ∙ is'))

@@ -1,19 +1,20 @@
 -- What a pass keeps of its own segments stays so over its calls: those that link and refill nothing, a link of its next row, and a refilling.
-use Rattle.std.proofs.Common.{◌≡◌, ◌≢◌, ℕ, ◌+◌, ◌*◌, ◌/◌, ◌%◌, ◌<◌, Bool, true, false, cond, eqb, nat_lt, ◌&&◌, is_some, IsSome, List, [], ◌∷◌, ◌++◌, Option, Some, None, refl, sym, ap, ◌∙◌, subst, ⊎_elim, arith, mod-lt, div-add-mod', mul_comm, unwrap_or}
+use Rattle.std.proofs.Common.{◌≡◌, ◌≢◌, ℕ, ◌+◌, ◌*◌, ◌/◌, ◌%◌, ◌<◌, ◌≤◌, Bool, true, false, cond, eqb, nat_lt, ◌&&◌, is_some, IsSome, List, [], ◌∷◌, ◌++◌, Option, Some, None, refl, sym, ap, ◌∙◌, subst, ⊎_elim, arith, mod-lt, div-add-mod', mul_comm, unwrap_or}
 use Rattle.std.proofs.lemmas.Bool.{cases_Bool, cases_eq, cases_lt, lt-ltb, le-ltb, cond-true, cond-false, eq-eqb, ne_eqb, false≢true}
 use Rattle.std.proofs.lemmas.Nat.{mul-add-lt}
 use Rattle.std.proofs.lemmas.Option.{same_Some, none-some}
-use Rattle.segword.specs.Words.{Shape}
+use Rattle.segword.specs.Words.{covers, Shape, span_of_header}
 use Rattle.segmodel.specs.declared.answer.SegState.TheVariants.{InUse}
 use Rattle.segmodel.specs.Words.{after, NoneStandsIn, owner, Request, SegState}
 use Rattle.segcore.specs.declared.event.Event.TheVariants.{Filled, Linked, Relinked, Refilled}
-use Rattle.segcore.specs.Words.{by, Event, IsLawful, IsOwnRow, IsSegment, NoneBy, Row, row_after}
-use Rattle.segcore.specs.Words.{row_at, writes_row}
+use Rattle.segcore.specs.Words.{AreOwnRows, by, Event, IsLawful, IsOwnRow, IsSegment, NoneBy, Row, row_after, row_alone}
+use Rattle.segcore.specs.Words.{span_in, writes_row}
 use Rattle.segcore.specs.Event as event
 use Rattle.segcore.specs.Segment as segment_of
 use Rattle.segcore.proofs.Caches.{stands_in, has_value}
-use Rattle.segcore.proofs.Quiet.{quiet_row}
-use Rattle.segcore.proofs.Quiet.{own_deadline}
+use Rattle.segcore.proofs.Quiet.{of_row, own_deadline, quiet_alone, quiet_row}
+use Rattle.segcore.proofs.Spans.{first_words, own_first, own_rows_same}
+use Rattle.segmodel.proofs.Spans.{left_rows}
 use Rattle.segcore.proofs.Deadlines.{deadline_seen}
 use Rattle.segcore.proofs.Readers.{still_empty, empty_stays}
 use Rattle.segbase.specs.declared.pass.PlainPart.{PlainPart}
@@ -23,7 +24,9 @@ use Rattle.segbase.specs.Words.{used_in, used_of, with_current, with_state, with
 use Rattle.segbase.proofs.Known.{state_set, used_set, state_apart, used_apart, state_kept, used_kept, owner_stated, owner_counted, deadline_set, owner_lasting, state_lasting, used_lasting, deadline_counted, deadline_apart, deadline_stated}
 use Rattle.segbase.proofs.Owned.{owner_of, owns_state, state_there, used_there, moved_still, deadline_there}
 use Rattle.segstore.specs.Refilling.{refilled, refilled_aside}
-use Rattle.segstore.specs.Segments.{KeepsSegments}
+use Rattle.segstore.specs.Rows.{fills, StoresRow}
+use Rattle.segstore.specs.Segments.{AreRows, KeepsSegments}
+use Rattle.segstore.proofs.ItemRows.{covers-high, covers-low, in_same, not_covered}
 use Rattle.segstore.proofs.Rows.{stepped_row}
 
 -- ---- the segments of a pass
@@ -76,11 +79,22 @@ unlinked : {A : Type 0} (o : Option A) → is_some o ≡ false → o ≡ None
 unlinked None f = refl
 unlinked (Some x) f = absurd (false≢true (sym f))
 
--- the next row of the current segment is one to write
+-- the rows behind those that are used are ones to write
+free_row : (b : Board) (p : Pass) (s used row : ℕ) → IsPassOf b p → KeepsSegments b p → used_of p s ≡ Some used → used ≤ row → row < b.shape.rows
+    → IsOwnRow b.shape (trace p) (number p) s row
+free_row b p s used row is k there le lt =
+    let own = owns_used b p s used is there in
+    (in_table b p s is own, lt, own, unlinked (row_after (trace p) s row).linked (k.rows s used row there lt ∙ le-ltb row used le))
+
+-- the next row of the current segment, and as many as are left there
 pub next_is_own : (b : Board) (p : Pass) (s row : ℕ) → IsPassOf b p → KeepsSegments b p → used_of p s ≡ Some row → row < b.shape.rows → IsOwnRow b.shape (trace p) (number p) s row
-next_is_own b p s row is k used lt =
-    let own = owns_used b p s row is used in
-    (in_table b p s is own, lt, own, unlinked (row_after (trace p) s row).linked (k.rows s row row used lt ∙ (let f : nat_lt row row ≡ false = search arith in f)))
+next_is_own b p s row is k used lt = free_row b p s row row is k used (omega arith) lt
+
+pub next_are_own : (b : Board) (p : Pass) (s row rows : ℕ) → IsPassOf b p → KeepsSegments b p → used_of p s ≡ Some row → AreRows b.shape row rows
+    → AreOwnRows b.shape (trace p) (number p) s row rows
+next_are_own b p s row rows is k used left =
+    in_same (eqb rows 1) (λ lt. next_is_own b p s row is k used lt)
+    (λ few i c. free_row b p s row i is k used (covers-low row rows i c) (let high = covers-high row rows i c in omega (arith, high, few))) left
 
 -- ---- events that link, move and refill nothing: in a segment, and anywhere
 
@@ -127,10 +141,12 @@ same_linked true u v same = same
 same_linked false u v same = refl
 
 calm_linked : (e : Event) (h : List Event) (s r : ℕ) → IsCalmIn s e → (row_after (e ∷ h) s r).linked ≡ (row_after h s r).linked
-calm_linked (Linked p q t i n) h s r calm = ap (λ a. (cond (a && eqb i r) (writes_row (Linked p q t i n) (row_after h s r)) (row_after h s r)).linked) (ne_eqb t s calm)
-calm_linked (Relinked p k f j t i n) h s r calm = ap (λ a. (cond (a && eqb i r) (writes_row (Relinked p k f j t i n) (row_after h s r)) (row_after h s r)).linked) (ne_eqb t s calm)
-calm_linked (Refilled p t d) h s r calm = ap (λ a. (cond a (writes_row (Refilled p t d) (row_after h s r)) (row_after h s r)).linked) (ne_eqb t s calm)
-calm_linked (Filled p t i place w) h s r calm = same_linked (eqb t s && eqb i r) (row_after h s r) (writes_row (Filled p t i place w) (row_after h s r)) refl
+calm_linked (Linked p q t i n) h s r calm =
+    ap (λ a. (cond (a && covers i (span_of_header ((row_alone h t i).words 0)) r) (writes_row (Linked p q t i n) (row_alone h s r)) (row_alone h s r)).linked) (ne_eqb t s calm)
+calm_linked (Relinked p k f j t i n) h s r calm =
+    ap (λ a. (cond (a && covers i (span_of_header ((row_alone h t i).words 0)) r) (writes_row (Relinked p k f j t i n) (row_alone h s r)) (row_alone h s r)).linked) (ne_eqb t s calm)
+calm_linked (Refilled p t d) h s r calm = ap (λ a. (cond a (writes_row (Refilled p t d) (row_alone h s r)) (row_alone h s r)).linked) (ne_eqb t s calm)
+calm_linked (Filled p t i place w) h s r calm = same_linked (eqb t s && eqb i r) (row_alone h s r) (writes_row (Filled p t i place w) (row_alone h s r)) refl
 calm_linked e h s r calm = refl
 
 calm_deadline : (e : Event) (h : List Event) (s : ℕ) → IsCalmIn s e → segment_of.deadline_of (e ∷ h) s ≡ segment_of.deadline_of h s
@@ -152,6 +168,23 @@ own_linked z (e ∷ more) h p s r l calm own = ⊎_elim
     (λ f. let c = calm_rest s p e more f calm in
     ap (λ (u : Row). u.linked) (quiet_row z (e ∷ []) (more ++ h) s r l ((λ same. false≢true (sym f ∙ eq-eqb (by e) p (same ∙ own))), tt)) ∙ own_linked z more h p s r l.0 c own)
     (cases_Bool (eqb (by e) p))
+
+-- rows of the pass's own stay so while it stores words
+fills_calm : (p segment row : ℕ) (words places : List ℕ) → AreCalm (fills p segment row words places)
+unfolding fills
+fills_calm p segment row words [] = tt
+fills_calm p segment row words (place ∷ places) = (tt, fills_calm p segment row words places)
+
+pub own_stored : (b : Board) (p q : Pass) (s r rows : ℕ) (words : List ℕ) → 1 ≤ rows → StoresRow b s r words p q
+    → AreOwnRows b.shape (trace p) (number p) s r rows → AreOwnRows b.shape (trace q) (number q) s r rows
+own_stored b p q s r rows words some stores own =
+    let m = stores.1 in let first = own_first b.shape (trace p) (number p) s r rows some own in
+    let calm = subst AreCalm (sym m.adds) (fills_calm (number p) s r words stores.0) in
+    subst (λ n. AreOwnRows b.shape (trace q) n s r rows) (sym m.same)
+    (own_rows_same b.shape (trace p) (trace q) (number p) s r rows
+    (λ i. ap (λ h. (row_after h s i).linked) m.goes_on
+    ∙ own_linked b.shape m.more (trace p) (number p) s i (subst (IsLawful b.shape) m.goes_on m.pass.lawful) (calm_in s (own_of (number p) m.more) calm) first.2)
+    own)
 
 deadline_lasts : (z : Shape) (more h : List Event) (p s : ℕ) → IsLawful z (more ++ h) → AreCalmIn s (own_of p more) → owner z s ≡ p → segment_of.deadline_of (more ++ h) s ≡ segment_of.deadline_of h s
 deadline_lasts z [] h p s l calm own = refl
@@ -228,24 +261,27 @@ same_there : (t : Bool) (u v : Row) → is_some v.linked ≡ true → is_some (c
 same_there true u v there = there
 same_there false u v there = refl
 
-one_more_row : (r row : ℕ) → cond (eqb row r) true (nat_lt r row) ≡ nat_lt r (row + 1)
-one_more_row r row = ⊎_elim
-    (λ same. rw (eq-eqb row r same) (let e = same in sym (lt-ltb r (row + 1) (omega arith))))
-    (λ other. rw (ne_eqb row r other) (⊎_elim
-    (λ lt. lt-ltb r row lt ∙ sym (lt-ltb r (row + 1) (omega arith)))
-    (λ le. le-ltb r row le ∙ sym (le-ltb r (row + 1) (omega (arith, other))))
-    (cases_lt r row)))
-    (cases_eq row r)
+-- so many rows more are used
+more_used : (r row rows : ℕ) → cond (covers row rows r) true (nat_lt r row) ≡ nat_lt r (row + rows)
+more_used r row rows = ⊎_elim
+    (λ here. let low = covers-low row rows r here in let high = covers-high row rows r here in
+    cond-true (covers row rows r) true (nat_lt r row) here ∙ sym (lt-ltb r (row + rows) high))
+    (λ off. cond-false (covers row rows r) true (nat_lt r row) off ∙ ⊎_elim
+    (λ lt. lt-ltb r row lt ∙ sym (lt-ltb r (row + rows) (omega arith)))
+    (λ le. le-ltb r row le ∙ sym (le-ltb r (row + rows) (not_covered row rows r off le)))
+    (cases_lt r row))
+    (cases_Bool (covers row rows r))
 
 -- the rows of its segment after that
-named_row : (e : Event) (s row r : ℕ) (u : Row) → ComesToName s row e → is_some (cond (row_at e s r) (writes_row e u) u).linked ≡ cond (eqb row r) true (is_some u.linked)
-named_row (Linked p q t i n) s row r u at =
-    ap (λ a. is_some (cond (a && eqb i r) (writes_row (Linked p q t i n) u) u).linked) (eq-eqb t s at.0)
-    ∙ (same_there (eqb i r) u (writes_row (Linked p q t i n) u) refl ∙ ap (λ x. cond (eqb x r) true (is_some u.linked)) at.1)
-named_row (Relinked p k f j t i n) s row r u at =
-    ap (λ a. is_some (cond (a && eqb i r) (writes_row (Relinked p k f j t i n) u) u).linked) (eq-eqb t s at.0)
-    ∙ (same_there (eqb i r) u (writes_row (Relinked p k f j t i n) u) refl ∙ ap (λ x. cond (eqb x r) true (is_some u.linked)) at.1)
-named_row e s row r u at = absurd at
+named_row : (e : Event) (h : List Event) (s row r : ℕ) (u : Row) → ComesToName s row e
+    → is_some (cond (of_row h e s r) (writes_row e u) u).linked ≡ cond (covers row (span_of_header ((row_alone h s row).words 0)) r) true (is_some u.linked)
+named_row (Linked p q t i n) h s row r u at = let here = covers i (span_of_header ((row_alone h t i).words 0)) r in
+    ap (λ a. is_some (cond (a && here) (writes_row (Linked p q t i n) u) u).linked) (eq-eqb t s at.0)
+    ∙ (same_there here u (writes_row (Linked p q t i n) u) refl ∙ (λ j. cond (covers (at.1 j) (span_of_header ((row_alone h (at.0 j) (at.1 j)).words 0)) r) true (is_some u.linked)))
+named_row (Relinked p k a b t i n) h s row r u at = let here = covers i (span_of_header ((row_alone h t i).words 0)) r in
+    ap (λ x. is_some (cond (x && here) (writes_row (Relinked p k a b t i n) u) u).linked) (eq-eqb t s at.0)
+    ∙ (same_there here u (writes_row (Relinked p k a b t i n) u) refl ∙ (λ j. cond (covers (at.1 j) (span_of_header ((row_alone h (at.0 j) (at.1 j)).words 0)) r) true (is_some u.linked)))
+named_row e h s row r u at = absurd at
 
 -- elsewhere it is calm, and it leaves each deadline
 named_calm : (e : Event) (segment row s : ℕ) → ComesToName segment row e → segment ≢ s → IsCalmIn s e
@@ -258,36 +294,41 @@ named_deadline (Linked p q t i n) h segment row s at = refl
 named_deadline (Relinked p k f j t i n) h segment row s at = refl
 named_deadline e h segment row s at = absurd at
 
--- the next row of a segment in use was linked, or an item moved there, and it was then counted as used
-pub keeps_named_in : (b : Board) (e : Event) (p r : Pass) (segment row : ℕ) → ComesToName segment row e → AddsAtOnce b (e ∷ []) p r → r.plain ≡ p.plain
-    → state_of p segment ≡ Some InUse → used_of p segment ≡ Some row → row < b.shape.rows
-    → IsPassOf b p → KeepsSegments b p → KeepsSegments b (record r { plain = with_used segment (row + 1) r.plain })
-keeps_named_in b e p r segment row at d same in_use used lt is k =
-    let q : Pass = record r { plain = with_used segment (row + 1) r.plain } in
-    let own = owns_used b p segment row is used in
-    let now : used_of q segment ≡ Some (row + 1) = used_set r.plain segment (row + 1) (known r segment row (same_used p r segment same ∙ used)) in
+-- the next row of a segment in use was linked, or an item moved there, and its rows were then counted as used
+pub keeps_named_in : (b : Board) (e : Event) (p r : Pass) (segment row rows : ℕ) → ComesToName segment row e → AddsAtOnce b (e ∷ []) p r → r.plain ≡ p.plain
+    → state_of p segment ≡ Some InUse → used_of p segment ≡ Some row → AreRows b.shape row rows → span_in (trace p) segment row ≡ rows
+    → IsPassOf b p → KeepsSegments b p → KeepsSegments b (record r { plain = with_used segment (row + rows) r.plain })
+keeps_named_in b e p r segment row rows at d same in_use used left takes is k =
+    let q : Pass = record r { plain = with_used segment (row + rows) r.plain } in
+    let own = owns_used b p segment row is used in let old = d.others ++ trace p in
+    let now : used_of q segment ≡ Some (row + rows) = used_set r.plain segment (row + rows) (known r segment row (same_used p r segment same ∙ used)) in
+    let quiet = λ (s i : ℕ) (of : owner b.shape s ≡ number p). quiet_alone b.shape d.others (trace p) s i d.before (subst (λ n. NoneBy n d.others) (sym of) d.none) in
+    let takes_now : span_of_header ((row_alone old segment row).words 0) ≡ rows =
+    ap (λ (u : Row). span_of_header (u.words 0)) (quiet segment row own)
+    ∙ (ap span_of_header (sym (first_words (trace p) segment row 0 (omega arith))) ∙ takes) in
     let old_used : (s u : ℕ) → segment ≢ s → used_of q s ≡ Some u
-    → used_of p s ≡ Some u = λ s u other there. sym (used_apart r.plain segment (row + 1) s (λ e. other (sym e))
+    → used_of p s ≡ Some u = λ s u other there. sym (used_apart r.plain segment (row + rows) s (λ e. other (sym e))
     ∙ same_used p r s same) ∙ there in
-    let lasts : (s : ℕ) → deadline_of q s ≡ deadline_of p s = λ s. deadline_counted r.plain segment (row + 1) s ∙ same_deadlines p r s same in
-    let states : (s : ℕ) → state_of q s ≡ state_of p s = λ s. state_kept r.plain segment (row + 1) s ∙ same_states p r s same in record {
+    let lasts : (s : ℕ) → deadline_of q s ≡ deadline_of p s = λ s. deadline_counted r.plain segment (row + rows) s ∙ same_deadlines p r s same in
+    let states : (s : ℕ) → state_of q s ≡ state_of p s = λ s. state_kept r.plain segment (row + rows) s ∙ same_states p r s same in record {
       few = λ s u there. ⊎_elim
-          (λ e. let x : row + 1 ≡ u = same_Some (row + 1) u (sym now ∙ (ap (used_of q) e ∙ there)) in omega arith)
+          (λ e. let x : row + rows ≡ u = same_Some (row + rows) u (sym now ∙ (ap (used_of q) e ∙ there)) in
+          let fits = left_rows rows row b.shape.rows left in omega (arith, x, fits))
           (λ other. k.few s u (old_used s u other there))
           (cases_eq segment s);
       rows = λ s u i there below. ⊎_elim
-          (λ same_segment. let x : row + 1 ≡ u = same_Some (row + 1) u (sym now ∙ (ap (used_of q) same_segment ∙ there)) in
+          (λ same_segment. let x : row + rows ≡ u = same_Some (row + rows) u (sym now ∙ (ap (used_of q) same_segment ∙ there)) in
           subst (λ y. is_some (row_after (trace r) y i).linked ≡ nat_lt i u) same_segment
-          (ap (λ (x : Row). is_some x.linked) (stepped_row b e p r segment i d own) ∙ (named_row e segment row i (row_after (trace p) segment i) at
-          ∙ (ap (cond (eqb row i) true) (k.rows segment row i used below) ∙ (one_more_row i row ∙ ap (nat_lt i) x)))))
+          (ap (λ (x : Row). is_some x.linked) (stepped_row b e p r segment i d own) ∙ (named_row e old segment row i (row_alone (trace p) segment i) at
+          ∙ ((λ j. cond (covers row (takes_now j) i) true (k.rows segment row i used below j)) ∙ (more_used i row rows ∙ ap (nat_lt i) x)))))
           (λ other. let before = old_used s u other there in let of = owns_used b p s u is before in
           ap (λ h. is_some (row_after h s i).linked) d.now
-          ∙ (ap is_some (calm_linked e (d.others ++ trace p) s i (named_calm e segment row s at other))
-          ∙ (ap (λ (x : Row). is_some x.linked) (quiet_row b.shape d.others (trace p) s i d.before (subst (λ n. NoneBy n d.others) (sym of) d.none)) ∙ k.rows s u i before below)))
+          ∙ (ap is_some (calm_linked e old s i (named_calm e segment row s at other))
+          ∙ (ap (λ (x : Row). is_some x.linked) (quiet s i of) ∙ k.rows s u i before below)))
           (cases_eq segment s);
       deadlines = λ s n there. let before = sym (lasts s) ∙ there in
           same_cached b.shape (trace p) (trace r) s (ap (λ h. segment_of.deadline_of h s) d.now
-          ∙ (named_deadline e (d.others ++ trace p) segment row s at ∙ others_deadline b _ p r s d (owns_lasting b p s n is before)))
+          ∙ (named_deadline e old segment row s at ∙ others_deadline b _ p r s d (owns_lasting b p s n is before)))
           ∙ k.deadlines s n before;
       in_use = λ s is'. states s ∙ k.in_use s (sym (ap (λ (x : PlainPart). x.current) same) ∙ is');
       unused = λ s state is' not.
@@ -297,10 +338,11 @@ keeps_named_in b e p r segment row at d same in_use used lt is k =
     }
 
 -- so it is of the current segment
-pub keeps_named : (b : Board) (e : Event) (p r : Pass) (segment row : ℕ) → ComesToName segment row e → AddsAtOnce b (e ∷ []) p r → r.plain ≡ p.plain
-    → current_of p ≡ Some segment → used_of p segment ≡ Some row → row < b.shape.rows
-    → IsPassOf b p → KeepsSegments b p → KeepsSegments b (record r { plain = with_used segment (row + 1) r.plain })
-keeps_named b e p r segment row at d same current used lt is k = keeps_named_in b e p r segment row at d same (k.in_use segment current) used lt is k
+pub keeps_named : (b : Board) (e : Event) (p r : Pass) (segment row rows : ℕ) → ComesToName segment row e → AddsAtOnce b (e ∷ []) p r → r.plain ≡ p.plain
+    → current_of p ≡ Some segment → used_of p segment ≡ Some row → AreRows b.shape row rows → span_in (trace p) segment row ≡ rows
+    → IsPassOf b p → KeepsSegments b p → KeepsSegments b (record r { plain = with_used segment (row + rows) r.plain })
+keeps_named b e p r segment row rows at d same current used left takes is k =
+    keeps_named_in b e p r segment row rows at d same (k.in_use segment current) used left takes is k
 
 -- what is known of the segments after a refilling
 module _ (x : PlainPart) (segment deadline : ℕ) where
@@ -360,11 +402,11 @@ keeps_refilled b p r segment deadline state d same was other_state is k =
           (λ x. let y : 0 ≡ u = same_Some 0 u (sym empty ∙ (ap (used_of q) x ∙ there)) in
           ap (λ (v : Row). is_some v.linked) (stepped_row b e p r s i d (ap (owner b.shape) (sym x)
           ∙ owns_stated b p segment state is was) ∙ cond-true (eqb segment s)
-          (writes_row e (row_after (trace p) s i)) (row_after (trace p) s i) (eq-eqb segment s x))
+          (writes_row e (row_alone (trace p) s i)) (row_alone (trace p) s i) (eq-eqb segment s x))
           ∙ (sym (le-ltb i 0 (omega arith)) ∙ ap (nat_lt i) y))
           (λ other. let before = old_used s u other there in
           ap (λ (v : Row). is_some v.linked) (stepped_row b e p r s i d (owns_used b p s u is before)
-          ∙ cond-false (eqb segment s) (writes_row e (row_after (trace p) s i)) (row_after (trace p) s i)
+          ∙ cond-false (eqb segment s) (writes_row e (row_alone (trace p) s i)) (row_alone (trace p) s i)
           (ne_eqb segment s other)) ∙ k.rows s u i before below)
           (cases_eq segment s);
       deadlines = λ s n there. let lasts : segment_of.deadline_of (trace r) s ≡ cond (eqb segment s) deadline (segment_of.deadline_of (trace p) s) =

@@ -1,5 +1,8 @@
 pub mod Held
+pub mod ItemRows
+pub mod LinkedRows
 pub mod Keeping
+pub mod KeyRows
 pub mod Looks
 pub mod Readers
 pub mod Refills

@@ -1,15 +1,16 @@
 -- A second look at an item word, and reads of the item's row after it.
-use Rattle.std.proofs.Common.{◌≡◌, ℕ, ◌/◌, ◌^◌, ◌<◌, ◌≤◌, List, [], ◌++◌, Option, Some, refl, sym, ap, ◌∙◌, subst, inl, inr, append_assoc}
+use Rattle.std.proofs.Common.{◌≡◌, ℕ, ◌/◌, ◌^◌, ◌<◌, ◌≤◌, List, [], ◌++◌, Option, Some, refl, sym, ap, ◌∙◌, subst, append_assoc}
 use Rattle.std.specs.Prelude.{IfSome}
 use Rattle.segword.specs.Words.{IsKey, IsSameItem, IsValue, Item, item_word, Shape}
 use Rattle.segcore.specs.Words.{Event, Holds, inside, IsSegment, look, NoneRefills, Row, row_after}
-use Rattle.segbase.specs.Words.{AddsAtOnce, Board, cell_at, number, Pass, Place, Stepped, trace}
+use Rattle.segbase.specs.Words.{AddsAtOnce, Board, cell_at, IsPassOf, number, Pass, Place, Stepped, trace}
 use Rattle.segcore.proofs.Moments.{begins_on}
 use Rattle.segbase.proofs.Alone.{moved_alone}
 use Rattle.segbase.proofs.Moves.{moved_inside, moved_on}
 use Rattle.segbase.proofs.Staying.{none_both}
 use Rattle.segstore.specs.Reading.{OnlyLooks, IsReadable, ReadsRow}
 use Rattle.segstore.specs.Linked.{segment_part, row_part, word_of_place, IsChained, WasLinked, SawItem, FoundItem, FoundKey, SeesAgain}
+use Rattle.segstore.proofs.LinkedRows.{AllLinked, found_rows, may_read_linked, was_linked}
 use Rattle.segstore.proofs.Looks.{looked_then}
 use Rattle.segstore.proofs.Words.{segment_of_packed, row_of_packed, same_segment, chained_later, stood_item}
 
@@ -31,6 +32,20 @@ unpacked o item w some is = subst (λ x. IfSome x (λ item. item_word item ≡ w
 pub looked_at : (b : Board) (p q : Pass) (place : Place) (found : ℕ) → Stepped b (look (cell_at b.shape place)) found p q → OnlyLooks b p q
 looked_at b p q place found st = record { did = st.did; plain = st.plain; memo = st.memo }
 
+-- a pass that is in its segment may read all rows of an item that are linked to its key
+pub at_item : (item : Item) (h : List Event) (key : List ℕ) → AllLinked h (segment_part (item_word item)) (row_part (item_word item)) key → AllLinked h item.seg item.row key
+at_item item h key all =
+    subst (λ s. AllLinked h s item.row key) (sym (segment_of_item item))
+    (subst (λ r. AllLinked h (segment_part (item_word item)) r key) (sym (row_of_item item)) all)
+
+may_read_item : (b : Board) (p : Pass) (place : Place) (item : Item) (key value : List ℕ) (at : List Event) → WasLinked b.shape place (item_word item) key value at
+    → AllLinked (trace p) (segment_part (item_word item)) (row_part (item_word item)) key → 0 < inside (trace p) (number p) item.seg → IsReadable b p item.seg item.row
+may_read_item b p place item key value at was all there = (
+  subst (IsSegment b.shape) (sym (segment_of_item item)) was.in_segment.0,
+  subst (λ r. r < b.shape.rows) (sym (row_of_item item)) was.in_segment.1,
+  may_read_linked b.shape (trace p) (number p) item.seg item.row key there (at_item item (trace p) key all),
+)
+
 -- what the second look leaves, where it found the item that it was taken for
 pub sees_again : (b : Board) (p q : Pass) (place : Place) (word now : ℕ) (item : Item) → AddsAtOnce b [] p q → IsChained b.shape (trace p) place → 0 < inside (trace p) (number p) (segment_part word)
     → now ≡ word_of_place b.shape (trace q) place → IsSameItem word now → item_word item ≡ now → SeesAgain b place word item q
@@ -41,7 +56,7 @@ sees_again b p q place word now item d c there is same of =
     let s = stood_item b.shape (trace q) place (item_word item) d.moved.pass.valid d.moved.pass.lawful
     (chained_later b.shape (trace p) (trace q) place d.moved.pass.lawful (moved_on b [] p q d.moved) c) here tag
     in
-    let es = segment_of_item item in let er = row_of_item item in
+    let es = segment_of_item item in
     let e : inside (trace q) (number q) item.seg ≡ inside (trace p) (number p) (segment_part word) =
     ap (λ n. inside (trace q) n item.seg) d.moved.same ∙ (ap (inside (trace q) (number p)) (es ∙ sym (same_segment word (item_word item) same')) ∙ moved_inside b [] p q (segment_part word) d.moved) in
     record {
@@ -50,18 +65,8 @@ sees_again b p q place word now item d c there is same of =
       value = s.1;
       was = s.2;
       entered = subst (λ n. 0 < n) (sym e) there;
-      readable = (
-        subst (IsSegment b.shape) (sym es) s.2.in_segment.0,
-        subst (λ r. r < b.shape.rows) (sym er) s.2.in_segment.1,
-        inr (inl (
-          subst (λ n. 0 < n) (sym e) there,
-          (
-            s.0,
-            ap (λ (x : Row). x.linked) (same_names item (trace q))
-                ∙ s.2.linked,
-          ),
-        )),
-      );
+      readable = may_read_item b q place item s.0 s.1 (trace q) s.2
+          (was_linked b.shape (trace q) place (item_word item) s.0 s.1 d.moved.pass.valid s.2) (subst (λ n. 0 < n) (sym e) there);
     }
 
 -- ---- reads of the row after it
@@ -98,14 +103,10 @@ then_row b p q t s r l reads = looked_then b p q t l reads.looked
 -- ---- the value of an item that was found, read later
 
 pub found_readable : (b : Board) (p : Pass) (place : Place) (item : Item) (header : ℕ) (key : List ℕ)
-    (h : List Event) → 0 < inside (trace p) (number p) item.seg → FoundKey b.shape place item header key h (trace p)
+    (h : List Event) → IsPassOf b p → 0 < inside (trace p) (number p) item.seg → FoundKey b.shape place item header key h (trace p)
     → IsReadable b p item.seg item.row
-found_readable b p place item header key h there f =
-    let was = f.found.saw.was in let es = segment_of_item item in let er = row_of_item item in (
-      subst (IsSegment b.shape) (sym es) was.in_segment.0,
-      subst (λ r. r < b.shape.rows) (sym er) was.in_segment.1,
-      inr (inl (there, (key, ap (λ (x : Row). x.linked) (same_names item (trace p) ∙ f.found.still) ∙ was.linked))),
-    )
+found_readable b p place item header key h is there f =
+    may_read_item b p place item key f.value f.found.saw.at f.found.saw.was (found_rows b.shape h (trace p) place (item_word item) key f.value is.valid is.lawful f.found) there
 
 -- the row of an item that was found holds the pair
 pub found_holds : (place : Place) (item : Item) (key value : List ℕ) (z : Shape) (h g : List Event) → FoundItem z place (item_word item) key value h g → Holds (row_after g item.seg item.row) key value

@@ -10,7 +10,7 @@ ghost use Rattle.segstore.specs.Copying.{CopiesValue};
 ghost use Rattle.segstore.specs.Reading.{HoldsPair, IsReadable, ReadsRow};
 
 use crate::row::RowRef;
-use crate::spans::load_place;
+use crate::spans::{load_place, value_length};
 use segbase::{Board, Pass};
 use segword::value_place;
 
@@ -41,14 +41,6 @@ pub fn value_into(
     }
     load_value(board, pass, row, header, &mut bytes[..length]);
     Ok(length)
-}
-
-// The length of the value of a row with this word 0.
-#[inline(always)]
-fn value_length(header: u64) -> usize
-    ensures { result ≡ value_length header }
-{
-    (header >> 8 & 0xffff) as usize
 }
 
 // Loads the value of a row with this word 0 word by word, over bytes that are as long.

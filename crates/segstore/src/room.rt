@@ -7,7 +7,7 @@ ghost use Rattle.segword.specs.Words.{span_of};
 
 use crate::row::RowRef;
 use segbase::{Board, Pass};
-use segword::{KeyWords, MOST_SPAN, Value};
+use segword::{KeyWords, Value};
 
 /// No segment is current, or all rows of the current one are used.
 #[derive(Clone, Copy, Debug, PartialEq, Eq)]
@@ -35,18 +35,11 @@ pub fn next_row(board: &Board, pass: &Pass, key: &KeyWords, value: &Value) -> Re
     ensures no_room { IsErr result
         ↔ (has_room_for board.now.shape (span_of key.now value.now) pass.now ≡ false) }
 {
-    if MOST_SPAN > 1 {
-        let segment = pass.current().ok_or(NoRoom)?;
-        let row = pass.used(segment).ok_or(NoRoom)?;
-        let left = board.shape().rows.saturating_sub(row);
-        if left < key.span(value) {
-            return Err(NoRoom);
-        }
-        return Ok(RowRef { segment, row });
-    }
     let segment = pass.current().ok_or(NoRoom)?;
-    match pass.used(segment) {
-        Some(row) if row < board.shape().rows => Ok(RowRef { segment, row }),
-        _ => Err(NoRoom),
+    let row = pass.used(segment).ok_or(NoRoom)?;
+    let left = board.shape().rows.saturating_sub(row);
+    if left < key.span(value) {
+        return Err(NoRoom);
     }
+    Ok(RowRef { segment, row })
 }

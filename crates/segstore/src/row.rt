@@ -1,16 +1,17 @@
 //! Rows that a pass may read, word by word.
-ghost use Rattle.std.specs.Prelude.{◌≡◌, ℕ, ◌+◌, ◌≤◌, ◌↔◌, List, IfSome, IsSome, Some};
+ghost use Rattle.std.specs.Prelude.{◌≡◌, ℕ, ◌+◌, ◌<◌, ◌≤◌, ◌↔◌, List, IfSome, IsSome, Some};
+ghost use Rattle.std.specs.Prelude.{slice_index};
 ghost use Rattle.segword.specs.Words.{head_width, IsKey, IsValue, value_width};
 ghost use Rattle.segcore.specs.Words.{Holds, row_after};
 ghost use Rattle.segbase.specs.Words.{IsPassOf, trace};
 ghost use Rattle.segstore.specs.Calls.{TakesAtMost};
 ghost use Rattle.segstore.specs.Reading.{HoldsPair, IsReadable, ReadsRow, words_at};
 
-use crate::spans::load_place;
+use crate::spans::{load_place, load_places, value_length};
 use segbase::{Board, Pass};
 use segword::{
-    HEAD_WORDS, Key, KeyWords, MOST_SPAN, ROW_WORDS, VALUE_WORDS, Value, read_key, read_row,
-    read_value, value_in_row, value_place,
+    HEAD_WORDS, ITEM_WORDS, Key, KeyWords, MOST_SPAN, ROW_WORDS, VALUE_WORDS, Value, read_key,
+    read_row, read_value, span_of_header, value_in_row, value_place,
 };
 
 /// A row of a segment.
@@ -45,6 +46,28 @@ pub(crate) fn load_words<const N: usize>(
         words[place as usize] = board.row_load_at(pass, at, from + place);
     }
     words
+}
+
+// All words of the item that begins in a row. Behind its rows is 0.
+#[inline(always)]
+pub(crate) fn load_item(board: &Board, pass: &mut Pass, segment: u32, row: u32) -> [u64; ITEM_WORDS]
+    requires pass { IsPassOf board.now pass.old }
+    requires readable { IsReadable board.now pass.old segment row }
+    ensures reads { ReadsRow board.now pass.old pass.new segment row }
+    ensures steps { TakesAtMost ITEM_WORDS pass.old pass.new }
+    ensures words { (place : ℕ) → place < ITEM_WORDS
+        → slice_index result place ≡ (row_after (trace pass.new) segment row).words place }
+{
+    if MOST_SPAN > 1 {
+        let at = board.row_at(segment, row);
+        let mut words = [0; ITEM_WORDS];
+        let header = load_place(board, pass, at, 0);
+        words[0] = header;
+        let rows = span_of_header(header).min(MOST_SPAN as u32);
+        load_places(board, pass, at, 0, &mut words, 1, ROW_WORDS * rows as usize);
+        return words;
+    }
+    load_words(board, pass, segment, row, 0)
 }
 
 /// Word 0 of a row, if the row is one of the key:
@@ -102,12 +125,10 @@ pub fn value_of_row(board: &Board, pass: &mut Pass, segment: u32, row: u32, head
     if MOST_SPAN > 1 {
         let at = board.row_at(segment, row);
         let from = value_place(header) as u32;
-        let long = (header >> 8 & 0xffff) as usize;
-        let mut loaded = [0; VALUE_WORDS];
-        for place in 0..long.div_ceil(8).min(VALUE_WORDS) {
-            loaded[place] = load_place(board, pass, at, from + place as u32);
-        }
-        return read_value(header, &loaded);
+        let count = value_length(header).div_ceil(8).min(VALUE_WORDS);
+        let mut words = [0; VALUE_WORDS];
+        load_places(board, pass, at, from, &mut words, 0, count);
+        return read_value(header, &words);
     }
     let words = load_words(board, pass, segment, row, VALUE_WORD);
     read_value(header, &words)
@@ -138,17 +159,16 @@ pub fn key_of_row(board: &Board, pass: &mut Pass, segment: u32, row: u32) -> Opt
     requires pass { IsPassOf board.now pass.old }
     requires readable { IsReadable board.now pass.old segment row }
     ensures reads { ReadsRow board.now pass.old pass.new segment row }
-    ensures steps { TakesAtMost 4 pass.old pass.new }
+    ensures steps { TakesAtMost head_width pass.old pass.new }
     ensures key { (key value : List ℕ) → IsKey key → IsValue value
         → Holds (row_after (trace pass.new) segment row) key value → result ≡ Some key }
 {
     if MOST_SPAN > 1 {
         let at = board.row_at(segment, row);
         let mut words = [0; HEAD_WORDS];
-        words[0] = load_place(board, pass, at, 0);
-        for place in 1..value_place(words[0]).min(HEAD_WORDS) {
-            words[place] = load_place(board, pass, at, place as u32);
-        }
+        let header = load_place(board, pass, at, 0);
+        words[0] = header;
+        load_places(board, pass, at, 0, &mut words, 1, value_place(header));
         return read_key(&words);
     }
     read_key(&load_words(board, pass, segment, row, 0))
@@ -162,10 +182,5 @@ pub fn pair_of_row(board: &Board, pass: &mut Pass, segment: u32, row: u32) -> Op
     ensures pair { (key value : List ℕ) → IsKey key → IsValue value
         → Holds (row_after (trace pass.new) segment row) key value → result ≡ Some (key, value) }
 {
-    if MOST_SPAN > 1 {
-        let key = key_of_row(board, pass, segment, row)?;
-        let header = board.row_load(pass, segment, row, 0);
-        return Some((key, value_of_row(board, pass, segment, row, header)));
-    }
-    read_row(&load_words(board, pass, segment, row, 0))
+    read_row(&load_item(board, pass, segment, row))
 }

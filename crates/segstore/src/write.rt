@@ -1,5 +1,5 @@
 //! Rows written before an item names them.
-ghost use Rattle.std.specs.Prelude.{◌≡◌, ◌≢◌, ◌<◌, ◌*◌, ◌↔◌, ℕ, List, slice_index, Some, false};
+ghost use Rattle.std.specs.Prelude.{◌≡◌, ◌≢◌, ◌<◌, ◌≤◌, ◌*◌, ◌↔◌, ℕ, List, slice_index, Some, false};
 ghost use Rattle.std.specs.Prelude.{IfOk, IsErr};
 ghost use Rattle.segword.specs.Words.{IsValue, item_width, place_behind, row_behind, span_of};
 ghost use Rattle.segcore.specs.Words.{AreOwnRows, Holds, IsOwnRow, row_after, row_alone, span_in};
@@ -7,12 +7,12 @@ ghost use Rattle.segbase.specs.Words.{current_of, IsPassOf, number, sight, trace
 ghost use Rattle.segbase.specs.Spots.{IsRowAt};
 ghost use Rattle.segstore.specs.Calls.{TakesAtMost};
 ghost use Rattle.segstore.specs.Reading.{IsReadable};
-ghost use Rattle.segstore.specs.Rows.{FillsRow, StoresRow};
+ghost use Rattle.segstore.specs.Rows.{FillsRow, HoldsAlso, StoresRow};
 ghost use Rattle.segstore.specs.Segments.{KeepsSegments, has_room_for};
 
 use crate::room::{NoRoom, next_row};
-use crate::row::{RowRef, load_words};
-use crate::spans::{load_place, row_of_place};
+use crate::row::{RowRef, load_item};
+use crate::spans::row_of_place;
 use segbase::{Board, Pass, RowPlace};
 use segword::{ITEM_WORDS, Key, KeyWords, MOST_SPAN, ROW_WORDS, Value, span_of_header};
 
@@ -62,15 +62,7 @@ pub fn fill_row(board: &Board, pass: &mut Pass, row: RowRef, key: &KeyWords, val
     ensures plain { pass.new.plain ≡ pass.old.plain }
     ensures memo { (sight pass.new).memo ≡ (sight pass.old).memo }
 {
-    if MOST_SPAN > 1 {
-        let words = key.row(value);
-        let at = board.row_at(row.segment, row.row);
-        for place in 0..ROW_WORDS as u32 * key.span(value) {
-            store_word(board, pass, at, place, words[place as usize]);
-        }
-        return;
-    }
-    store_words(board, pass, row.segment, row.row, &key.row(value));
+    store_words(board, pass, row, key.span(value), &key.row(value));
 }
 
 /// Writes into a row of the pass's own, that no item named in this filling, and into as many behind
@@ -85,42 +77,37 @@ pub fn copy_row(board: &Board, pass: &mut Pass, from: RowRef, to: RowRef)
     ensures steps { TakesAtMost (3 * item_width) pass.old pass.new }
     ensures own { AreOwnRows board.now.shape (trace pass.new) (number pass.new)
         to.segment to.row (span_in (trace pass.old) from.segment from.row) }
-    ensures holds { (key value : List ℕ)
-        → Holds (row_after (trace pass.old) from.segment from.row) key value
-        → Holds (row_after (trace pass.new) to.segment to.row) key value }
+    ensures holds { HoldsAlso (row_after (trace pass.old) from.segment from.row)
+        (row_after (trace pass.new) to.segment to.row) }
     ensures plain { pass.new.plain ≡ pass.old.plain }
     ensures memo { (sight pass.new).memo ≡ (sight pass.old).memo }
 {
-    if MOST_SPAN > 1 {
-        let source = board.row_at(from.segment, from.row);
-        let target = board.row_at(to.segment, to.row);
-        let header = load_place(board, pass, source, 0);
-        store_word(board, pass, target, 0, header);
-        for place in 1..ROW_WORDS as u32 * span_of_header(header) {
-            let word = load_place(board, pass, source, place);
-            store_word(board, pass, target, place, word);
-        }
-        return;
-    }
-    let words = load_words(board, pass, from.segment, from.row, 0);
-    store_words(board, pass, to.segment, to.row, &words);
+    let words = load_item(board, pass, from.segment, from.row);
+    let rows = span_of_header(words[0]).min(MOST_SPAN as u32);
+    store_words(board, pass, to, rows, &words);
 }
 
-// Makes a row of the pass's own, that no item named in this filling, have these words.
+// Makes so many rows of the pass's own from one on, that no item named in this filling, have the
+// first of these words.
 #[inline(always)]
-fn store_words(board: &Board, pass: &mut Pass, segment: u32, row: u32, words: &[u64; ITEM_WORDS])
+fn store_words(board: &Board, pass: &mut Pass, row: RowRef, rows: u32, words: &[u64; ITEM_WORDS])
     requires pass { IsPassOf board.now pass.old }
-    requires own { IsOwnRow board.now.shape (trace pass.old) (number pass.old) segment row }
-    ensures moved { StoresRow board.now segment row words.now pass.old pass.new }
-    ensures steps { TakesAtMost (2 * ROW_WORDS) pass.old pass.new }
-    ensures own { IsOwnRow board.now.shape (trace pass.new) (number pass.new) segment row }
-    ensures words { (place : ℕ) → place < ROW_WORDS
-        → (row_after (trace pass.new) segment row).words place ≡ slice_index words.now place }
+    requires own { AreOwnRows board.now.shape (trace pass.old) (number pass.old)
+        row.segment row.row rows }
+    requires some { 1 ≤ rows }
+    requires fits { ROW_WORDS * rows ≤ ITEM_WORDS }
+    ensures moved { StoresRow board.now row.segment row.row words.now pass.old pass.new }
+    ensures steps { TakesAtMost (2 * (ROW_WORDS * rows)) pass.old pass.new }
+    ensures own { AreOwnRows board.now.shape (trace pass.new) (number pass.new)
+        row.segment row.row rows }
+    ensures words { (place : ℕ) → place < ROW_WORDS * rows
+        → (row_alone (trace pass.new) row.segment (row_behind row.row place)).words
+        (place_behind place) ≡ slice_index words.now place }
     ensures plain { pass.new.plain ≡ pass.old.plain }
     ensures memo { (sight pass.new).memo ≡ (sight pass.old).memo }
 {
-    let at = board.row_at(segment, row);
-    for place in 0..ROW_WORDS as u32 {
+    let at = board.row_at(row.segment, row.row);
+    for place in 0..ROW_WORDS as u32 * rows {
         store_word(board, pass, at, place, words[place as usize]);
     }
 }
@@ -133,7 +120,7 @@ fn store_word(board: &Board, pass: &mut Pass, at: RowPlace, place: u32, word: u6
     requires start { IsRowAt board.now.shape at }
     requires own { IsOwnRow board.now.shape (trace pass.old) (number pass.old)
         at.segment (row_behind at.row place) }
-    requires place { place < item_width }
+    requires place { place_behind place < ROW_WORDS }
     ensures moved { (words : List ℕ) → slice_index words place ≡ word
         → StoresRow board.now at.segment at.row words pass.old pass.new }
     ensures steps { TakesAtMost 2 pass.old pass.new }

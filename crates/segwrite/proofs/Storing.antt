@@ -158,7 +158,7 @@ module _ (b : Board) (request : Request) (target : Target) (segment row : ℕ) (
     keeps_all k =
         let kq = keeps_plain b (fills (number p) segment row (row_of (key_of request) (value_of request)) places) p
         q m (fills_calm (number p) segment row (row_of (key_of request) (value_of request)) places) first k in
-        keeps_named b _ q r segment row (refl, refl) d second (ap (λ (x : PlainPart). x.current) first ∙ next.current) (same_used p q segment first ∙ next.used) next.fits m.pass kq
+        keeps_named b _ q r segment row (rows_of request) (refl, refl) d second (ap (λ (x : PlainPart). x.current) first ∙ next.current) (same_used p q segment first ∙ next.used) next.fits refl m.pass kq
 
     pub uses_all : memo q ≡ memo p → memo r ≡ memo q → UsesRows segment (rows_of request) p after_all
     uses_all minds same = record {

@@ -1,7 +1,9 @@
-use Rattle.std.proofs.Common.{◌≡◌, ◌+◌, ◌*◌, ◌/◌, ◌%◌, ◌^◌, ◌∙◌, refl, ap, sym, arith, below_more, ℕ}
+use Rattle.std.proofs.Common.{◌≡◌, ◌+◌, ◌*◌, ◌/◌, ◌%◌, ◌^◌, ◌<◌, ◌∙◌, refl, ap, sym, subst, arith, below_more, ℕ}
+use Rattle.segword.specs.Words.{row_width, span_of_header}
 use Rattle.segcore.specs.Words.{Row, row_after}
 use Rattle.segbase.specs.Words.{trace}
 use Rattle.segstore.proofs.Copying.{are_value}
+use Rattle.segstore.proofs.ItemRows.{value_ends}
 use Rattle.segstore.proofs.Looks.{reads_then, reads_nothing, same_readable, same_reads}
 use Rattle.segstore.proofs.copy.load_value.Goals as goal
 
@@ -13,6 +15,15 @@ loop-place-init c = let b = c.args.board.now in let at = c.row_at-at.result in r
   steps = omega arith;
   found = λ k lt. absurd (omega (arith, lt));
 }
+
+pub load_place-word-requires-clause-place : goal.load_place-word-requires-clause-place
+load_place-word-requires-clause-place c =
+    let i = c.loop-place.invariant in let e = c.row_at-at.ensures.row in let p = trace c.args.pass.now in let place = c.loop-place.place in
+    let from = c.value_place-from.ensures.place in let below = c.loop-place-test.true in let long = c.requires.length in let fits = c.requires.fits in
+    let ends = value_ends c.args.header (place + 1) (omega (arith, below, long, fits)) (omega (arith, below, long)) in
+    subst (λ w. c.value_place-from.result + place < row_width * span_of_header w)
+    (c.requires.header ∙ (λ t. (row_after p (sym e.0 t) (sym e.1 t)).words 0) ∙ ap (λ (row : Row). row.words 0) (sym i.reads.same))
+    (omega (arith, from, ends))
 
 pub loop-place-preserved : goal.loop-place-preserved
 loop-place-preserved c = let i = c.loop-place.invariant in let load = c.load_place-word.ensures in let put = c.put_word.ensures in record {

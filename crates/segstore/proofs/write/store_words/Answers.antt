@@ -1,33 +1,47 @@
-use Rattle.std.proofs.Common.{refl, sym, ap, ◌∙◌, ⊎_elim, arith}
+use Rattle.std.proofs.Common.{◌≡◌, ℕ, ◌*◌, ◌<◌, refl, sym, ap, ◌∙◌, ⊎_elim, arith}
 use Rattle.std.proofs.lemmas.Bool.{cases_eq}
 use Rattle.std.specs.Prelude.{slice_index}
-use Rattle.segcore.specs.Words.{row_after}
-use Rattle.segbase.specs.Words.{trace}
+use Rattle.segword.specs.Words.{place_behind, row_behind}
+use Rattle.segcore.specs.Words.{AreOwnRows, row_alone}
+use Rattle.segcore.proofs.Spans.{own_first}
+use Rattle.segbase.specs.Words.{number, trace}
 use Rattle.segbase.proofs.Moves.{stays}
+use Rattle.segstore.proofs.ItemRows.{own_place, place_fits}
+use Rattle.segstore.proofs.Keeping.{own_stored}
 use Rattle.segstore.proofs.Rows.{stores_nothing, stores_then}
 use Rattle.segstore.proofs.write.store_words.Goals as goal
 
 pub row_at-at-requires : goal.row_at-at-requires
-row_at-at-requires c = let own = c.requires.own in record { row = (own.0, own.1, omega arith) }
+row_at-at-requires c = let first = own_first c.args.board.now.shape (trace c.args.pass.now) (number c.args.pass.now) c.args.row.segment c.args.row.row c.args.rows c.requires.some c.requires.own in
+    record { row = (first.0, first.1, omega arith) }
 
 pub loop-place-init : goal.loop-place-init
-loop-place-init c = let at = c.row_at-at.result in let is = c.row_at-at.ensures.row in record {
+loop-place-init c = let at = c.row_at-at.result in record {
   moved = stores_nothing c.args.board.now c.args.pass.now c.args.pass.now at.segment at.row c.args.words.now (stays c.args.board.now c.args.pass.now c.requires.pass);
   steps = omega arith;
-  own = rw (is.0, is.1) c.requires.own;
   holds = λ j lt. absurd (omega (arith, lt));
   plain = refl;
   memo = refl;
 }
 
+pub store_word-requires-clause-own : goal.store_word-requires-clause-own
+store_word-requires-clause-own c =
+    let b = c.args.board.now in let p = c.args.pass.now in let q = c.loop-place.pass in let is = c.row_at-at.ensures.row in
+    let own : AreOwnRows b.shape (trace p) (number p) c.row_at-at.result.segment c.row_at-at.result.row c.args.rows = rw (is.0, is.1) c.requires.own in
+    own_place b.shape (trace q) (number q) _ _ c.args.rows c.loop-place.place (own_stored b p q _ _ c.args.rows c.args.words.now c.requires.some c.loop-place.invariant.moved own)
+    (omega arith)
+
+pub store_word-requires-clause-place : goal.store_word-requires-clause-place
+store_word-requires-clause-place c = let fits = c.requires.fits in place_fits c.loop-place.place (omega (arith, fits))
+
 pub loop-place-preserved : goal.loop-place-preserved
 loop-place-preserved c = let i = c.loop-place.invariant in let w = c.store_word.ensures in let at = c.row_at-at.result in record {
   moved = stores_then c.args.board.now c.args.pass.now c.loop-place.pass c.store_word.new.pass at.segment at.row c.args.words.now i.moved (w.moved c.args.words.now refl);
   steps = (let before = i.steps in let more = w.steps in omega (arith, before, more));
-  own = w.own;
   holds = λ j lt. ⊎_elim
-      (λ same. ap (row_after (trace c.store_word.new.pass) at.segment at.row).words same ∙ (w.word ∙ ap (slice_index c.args.words.now) (sym same)))
-      (λ other. w.others j other ∙ i.holds j (omega (arith, other)))
+      (λ same. (λ t. (row_alone (trace c.store_word.new.pass) at.segment (row_behind at.row (same t))).words (place_behind (same t)))
+      ∙ (w.word ∙ ap (slice_index c.args.words.now) (sym same)))
+      (λ other. w.others j other ∙ i.holds j (omega (arith, lt, other)))
       (cases_eq j c.loop-place.place);
   plain = w.plain ∙ i.plain;
   memo = w.memo ∙ i.memo;
@@ -38,8 +52,10 @@ returns-clause-moved c = let is = c.row_at-at.ensures.row in
     rw (← is.0, ← is.1) c.loop-place.invariant.moved
 
 pub returns-clause-own : goal.returns-clause-own
-returns-clause-own c = let is = c.row_at-at.ensures.row in rw (← is.0, ← is.1) c.loop-place.invariant.own
+returns-clause-own c = let is = c.row_at-at.ensures.row in
+    own_stored c.args.board.now c.args.pass.now c.loop-place.pass c.args.row.segment c.args.row.row c.args.rows c.args.words.now c.requires.some
+    (rw (← is.0, ← is.1) c.loop-place.invariant.moved) c.requires.own
 
 pub returns-clause-words : goal.returns-clause-words
 returns-clause-words c = let is = c.row_at-at.ensures.row in
-    rw (← is.0, ← is.1) (λ place lt. c.loop-place.invariant.holds place (omega arith))
+    rw (← is.0, ← is.1) (λ place lt. c.loop-place.invariant.holds place (omega (arith, lt)))

@@ -1,7 +1,8 @@
 use Rattle.std.proofs.Common.{◌≡◌, ℕ, ◌*◌, ◌<◌}
 use Rattle.std.specs.Prelude.{slice_index}
-use Rattle.segcore.specs.Words.{IsOwnRow, row_after}
-use Rattle.segbase.specs.Words.{number, sight, trace}
+use Rattle.segword.specs.Words.{place_behind, row_behind}
+use Rattle.segcore.specs.Words.{row_alone}
+use Rattle.segbase.specs.Words.{sight, trace}
 use Rattle.segstore.specs.Calls.{TakesAtMost}
 use Rattle.segstore.specs.Rows.{StoresRow}
 use Rattle.segstore.proofs.write.store_words.Given as goal
@@ -10,8 +11,7 @@ abbrev pub invariant-loop-place : goal.invariant-loop-place
 invariant-loop-place l = record {
   moved : StoresRow l.board l.at.segment l.at.row l.words l.fn.pass l.pass;
   steps : TakesAtMost (2 * l.place) l.fn.pass l.pass;
-  own : IsOwnRow l.board.shape (trace l.pass) (number l.pass) l.at.segment l.at.row;
-  holds : (j : ℕ) → j < l.place → (row_after (trace l.pass) l.at.segment l.at.row).words j ≡ slice_index l.words j;
+  holds : (j : ℕ) → j < l.place → (row_alone (trace l.pass) l.at.segment (row_behind l.at.row j)).words (place_behind j) ≡ slice_index l.words j;
   plain : l.pass.plain ≡ l.fn.pass.plain;
   memo : (sight l.pass).memo ≡ (sight l.fn.pass).memo;
 }
