@@ -3,7 +3,7 @@ use Rattle.std.proofs.Common.{◌≡◌, ◌≢◌, ℕ, ◌+◌, ◌/◌, ◌%�
 use Rattle.std.specs.Bool.{then_some}
 use Rattle.std.proofs.lemmas.Bool.{cases_Bool, cond-true, cond-false, eq-eqb, ne_eqb, false≢true}
 use Rattle.std.proofs.lemmas.Option.{same_Some, none-some}
-use Rattle.segword.specs.Words.{Shape}
+use Rattle.segword.specs.Words.{Shape, span_of}
 use Rattle.segmodel.specs.declared.entry.Entry.TheVariants.{Wrote}
 use Rattle.segmodel.specs.declared.request.Request.TheVariants.{Set, Add, Replace, Cas, Delete}
 use Rattle.segmodel.specs.declared.request.Reply.TheVariants as reply
@@ -22,6 +22,7 @@ use Rattle.segwrite.specs.declared.write.When.{When}
 use Rattle.segwrite.specs.declared.write.When.TheVariants as when
 use Rattle.segwrite.specs.Writes.{AddsReply, IsWriteAnswer}
 use Rattle.segwrite.specs.Writing.{IsTarget, IsNewKey, own_word, Finds}
+use Rattle.segwrite.specs.Spans.{rows_of}
 use Rattle.segwrite.specs.Refusing.{request_of, IsToldBy, reply_now, RefusesUnderBit}
 use Rattle.segwrite.proofs.Ending.{IsEntry, plain_back, memo_back, entered_on, entered, entered_undrawn, entered_peeking, entered_taking}
 use Rattle.segstore.proofs.Peeking.{PeeksInto}
@@ -36,6 +37,11 @@ asks when.Always key value now request is = (ap key_of is, ap value_of is, is �
 asks when.Absent key value now request is = (ap key_of is, ap value_of is, is ∙ (λ i. Add (sym (ap key_of is) i) (sym (ap value_of is) i) now))
 asks when.Present key value now request is = (ap key_of is, ap value_of is, is ∙ (λ i. Replace (sym (ap key_of is) i) (sym (ap value_of is) i) now))
 asks (when.Unchanged n) key value now request is = (ap key_of is, ap value_of is, is ∙ (λ i. Cas (sym (ap key_of is) i) (sym (ap value_of is) i) n now))
+
+-- it takes as many rows as the pair's item
+pub asks_rows : (w : When) (key value : List ℕ) (now : ℕ) (request : Request) → request ≡ request_of w key value now
+    → rows_of request ≡ span_of key value
+asks_rows w key value now request is = let same = asks w key value now request is in λ t. span_of (same.0 t) (same.1 t)
 
 -- the search found the key's own word
 pub own_target : (b : Board) (key : List ℕ) (found : Option Target) (target : Target) (p : Pass) → Finds b key found p → own_word found ≡ Some target → IsTarget b key target p × (target.word ≢ 0)

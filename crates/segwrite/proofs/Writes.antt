@@ -1,7 +1,8 @@
 -- A write of a key, from the take of the bit to its answer: what was found, what the cache replies, and each way in which it ends.
-use Rattle.std.proofs.Common.{◌≡◌, ◌≢◌, ℕ, ◌+◌, ◌^◌, ◌<◌, true, false, is_some, List, [], ◌∷◌, Option, Some, None, refl, sym, ap, ◌∙◌, subst, inl, inr, ⊎_elim}
+use Rattle.std.proofs.Common.{◌≡◌, ◌≢◌, ℕ, ◌+◌, ◌^◌, ◌<◌, true, false, is_some, List, [], ◌∷◌, Option, Some, None, refl, sym, ap, ◌∙◌, subst, inl, inr, ⊎_elim, arith}
+use Rattle.std.proofs.lemmas.Bool.{false≢true}
 use Rattle.std.proofs.lemmas.Option.{same_Some, none-some}
-use Rattle.segword.specs.Words.{IsKey}
+use Rattle.segword.specs.Words.{IsKey, span_of}
 use Rattle.segmodel.specs.declared.request.Reply.TheVariants.{Stored}
 use Rattle.segmodel.specs.declared.answer.WriteAnswer.TheVariants as write
 use Rattle.segmodel.specs.Words.{adds_key, after, bucket_of, key_of, reply_of_write}
@@ -11,7 +12,7 @@ use Rattle.segcore.specs.Words.{bucket_after, HasBit, IsRefusal, May, release}
 use Rattle.segbase.specs.declared.pass.PlainPart.{PlainPart}
 use Rattle.segbase.specs.Words.{AddsAtOnce, Board, current_of, IsPassOf, locked_of, number, Pass, seen, trace}
 use Rattle.segbase.specs.Words.{used_of}
-use Rattle.segstore.specs.Words.{DrawsNothing, GoesOn, has_room, HasCleanBit, Idles, IsQuiet}
+use Rattle.segstore.specs.Words.{AreRows, DrawsNothing, GoesOn, has_room_for, HasCleanBit, Idles, IsQuiet}
 use Rattle.segstore.specs.Words.{KeepsSegments, MayEnterAny, memo, peek, ReadsNothing, TakesOneBit}
 use Rattle.segstore.specs.Words.{TakesAtMost, TakesToWrite, TookToWrite}
 use Rattle.segstore.proofs.Keeping.{same_used, keeps_plain}
@@ -21,6 +22,7 @@ use Rattle.segwrite.specs.declared.write.When.{When}
 use Rattle.segcore.proofs.Moments.{begins_on}
 use Rattle.segbase.proofs.Moves.{moved_on}
 use Rattle.segstore.proofs.Refills.{idles}
+use Rattle.segstore.proofs.Idling.{goes_same}
 use Rattle.segstore.proofs.Peeking.{PeeksInto}
 use Rattle.segwrite.specs.Presence.{depends_on_key, PeeksFor}
 use Rattle.segwrite.specs.Spans.{rows_of}
@@ -34,15 +36,16 @@ use Rattle.segwrite.specs.Storing.{IsNextRow, Requests, StoresUnderBit}
 use Rattle.segwrite.specs.Refusing.{request_of, IsToldBy, reply_now, RefusesUnderBit}
 use Rattle.segwrite.proofs.Lengthening.{grows_none, in_need_wider}
 use Rattle.segwrite.proofs.Steps.{told_steps}
-use Rattle.segwrite.proofs.Refused.{asks, adds_absent, refused_goes_on, refused_undrawn, refused_peeking, refused_takes, refused_answer}
+use Rattle.segwrite.proofs.Refused.{asks, asks_rows, adds_absent, refused_goes_on, refused_undrawn, refused_peeking, refused_takes, refused_answer}
 use Rattle.segwrite.proofs.Presence.{began, may_enter, taken_moved, peek_nowhere, enters_for, enters_none, came_wider, none_present, unread_if}
 use Rattle.segwrite.proofs.Rooms.{searches_still, finds_of, as_found, DrawsOnce, HasRoom, has_room as room_for, no_room, room_steps, unroomed_steps}
-use Rattle.segwrite.proofs.Sets.{found_clean, may_free, full_goes_on, full_undrawn, full_peeking, full_takes, full_answer, stored_goes_on, stored_answer, stored_first, stored_peeking, stored_takes, stored_grows}
+use Rattle.segwrite.proofs.Sets.{found_clean, full_answer, full_goes_on, full_peeking, full_takes, full_undrawn, may_free}
+use Rattle.segwrite.proofs.Sets.{stored_answer, stored_first, stored_goes_on, stored_grows, stored_peeking, stored_takes}
 use Rattle.segstore.proofs.UnderBit.{moved_at}
 use Rattle.segstore.proofs.UnderWrite.{HasBegun, begun, took_keeps}
 
 -- all that follows where there is room, and the bit was taken
-writes_with : (b : Board) (request : Request) (told : WriteAnswer) (p s : Pass) → ¬ (has_room b.shape p ≡ false)
+writes_with : (b : Board) (request : Request) (told : WriteAnswer) (p s : Pass) → ¬ (has_room_for b.shape (rows_of request) p ≡ false)
     → locked_of p ≢ Some (bucket_of b.shape (key_of request)) → told ≢ write.NoRoom → told ≢ write.Busy
     → GoesOn b p s → IsWriteAnswer b.shape request told p s → CostsOfAnswer b.shape request told p s
     → WritesInSteps b.shape request told p s → GrowsFor b.shape request p s
@@ -67,8 +70,33 @@ refusal_costs b request write.NoRoom p s unstored some free takes none = absurd 
 refusal_costs b request write.BucketFull p s unstored some free takes none = (takes, none)
 refusal_costs b request write.Busy p s unstored some free takes none = absurd (free refl)
 
+-- there is room for the request's item exactly if there is room for the pair's
+pub same_room : (b : Board) (w : When) (request : Request) (key value : List ℕ) (now : ℕ) → request ≡ request_of w key value now → (p : Pass)
+    → has_room_for b.shape (rows_of request) p ≡ has_room_for b.shape (span_of key value) p
+same_room b w request key value now asked p = ap (λ n. has_room_for b.shape n p) (asks_rows w key value now request asked)
+
+pub has_rows : (b : Board) (w : When) (request : Request) (key value : List ℕ) (now : ℕ) → request ≡ request_of w key value now → (p : Pass)
+    → ¬ (has_room_for b.shape (span_of key value) p ≡ false) → ¬ (has_room_for b.shape (rows_of request) p ≡ false)
+has_rows b w request key value now asked p room none = room (sym (same_room b w request key value now asked p) ∙ none)
+
+-- too few rows are left
+pub ends_unstored : (b : Board) (request : Request) (p : Pass) → IsQuiet b p → has_room_for b.shape (rows_of request) p ≡ false → Writes b request write.NoRoom p p
+ends_unstored b request p quiet few = record {
+  on = goes_same b p quiet;
+  answer = refl;
+  no_room = (λ none. few, λ none. refl);
+  locked = λ has locked. absurd (false≢true (sym few ∙ has));
+  costs = record {
+    of_answer = tt;
+    steps = omega arith;
+    grows = grows_none b.shape request p p (λ bucket. refl);
+    enters = enters_none b.shape (key_of request) p p refl;
+    reads_nothing = λ is_set. refl;
+  };
+}
+
 -- the bit can't be had
-pub ends_busy : (b : Board) (request : Request) (p q : Pass) → ¬ (has_room b.shape p ≡ false)
+pub ends_busy : (b : Board) (request : Request) (p q : Pass) → ¬ (has_room_for b.shape (rows_of request) p ≡ false)
     → TakesToWrite b (bucket_of b.shape (key_of request)) false p q → TakesAtMost most_tries_for_bit p q
     → Writes b request write.Busy p q
 ends_busy b request p q room busy steps = record {
@@ -142,7 +170,7 @@ module _ (b : Board) (w : When) (request : Request) (key value words : List ℕ)
     unread_set s peeks is_set = unread_if into p s (looks.none is_set) peeks
 
     -- the cache refuses it
-    pub ends_refused : ¬ (has_room b.shape p ≡ false) → (answer : WriteAnswer) (s : Pass) → refusal ≡ Some answer
+    pub ends_refused : ¬ (has_room_for b.shape (span_of key value) p ≡ false) → (answer : WriteAnswer) (s : Pass) → refusal ≡ Some answer
         → RefusesUnderBit b request (reply_now b g request) g s → TakesAtMost (most_steps_of_refusal request) p s
         → Writes b request answer p s
     ends_refused room answer s is refuses steps =
@@ -153,7 +181,7 @@ module _ (b : Board) (w : When) (request : Request) (key value words : List ℕ)
         let free : answer ≢ write.Busy = λ busy. none-some (reply_now b g request) (sym (ap reply_of_write busy) ∙ why.0) in
         let word : answer ≢ write.BucketFull = λ full. none-some (reply_now b g request) (sym (ap reply_of_write full) ∙ why.0) in
         let unstored : answer ≢ write.Stored = λ stored. subst IsRefusal (same_Some (reply_now b g request) Stored (sym why.0 ∙ ap reply_of_write stored)) why.1 in
-        writes_with b request answer p s room took_it.unlocked some free
+        writes_with b request answer p s (has_rows b w request key value now asked p room) took_it.unlocked some free
         (refused_goes_on b request (reply_now b g request) p g g s quiet had_it still refuses)
         (refused_answer b request (reply_now b g request) p g g s quiet had_it still refuses answer why.0 why.1)
         (refusal_costs b request answer p s unstored some free (refused_takes b request (reply_now b g request) p g g s quiet had_it still refuses) undrawn)
@@ -185,7 +213,7 @@ module _ (b : Board) (w : When) (request : Request) (key value words : List ℕ)
         pub may_end : IsPassOf b r × May b.shape (trace r) (number r) (release bucket false None)
         may_end = (none.0.moved.pass, may_free b bucket p g r quiet had none.0)
 
-        pub ends_full : ¬ (has_room b.shape p ≡ false) → (s : Pass) → refusal ≡ None
+        pub ends_full : ¬ (has_room_for b.shape (span_of key value) p ≡ false) → (s : Pass) → refusal ≡ None
             → AddsAtOnce b (Freed (number r) bucket false ∷ []) r s
             → (bucket_after b.shape (trace s) bucket).holder ≡ None → s.plain ≡ r.plain → memo s ≡ memo r
             → (TakesAtMost (most_steps_of_draw b.shape) g r
@@ -201,7 +229,7 @@ module _ (b : Board) (w : When) (request : Request) (key value words : List ℕ)
             let adds = adds_absent request version (ap (λ o. reply_to request (is_some o) version) (sym (none_present b (key_of request) (moment_of request) g absent)) ∙ stored) in
             let undrawn = full_undrawn b (key_of request) p g r s quiet had_it none.0 none.2 none.1 freed' free' plain same in
             let peeks = full_peeking b (key_of request) p g r s quiet had_it none.0 none.2 none.1 freed' free' plain same in
-            writes_with b request write.BucketFull p s rows took_it.unlocked (λ e. cc) (λ e. cc)
+            writes_with b request write.BucketFull p s (has_rows b w request key value now asked p rows) took_it.unlocked (λ e. cc) (λ e. cc)
             (full_goes_on b (key_of request) p g r s quiet had_it none.0 none.2 none.1 freed' free' plain same)
             (answer.0, adds, answer.1)
             (full_takes b (key_of request) p g r s quiet had_it none.0 none.2 none.1 freed' free' plain same, undrawn)
@@ -221,14 +249,21 @@ module _ (b : Board) (w : When) (request : Request) (key value words : List ℕ)
         keeps = keeps_plain b there.own g r there.ready.moved there.ready.calm there.ready.plain (took_keeps b bucket p g quiet had)
 
         -- what storing asks for
-        pub may_store : (segment row tag : ℕ) → refusal ≡ None → (current_of p ≡ Some segment) × (used_of p segment ≡ Some row) × (row < b.shape.rows) → IsKey words → tag ≡ tag_of words
+        pub may_store : (segment row tag : ℕ) → refusal ≡ None
+            → (current_of p ≡ Some segment) × (used_of p segment ≡ Some row) × AreRows b.shape row (span_of words value)
+            → IsKey words → tag ≡ tag_of words
             → IsPassOf b r × (KeepsSegments b r × (IsNextRow b request segment row r
             × (Requests b request words value r × (IsKey words
             × (tag ≡ tag_of words × (HasCleanBit b r k × IsTarget b (key_of request) target r))))))
         may_store segment row tag unrefused next key_of_words tagged =
             let same = there.ready.plain ∙ had.plain in let a = asks w key value now request asked in
             let stored = sym (subst (IsToldBy (reply_now b g request)) unrefused told) in
-            let row_is : IsNextRow b request segment row r = record { current = ap (λ (x : PlainPart). x.current) same ∙ next.0; used = same_used p r segment same ∙ next.1; fits = next.2 } in
+            let rows : rows_of request ≡ span_of words value = asks_rows w key value now request asked ∙ ap (λ k. span_of k value) (sym copied) in
+            let row_is : IsNextRow b request segment row r = record {
+              current = ap (λ (x : PlainPart). x.current) same ∙ next.0;
+              used = same_used p r segment same ∙ next.1;
+              fits = subst (AreRows b.shape row) (sym rows) next.2;
+            } in
             let requests : Requests b request words value r = record {
               of = (a.0 ∙ sym copied, a.1);
               stored = stored
@@ -237,7 +272,7 @@ module _ (b : Board) (w : When) (request : Request) (key value words : List ℕ)
             } in
             (there.ready.moved.pass, (keeps, (row_is, (requests, (key_of_words, (tagged, (there.ready.clean, there.target_is)))))))
 
-        pub ends_stored : ¬ (has_room b.shape p ≡ false) → refusal ≡ None → (segment row : ℕ) (t s : Pass)
+        pub ends_stored : ¬ (has_room_for b.shape (span_of key value) p ≡ false) → refusal ≡ None → (segment row : ℕ) (t s : Pass)
             → StoresUnderBit b request segment row r t → KeepsSegments b t → UsesRows segment (rows_of request) r t
             → AddsAtOnce b (Freed (number t) bucket true ∷ []) t s
             → (bucket_after b.shape (trace s) bucket).holder ≡ None → s.plain ≡ t.plain → memo s ≡ memo t
@@ -255,7 +290,7 @@ module _ (b : Board) (w : When) (request : Request) (key value words : List ℕ)
             (sym (none_present b (key_of request) (moment_of request) g absent))
             ∙ subst (IsToldBy (reply_now b g request)) unrefused told) in
             let peeks = stored_peeking b request segment row p g r t s quiet had_it there.own there.ready done kept uses freed' free' plain same in
-            writes_with b request write.Stored p s rows took_it.unlocked (λ e. cc) (λ e. cc)
+            writes_with b request write.Stored p s (has_rows b w request key value now asked p rows) took_it.unlocked (λ e. cc) (λ e. cc)
             (stored_goes_on b request segment row p g r t s quiet had_it there.own there.ready done kept uses freed' free' plain same) (segment, answer.0, answer.1) (
               stored_takes b request segment row p g r t s quiet had_it there.own there.ready done kept uses freed' free' plain same,
               stored_first b request segment row p g r t s quiet had_it there.own there.ready done kept uses freed' free' plain same,

@@ -3,12 +3,20 @@ use Rattle.std.proofs.lemmas.Bool.{false≢true}
 use Rattle.segmodel.specs.Words.{bucket_of, key_of}
 use Rattle.segwrite.specs.Storing.{HasWritten}
 use Rattle.segwrite.specs.Writing.{Finds}
-use Rattle.segwrite.proofs.Writes.{at_home, may_refuse, may_tell, may_make, may_end, may_store, ends_busy, ends_refused, ends_full, ends_stored}
+use Rattle.segwrite.proofs.Writes.{at_home, has_rows, may_refuse, may_tell, may_make, may_end, may_store, same_room}
+use Rattle.segwrite.proofs.Writes.{ends_busy, ends_full, ends_refused, ends_stored, ends_unstored}
 use Rattle.segstore.proofs.Looks.{one_step}
 use Rattle.segwrite.proofs.Steps.{full_steps, grown_steps, refused_steps, stored_steps}
 use Rattle.segwrite.proofs.Refused.{asks}
 use Rattle.segstore.specs.Words.{TakesToWrite}
 use Rattle.segwrite.proofs.write.write.Goals as goal
+
+pub returns-in_default : goal.returns-in_default
+returns-in_default g c = let b = c.args.board.now in let p = c.args.pass.now in
+    record {
+      writes = ends_unstored b g.request p c.requires.0
+          (same_room b c.args.write.now.when g.request _ _ _ c.requires.1.1.1.1 p ∙ c.in_default.ensures.no_room.0 refl);
+    }
 
 pub returns-then-not-take_to_write : goal.returns-then-not-take_to_write
 returns-then-not-take_to_write g c = let b = c.args.board.now in
@@ -17,7 +25,7 @@ returns-then-not-take_to_write g c = let b = c.args.board.now in
     c.args.write.now.clock g.request c.requires.1.1.1.1).0) in
     record {
       writes = ends_busy b g.request c.args.pass.now c.take_to_write.new.pass
-          (λ none. false≢true (c.in-Ok.ensures.no_room.1 none))
+          (has_rows b c.args.write.now.when g.request _ _ _ c.requires.1.1.1.1 c.args.pass.now (λ none. false≢true (c.in-Ok.ensures.no_room.1 none)))
           (subst (λ n. TakesToWrite b n false c.args.pass.now c.take_to_write.new.pass) at
           c.if-not-take_to_write.ensures.takes) c.take_to_write.ensures.steps;
     }
