@@ -1,27 +1,31 @@
 use Rattle.std.proofs.Common.{◌≡◌, ℕ, ◌+◌, List, refl, sym, ap, ◌∙◌, subst, arith}
 use Rattle.segword.specs.Words.{IsKey, IsValue, row_of}
 use Rattle.segmodel.specs.Words.{bucket_of, key_of, Request, tag_of, value_of}
-use Rattle.segcore.specs.Words.{Holds, row_after}
+use Rattle.segcore.specs.Words.{AreOwnRows, Holds, row_after}
 use Rattle.segcore.proofs.Exact.{tagged}
 use Rattle.segcore.proofs.Limits.{low_row, low_segment}
+use Rattle.segcore.proofs.Spans.{own_first}
 use Rattle.segbase.specs.Words.{AddsEvents, Board, number, Pass, trace}
 use Rattle.segstore.specs.Words.{fills, KeepsSegments, TakesAtMost}
 use Rattle.segwrite.specs.Steps.{most_steps_of_row, most_tries_to_exchange}
 use Rattle.segwrite.specs.Storing.{HasWritten, StoresUnderBit}
 use Rattle.segwrite.specs.Spans.{rows_of}
 use Rattle.segwrite.specs.Writes.{UsesRows}
-use Rattle.segstore.proofs.Keeping.{next_is_own}
 use Rattle.segwrite.proofs.Filling.{fills_nowhere}
+use Rattle.segstore.proofs.Keeping.{next_are_own}
+use Rattle.segwrite.proofs.Storing.{rows_asked, rows_end, some_rows}
 use Rattle.segwrite.proofs.Storing.{target_later, clean_later, reply_later, may_store, has_written, stores_all, keeps_all, used_all, uses_all}
 use Rattle.segwrite.proofs.write.store.Goals as goal
 
 pub fill_row-requires-clause-own : goal.fill_row-requires-clause-own
-fill_row-requires-clause-own g c = let r = c.requires in
-    next_is_own c.args.board.now c.args.pass.now c.args.row.segment c.args.row.row r.0 r.1.0 r.1.1.0.used r.1.1.0.fits
+fill_row-requires-clause-own g c = let b = c.args.board.now in let r = c.requires in let p = c.args.pass.now in
+    subst (AreOwnRows b.shape (trace p) (number p) c.args.row.segment c.args.row.row) (rows_asked b g.request _ _ p r.1.1.1.0)
+    (next_are_own b p c.args.row.segment c.args.row.row (rows_of g.request) r.0 r.1.0 r.1.1.0.used r.1.1.0.fits)
 
 pub invariant_of-item : goal.invariant_of-item
 invariant_of-item g c = let b = c.args.board.now in let r = c.requires in
-    let own = next_is_own b c.args.pass.now c.args.row.segment c.args.row.row r.0 r.1.0 r.1.1.0.used r.1.1.0.fits in
+    let own = own_first b.shape (trace c.args.pass.now) (number c.args.pass.now) c.args.row.segment c.args.row.row (rows_of g.request) (some_rows g.request)
+    (next_are_own b c.args.pass.now c.args.row.segment c.args.row.row (rows_of g.request) r.0 r.1.0 r.1.1.0.used r.1.1.0.fits) in
     let tag = tagged c.args.write.now.sought.key in let is = r.1.1.1.1.1.0 in record {
       tag_above_zero = omega (arith, tag.0, is);
       tag_in_range = omega (arith, tag.1, is);
@@ -52,7 +56,13 @@ link-requires g c = let b = c.args.board.now in let r = c.requires in let w = c.
     let target = target_later b own _ _ (key_of g.request) pair.0 r.0 clean.bit none c.args.target found in
     let clean_now = clean_later b own _ _ (key_of g.request) pair.0 r.0 clean.bit none clean in
     let stored = reply_later b own _ _ (key_of g.request) pair.0 r.0 clean.bit none g.request refl asks.stored in
-    (pair.0.pass, ((r.1.1.1.1.1.0 ∙ ap tag_of (sym asks.of.0), refl), (target, may_store b g.request c.args.target s row _ clean_now target stored w.own pair.1 pair.2 pair.3)))
+    let rows = subst (AreOwnRows b.shape (trace c.fill_row.new.pass) (number c.fill_row.new.pass) s row) (sym (rows_asked b g.request _ _ c.args.pass.now asks)) w.own in
+    (pair.0.pass, ((r.1.1.1.1.1.0 ∙ ap tag_of (sym asks.of.0), refl), (target, may_store b g.request c.args.target s row _ clean_now target stored rows pair.1 pair.2 pair.3)))
+
+pub use_rows-requires-clause-fits : goal.use_rows-requires-clause-fits
+use_rows-requires-clause-fits g c = let b = c.args.board.now in let r = c.requires in
+    rows_end b.shape g.request c.args.row.row c.span.result r.0.valid r.1.1.0.fits
+    (c.span.ensures.rows ∙ sym (rows_asked b g.request _ _ c.args.pass.now r.1.1.1.0))
 
 pub returns-clause-stores : goal.returns-clause-stores
 returns-clause-stores g c = let b = c.args.board.now in let r = c.requires in let w = c.fill_row.ensures in
@@ -72,7 +82,9 @@ returns-clause-segments g c = let b = c.args.board.now in let r = c.requires in 
     c.use_rows.ensures c.span.ensures.rows r.1.1.1.0.of.0 r.1.1.1.0.of.1 in
     let asks = r.1.1.1.0 in
     let pair = pair_of b g.request c.args.write.now.sought.key c.args.write.now.value.now w.moved.0 c.args.row.segment c.args.row.row _ _ asks.of.0 asks.of.1 w.moved.1 w.holds r.1.1.1.1.0 w.valid in
-    subst (KeepsSegments b) counts (keeps_all b g.request c.args.target c.args.row.segment c.args.row.row _ _ _ r.1.1.0 w.moved.0 pair.0 c.link.ensures.did w.plain c.link.ensures.same.0 r.1.0)
+    subst (KeepsSegments b) counts
+    (keeps_all b g.request c.args.target c.args.row.segment c.args.row.row _ _ _ r.1.1.0 w.moved.0 pair.0 c.link.ensures.did
+    w.plain c.link.ensures.same.0 pair.1 pair.2 pair.3 r.1.0)
 
 pub returns-clause-uses : goal.returns-clause-uses
 returns-clause-uses g c = let b = c.args.board.now in let r = c.requires in let w = c.fill_row.ensures in
