@@ -1,14 +1,14 @@
 -- The key of a row that holds a pair, by the row's words: as it is read, and as another key is compared with it.
-use Rattle.std.proofs.Common.{◌≡◌, ℕ, suc, ◌+◌, ◌-◌, ◌*◌, ◌/◌, ◌<◌, ◌≤◌, ◌↔◌, List, ◌∷◌, length, get_or, take, drop, Option, Some, None, IsSome, refl, sym, ap, ◌∙◌, ⊎_elim, arith}
+use Rattle.std.proofs.Common.{◌≡◌, ℕ, suc, ◌+◌, ◌-◌, ◌*◌, ◌<◌, ◌≤◌, ◌↔◌, List, ◌∷◌, length, get_or, take, drop, Option, Some, None, IsSome, sym, ap, ◌∙◌, ⊎_elim, arith}
 use Rattle.std.proofs.lemmas.Bool.{cases_lt, false≢true}
 use Rattle.std.proofs.lemmas.Grind.{same_number_lists}
 use Rattle.std.proofs.lemmas.List.{drop_all, get_or-drop}
 use Rattle.std.specs.Int.{IsInRange}
 use Rattle.std.specs.Prelude.{IfSome, slice_index}
 use Rattle.segword.specs.KeyWords.{key_words}
-use Rattle.segword.specs.Row.{bytes_of, key_width, row_of, word_at, word_of, words_from}
+use Rattle.segword.specs.Row.{bytes_of, key_width, word_at, word_of, words_from}
 use Rattle.segword.specs.RowLayout.{key_length}
-use Rattle.segword.specs.Words.{head_width, IsKey, IsValue, row_width, span_of, value_place}
+use Rattle.segword.specs.Words.{head_width, IsKey, IsValue}
 use Rattle.segword.proofs.RowLemmas.{front_bytes, get_or-words_from, key_in_row, key_length-header, key_width-most, key_width-room, key_words-one, length-words_from}
 use Rattle.segword.proofs.WordLemmas.{AreBytes-from_All}
 use Rattle.segcore.specs.Words.{Holds, Row}

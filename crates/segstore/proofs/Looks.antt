@@ -167,12 +167,9 @@ are_words found words from count long each =
     same_number_lists found (words_at words from count) (long ∙ sym (length-words_at words from count))
     (λ k lt. let less : k < count = omega (arith, lt, long) in each k less ∙ sym (get_or-words_at words from count k less))
 
--- the words of a row that holds a pair, where each item takes one row: all, those with the key, and those with the value
+-- the words of a row that holds a pair, where each item takes one row: those with the key, and those with the value
 module _ (words : ℕ → ℕ) (key value : List ℕ) (one : item_width ≡ row_width)
     (holds : (place : ℕ) → place < row_width * span_of key value → words place ≡ slice_index (row_of key value) place) where
-  pub whole_row : row_of key value ≡ words_at words 0 row_width
-  whole_row = are_words (row_of key value) words 0 row_width (length-row_of key value ∙ one) (λ k lt. sym (holds k (omega (arith, lt, one))) ∙ ap words (omega arith))
-
   pub head_words : take head_width (row_of key value) ≡ words_at words 0 head_width
   head_words = are_words (take head_width (row_of key value)) words 0 head_width
       (length-take-le head_width (row_of key value) (omega (arith, length-row_of key value)))

@@ -1,4 +1,4 @@
-use Rattle.std.proofs.Common.{◌≡◌, ℕ, suc, ◌+◌, ◌-◌, ◌*◌, ◌<◌, ◌≤◌, get_or, length, refl, sym, ap, subst, ◌∙◌, arith}
+use Rattle.std.proofs.Common.{◌≡◌, ℕ, suc, ◌+◌, ◌-◌, ◌*◌, ◌≤◌, get_or, length, sym, ap, subst, ◌∙◌, arith}
 use Rattle.segword.specs.RowLayout.{key_length}
 use Rattle.segword.specs.Words.{head_width, item_width, row_width, span_of_header}
 use Rattle.segcore.specs.Words.{Row, row_after}

@@ -1,9 +1,9 @@
-use Rattle.std.proofs.Common.{◌≡◌, ℕ, ◌+◌, ◌-◌, ◌*◌, ◌<◌, ◌≤◌, false, eqb, get_or, set, replicate, refl, sym, ap, ◌∙◌, ⊎_elim, subst, arith, min, get_or-set_other}
+use Rattle.std.proofs.Common.{◌≡◌, ◌+◌, ◌-◌, ◌*◌, ◌≤◌, false, eqb, get_or, set, replicate, sym, ap, ◌∙◌, ⊎_elim, subst, arith, get_or-set_other}
 use Rattle.std.proofs.lemmas.Bool.{cases_eq, cases_lt, ne_eqb}
 use Rattle.std.proofs.lemmas.List.{get_or-replicate}
 use Rattle.std.specs.Prelude.{slice_index}
 use Rattle.segword.specs.Words.{item_width, most_span, row_width, span_of_header}
-use Rattle.segcore.specs.Words.{Row, row_after, span_in}
+use Rattle.segcore.specs.Words.{Row, row_after}
 use Rattle.segcore.proofs.Spans.{header_some}
 use Rattle.segbase.specs.Words.{trace}
 use Rattle.segstore.proofs.ItemRows.{past_item}

@@ -1,10 +1,9 @@
-use Rattle.std.proofs.Common.{◌≡◌, ℕ, suc, ◌+◌, ◌-◌, ◌*◌, ◌<◌, ◌≤◌, List, length, eqb, refl, sym, ap, subst, ◌∙◌, ⊎_elim, arith}
+use Rattle.std.proofs.Common.{◌≡◌, ℕ, suc, ◌-◌, ◌*◌, ◌<◌, List, length, eqb, refl, sym, ap, subst, ◌∙◌, ⊎_elim, arith}
 use Rattle.std.proofs.lemmas.Bool.{cases_eq, cond-false, false≢true, ne_eqb}
 use Rattle.std.specs.Prelude.{slice_index}
 use Rattle.segword.specs.KeyWords.{key_words}
-use Rattle.segword.specs.Row.{key_width}
 use Rattle.segword.specs.RowLayout.{key_length}
-use Rattle.segword.specs.Words.{row_width, span_of_header, value_place}
+use Rattle.segword.specs.Words.{row_width, span_of_header}
 use Rattle.segcore.specs.Words.{Row, row_after}
 use Rattle.segcore.proofs.Spans.{header_some}
 use Rattle.segbase.specs.Words.{trace}

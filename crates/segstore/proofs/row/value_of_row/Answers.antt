@@ -1,4 +1,4 @@
-use Rattle.std.proofs.Common.{◌≡◌, ℕ, ◌+◌, ◌*◌, ◌≤◌, get_or, sym, ap, subst, ◌∙◌, arith}
+use Rattle.std.proofs.Common.{◌≡◌, ◌+◌, ◌*◌, ◌≤◌, sym, ap, subst, ◌∙◌, arith}
 use Rattle.segword.specs.Words.{item_width, row_width, span_of_header, value_limit}
 use Rattle.segcore.specs.Words.{Row, row_after}
 use Rattle.segbase.specs.Words.{trace}

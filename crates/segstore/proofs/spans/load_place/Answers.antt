@@ -1,4 +1,4 @@
-use Rattle.std.proofs.Common.{◌≡◌, ◌+◌, ◌*◌, ◌/◌, ◌%◌, ◌<◌, ◌≤◌, sym, ◌∙◌, arith}
+use Rattle.std.proofs.Common.{◌≡◌, ◌%◌, sym, ◌∙◌, arith}
 use Rattle.segword.specs.Words.{place_behind, row_behind, row_width}
 use Rattle.segcore.specs.Words.{row_after}
 use Rattle.segbase.specs.Words.{trace}

@@ -1,4 +1,4 @@
-use Rattle.std.proofs.Common.{◌≡◌, ◌+◌, ◌*◌, ◌<◌, ◌∙◌, refl, sym, subst, ⊎_elim, arith, get_or, set, ap, rules, length-set, get_or-set_other, get_or-set_same}
+use Rattle.std.proofs.Common.{◌+◌, ◌*◌, ◌<◌, ◌∙◌, refl, sym, subst, ⊎_elim, arith, get_or, set, ap, rules, length-set, get_or-set_other, get_or-set_same}
 use Rattle.std.proofs.lemmas.Bool.{cases_eq}
 use Rattle.segword.specs.Words.{row_width, span_of_header}
 use Rattle.segcore.specs.Words.{Row, row_after}

@@ -1,11 +1,11 @@
-use Rattle.std.proofs.Common.{◌≡◌, ◌*◌, ◌<◌, ◌≤◌, ℕ, List, [], length, true, eqb, refl, sym, ap, ◌∙◌, arith}
+use Rattle.std.proofs.Common.{◌≡◌, ◌*◌, ◌<◌, ℕ, List, [], length, eqb, refl, ap, ◌∙◌, arith}
 use Rattle.std.specs.Prelude.{slice_index}
 use Rattle.segword.specs.RowLayout.{key_length, value_length}
-use Rattle.segword.specs.Words.{IsKey, IsValue, item_width, most_span, place_behind, row_behind, row_of, row_width, span_of, span_of_header}
-use Rattle.segcore.specs.Words.{AreOwnRows, Holds, Row, row_after, row_alone, span_in}
+use Rattle.segword.specs.Words.{IsKey, IsValue, most_span, place_behind, row_behind, row_of, row_width, span_of_header}
+use Rattle.segcore.specs.Words.{Holds, Row, row_after, row_alone, span_in}
 use Rattle.segcore.proofs.Spans.{header_some, header_span, span_one}
 use Rattle.segbase.specs.Words.{AddsAtOnce, Board, number, Pass, trace}
-use Rattle.segstore.specs.Rows.{HoldsAlso, StoresRow}
+use Rattle.segstore.specs.Rows.{StoresRow}
 use Rattle.segstore.proofs.ItemRows.{in_each, item_word, own_fewer, span_fits, words_hold}
 use Rattle.segstore.proofs.Keeping.{own_stored}
 use Rattle.segstore.proofs.Rows.{own_rows_looked, stores_nothing, stores_then}

@@ -1,5 +1,5 @@
-use Rattle.std.proofs.Common.{◌≡◌, ◌*◌, ◌<◌, ◌≤◌, ℕ, List, sym, subst, ◌∙◌, arith}
-use Rattle.segword.specs.Words.{item_width, row_width, span_of}
+use Rattle.std.proofs.Common.{◌*◌, ◌<◌, ◌≤◌, ℕ, List, sym, subst, arith}
+use Rattle.segword.specs.Words.{item_width, row_width}
 use Rattle.segcore.specs.Words.{AreOwnRows}
 use Rattle.segbase.specs.Words.{number, trace}
 use Rattle.segstore.specs.Rows.{StoresRow}
