@@ -91,7 +91,7 @@ pub record Evicting (b : Board) (segment from row taken : ℕ) (p q : Pass) : Ty
 pub evicting_first : (b : Board) (segment from : ℕ) (p : Pass) → IsQuiet b p → AreUnnamed b.shape segment from p → Evicting b segment from from 0 p p
 evicting_first b segment from p quiet none = record {
   on = record { quiet = quiet; same = refl; marked = ([], refl); seen = ([], refl); steps = inr (refl, refl) };
-  keeps = record { grew = ([], refl); linked = λ row. refl; lasts = λ row gone. gone };
+  keeps = record { grew = ([], refl); linked = λ row. refl; spans = λ row on. refl; lasts = λ row gone. gone };
   plain = refl;
   memo = refl;
   draws_nothing = λ bucket. refl;

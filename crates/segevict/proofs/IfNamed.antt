@@ -1,5 +1,5 @@
 -- What is so where each item takes one row, and else of a row that a word names.
-use Rattle.std.proofs.Common.{◌≡◌, ℕ, ◌<◌, Bool, true, false, eqb, List, MatchBool, sym, subst, ⊎_elim}
+use Rattle.std.proofs.Common.{◌≡◌, ℕ, ◌<◌, Bool, true, false, eqb, List, MatchBool, refl, sym, subst, ⊎_elim}
 use Rattle.std.proofs.lemmas.Bool.{cases_Bool}
 use Rattle.segword.specs.Words.{IsValid, most_span, Shape}
 use Rattle.segmodel.specs.Words.{bucket_of}
@@ -7,13 +7,18 @@ use Rattle.segcore.specs.Words.{Event, RowAt}
 use Rattle.segcore.proofs.Limits.{bucket_in}
 use Rattle.segevict.specs.Rows.{IfNamed, IsHomeOf}
 
-from_either : (one : Bool) (A B C : Type 0) → (A → C) → (B → C) → MatchBool one A B → C
+pub from_either : (one : Bool) (A B C : Type 0) → (A → C) → (B → C) → MatchBool one A B → C
 from_either true A B C f g is = f is
 from_either false A B C f g is = g is
 
-in_either : (one : Bool) (A B C D : Type 0) → (A → C) → (B → D) → MatchBool one A B → MatchBool one C D
+pub in_either : (one : Bool) (A B C D : Type 0) → (A → C) → (B → D) → MatchBool one A B → MatchBool one C D
 in_either true A B C D f g is = f is
 in_either false A B C D f g is = g is
+
+-- what is so in each of the two cases
+pub each_way : (one : Bool) (A B : Type 0) → (one ≡ true → A) → (one ≡ false → B) → MatchBool one A B
+each_way true A B f g = f refl
+each_way false A B f g = g refl
 
 -- so it is of a row that is named
 pub so_named : (z : Shape) (h : List Event) (b n s r : ℕ) (so : Type 0) → RowAt z b s r h n → IfNamed z h s r so → so

@@ -67,7 +67,7 @@ pub record Keeping (b : Board) (segment into cutoff row count : ℕ) (p q : Pass
 pub keeping_first : (b : Board) (segment into cutoff : ℕ) (p : Pass) → IsQuiet b p → Keeping b segment into cutoff 0 0 p p
 keeping_first b segment into cutoff p quiet = record {
   on = record { quiet = quiet; same = refl; marked = ([], refl); seen = ([], refl); steps = inr (refl, refl) };
-  keeps = record { grew = ([], refl); linked = λ row. refl; lasts = λ row gone. gone };
+  keeps = record { grew = ([], refl); linked = λ row. refl; spans = λ row on. refl; lasts = λ row gone. gone };
   uses = uses_none into p p refl refl;
   draws_nothing = λ bucket. refl;
   reads_nothing = refl;

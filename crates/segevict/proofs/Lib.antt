@@ -4,6 +4,7 @@ pub mod Unnamed
 pub mod Seeking
 pub mod Unlinking
 pub mod StoredRows
+pub mod Items
 pub mod KeyTries
 pub mod RowsOut
 pub mod EvictedRow

@@ -1,5 +1,6 @@
 -- What an eviction of a row comes to: its key is gone before, or the bit of its bucket is taken, or can't be had.
 use Rattle.std.proofs.Common.{◌≡◌, ◌≢◌, ℕ, ◌+◌, ◌≤◌, true, false, eqb, is_some, List, [], ◌∷◌, ◌++◌, Option, Some, None, refl, sym, ap, ◌∙◌, subst, inl, inr, ⊎_elim, arith}
+use Rattle.std.specs.Prelude.{IsSome}
 use Rattle.std.proofs.lemmas.Bool.{cond-true, eq-eqb, ne_eqb, false≢true}
 use Rattle.segword.specs.Words.{Item}
 use Rattle.segmodel.specs.declared.entry.Entry.TheVariants.{Evicted}
@@ -7,12 +8,11 @@ use Rattle.segmodel.specs.Words.{Begins, bucket_of, Entry, owner}
 use Rattle.segcore.specs.declared.event.Event.TheVariants.{Freed, Unlinked}
 use Rattle.segcore.specs.Event as event
 use Rattle.segcore.specs.Words.{bounced, bucket_after, Event, IsLawful, NoneAt, row_after, RowGone}
-use Rattle.segcore.specs.Words.{taken}
+use Rattle.segcore.specs.Words.{linked_in, taken}
 use Rattle.segcore.specs.declared.event.Leaving.TheVariants.{Evicts}
-use Rattle.segcore.proofs.Orderly.{linked_marked}
 use Rattle.segcore.proofs.Moments.{begins_on, seen_begins}
 use Rattle.segbase.specs.declared.pass.PlainPart.{PlainPart}
-use Rattle.segbase.specs.Words.{AddsAtOnce, AddsEvents, Board, count, HasStep, mine, number, Pass}
+use Rattle.segbase.specs.Words.{AddsAtOnce, AddsEvents, Board, count, HasStep, marked, mine, number, Pass, position}
 use Rattle.segbase.specs.Words.{seen, TakesSteps, trace}
 use Rattle.segbase.proofs.Moves.{moved_on, moved_count}
 use Rattle.segbase.proofs.Starting.{starts_on, steps_then}
@@ -24,18 +24,20 @@ use Rattle.segevict.specs.declared.eviction.EvictRowAnswer.{EvictRowAnswer}
 use Rattle.segevict.specs.declared.eviction.EvictRowAnswer.TheVariants as evict_row
 use Rattle.segevict.specs.Rows.{IsStoredIn, IsNamedAt, FindsRow, KeepsGone}
 use Rattle.segevict.specs.Tries.{StoodAtRow, TriesFor}
-use Rattle.segevict.specs.Unlinking.{TakesRow, EvictsRow}
+use Rattle.segevict.specs.Unlinking.{TakesRow, EvictsRow, IsRowAnswer}
 use Rattle.segstore.proofs.Bounces.{bounces_calm}
 use Rattle.segstore.proofs.Draws.{AreUndrawn, moved_undrawn, draws_none_then}
 use Rattle.segstore.proofs.Idling.{goes_nowhere, does_nothing}
-use Rattle.segevict.proofs.KeyTries.{no_tries, one_try, tries_after}
+use Rattle.segevict.proofs.FirstRowFacts.{named_marked}
+use Rattle.segevict.proofs.Items.{span_over}
+use Rattle.segevict.proofs.KeyTries.{no_tries, one_try, stood_after, tries_after, tries_then}
 use Rattle.segevict.proofs.Seeking.{stored_over}
 use Rattle.segstore.proofs.Still.{AreStill, no_reader}
 use Rattle.segstore.proofs.TakenBits.{AreNoTries}
 use Rattle.segstore.proofs.Peeking.{unread}
 use Rattle.segstore.proofs.UnderWrite.{HasBegun, begun, tries, took_moved, took_keeps, write_goes_on, write_adds, write_undrawn, write_peeking, write_takes}
 use Rattle.segevict.proofs.Unlinking.{named_home, named_stands}
-use Rattle.segevict.proofs.Unnamed.{gone_over}
+use Rattle.segevict.proofs.Unnamed.{ahead_first, gone_over}
 
 -- ---- calls one after another
 
@@ -54,6 +56,7 @@ calm_keeps_gone b s own p q m calm mine = record {
   grew = moved_on b own p q m;
   linked = λ row. ap (λ h. (row_after h s row).linked) m.goes_on
       ∙ own_linked b.shape m.more (trace p) (number p) s row (subst (IsLawful b.shape) m.goes_on m.pass.lawful) (subst (AreCalmIn s) (sym m.adds) calm) mine;
+  spans = λ row. span_over b own p q s row m calm mine;
   lasts = λ row. gone_over b own p q s row m calm mine;
 }
 
@@ -64,8 +67,52 @@ pub keeps_gone_then : (b : Board) (s : ℕ) (p q r : Pass) → KeepsGone b s p q
 keeps_gone_then b s p q r i j = record {
   grew = begins_on (trace p) (trace q) (trace r) i.grew j.grew;
   linked = λ row. j.linked row ∙ i.linked row;
+  spans = λ row on. j.spans row (subst IsSome (sym (i.linked row)) on) ∙ i.spans row on;
   lasts = λ row gone. j.lasts row (i.lasts row gone);
 }
+
+-- ---- a row by looks alone
+
+-- no word names the row
+pub row_is_none : (b : Board) (segment row : ℕ) (p f : Pass) → IsQuiet b p → owner b.shape segment ≡ number p → Idles b p f
+    → RowGone b.shape segment row (trace f) → EvictsRow b segment row evict_row.Left p f
+row_is_none b segment row p f quiet own i gone = record {
+  on = goes_nowhere b p f quiet i.moved i.plain i.memo;
+  plain = i.plain;
+  memo = i.memo;
+  draws_nothing = moved_undrawn b [] p f i.moved tt;
+  reads_nothing = no_reader b [] p f i.moved tt;
+  tries = no_tries b (StoodAtRow b.shape segment row p f) 1 p f i.moved;
+  answer = (keeps_gone b segment [] p f i.moved tt own, gone, (does_nothing b p f quiet i.moved i.plain i.memo).entries);
+}
+
+-- looks after an eviction of a row change nothing
+module _ (b : Board) (segment row : ℕ) (p q r : Pass) (own : owner b.shape segment ≡ number p) (i : Idles b q r) where
+  looked_after : (told : EvictRowAnswer) → EvictsRow b segment row told p q → IsRowAnswer b segment row told p r → EvictsRow b segment row told p r
+  looked_after told e answer = record {
+    on = goes_then b p q r e.on (goes_nowhere b q r e.on.quiet i.moved i.plain i.memo);
+    plain = i.plain ∙ e.plain;
+    memo = i.memo ∙ e.memo;
+    draws_nothing = draws_none_then p q r e.draws_nothing (moved_undrawn b [] q r i.moved tt);
+    reads_nothing = no_reader b [] q r i.moved tt ∙ e.reads_nothing;
+    tries = (let IsSo = StoodAtRow b.shape segment row p r in
+        tries_then b.shape (StoodAtRow b.shape segment row p q) IsSo IsSo 1 0 1 p q r
+        (λ key s. (stood_after b.shape segment key p q r i.moved.steps s.0, s.1)) (λ key s. s) (omega arith) e.tries (no_tries b IsSo 0 q r i.moved));
+    answer = answer;
+  }
+
+  stays_gone : GoesOn b p q → KeepsGone b segment q r
+  stays_gone on = keeps_gone b segment [] q r i.moved tt (own ∙ sym on.same)
+
+  pub evicted_looked : EvictsRow b segment row evict_row.Evicted p q → EvictsRow b segment row evict_row.Evicted p r
+  evicted_looked e =
+      let keeps = stays_gone e.on in let a = e.answer in let same = (does_nothing b q r e.on.quiet i.moved i.plain i.memo).entries in
+      looked_after evict_row.Evicted e (keeps_gone_then b segment p q r a.0 keeps, keeps.lasts row a.1, (a.2.0, a.2.1, same ∙ a.2.2))
+
+  pub left_looked : EvictsRow b segment row evict_row.Left p q → EvictsRow b segment row evict_row.Left p r
+  left_looked e =
+      let keeps = stays_gone e.on in let a = e.answer in let same = (does_nothing b q r e.on.quiet i.moved i.plain i.memo).entries in
+      looked_after evict_row.Left e (keeps_gone_then b segment p q r a.0 keeps, keeps.lasts row a.1, same ∙ a.2)
 
 -- ---- before the bit is taken
 
@@ -88,6 +135,14 @@ module _ (b : Board) (bucket : ℕ) (sought : Item) (p f : Pass) (quiet : IsQuie
   gone_looking : KeepsGone b sought.seg p f
   gone_looking = keeps_gone b sought.seg [] p f i.moved tt own_before
 
+  -- the row is an item's first, and the marks know its key
+  row_linked : (target : Target) → IsNamedAt b bucket sought target f → linked_in (marked p) sought.seg sought.row ≡ Some stored.key
+  row_linked target n =
+      let on = sym (gone_looking.linked sought.row) ∙ stored.linked in ⊎_elim
+      (λ gone. absurd (gone_looking.lasts sought.row gone bucket (position b.shape (trace f) target.place) n.named.0 n.named.1 n.named.2.0 n.named.2.1))
+      (λ there. named_marked b.shape (trace p) (bucket_of b.shape stored.key) there.0 sought.seg sought.row stored.key quiet.pass.lawful there.2 on)
+      (ahead_first b.shape stored.key sought.seg sought.row (trace p) quiet.pass.lawful on)
+
   -- the row's key stood then, and the row is the key's
   stood_here : (target : Target) (q : Pass) → IsNamedAt b bucket sought target f → Begins (seen f) (seen q) → TakesSteps f q → StoodAtRow b.shape sought.seg sought.row p q stored.key
   stood_here target q n later steps = (
@@ -96,7 +151,7 @@ module _ (b : Board) (bucket : ℕ) (sought : Item) (p f : Pass) (quiet : IsQuie
       starts_on p f q first.0 first.1 steps,
       (seen f, (seen_begins first.0 (trace f) first.1.until, later), named_stands b bucket sought f i.moved.pass stored target n),
     ),
-    linked_marked (trace p) sought.seg sought.row ∙ (sym (gone_looking.linked sought.row) ∙ stored.linked),
+    row_linked target n,
   )
 
   home_here : (target : Target) → IsNamedAt b bucket sought target f → bucket ≡ bucket_of b.shape stored.key
@@ -115,15 +170,7 @@ module _ (b : Board) (bucket : ℕ) (sought : Item) (p f : Pass) (quiet : IsQuie
 
   -- no word names the row
   pub row_is_gone : RowGone b.shape sought.seg sought.row (trace f) → EvictsRow b sought.seg sought.row evict_row.Left p f
-  row_is_gone gone = record {
-    on = goes_looking;
-    plain = i.plain;
-    memo = i.memo;
-    draws_nothing = undrawn_looking;
-    reads_nothing = unread_looking;
-    tries = no_tries b (StoodAtRow b.shape sought.seg sought.row p f) 1 p f i.moved;
-    answer = (gone_looking, gone, (does_nothing b p f quiet i.moved i.plain i.memo).entries);
-  }
+  row_is_gone = row_is_none b sought.seg sought.row p f quiet own_before i
 
   -- the bit can't be had
   pub row_is_barred : (q : Pass) (target : Target) → IsNamedAt b bucket sought target f → GoesOn b f q
@@ -231,8 +278,8 @@ module _ (b : Board) (bucket : ℕ) (sought : Item) (p f : Pass) (quiet : IsQuie
             gone_over b (Freed (number r) bucket false ∷ []) r s sought.seg sought.row freed.moved (tt, tt) (stored_taken.own ∙ sym t.takes.3.same) t.gone,
             (
               key,
-              linked_marked (trace p) sought.seg sought.row ∙ (sym (gone_taken.linked sought.row)
-                  ∙ (sym ((keeps_gone b sought.seg own q r t.takes.3 (tt, tt) stored_taken.own).linked sought.row) ∙ t.takes.4)),
+              row_linked target n ∙ (sym stored.linked ∙ (gone_looking.linked sought.row ∙ (sym (gone_taken.linked sought.row)
+                  ∙ (sym ((keeps_gone b sought.seg own q r t.takes.3 (tt, tt) stored_taken.own).linked sought.row) ∙ t.takes.4)))),
               write_adds b bucket f q quiet_looking begins r s own added false t.takes.3 elsewhere (tt, tt) (λ h. refl) freed free
                   ∙ (cond-true (eqb (number q) (number f)) (Evicted (number q) key sought.seg ∷ mine f) (mine f) (eq-eqb (number q) (number f) at_take)
                   ∙ (λ u. Evicted ((at_take ∙ i.moved.same) u) key sought.seg ∷ old u)),

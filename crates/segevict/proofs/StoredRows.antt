@@ -32,7 +32,7 @@ may_read_own z h pass segment row own = in_both (most_span == 1) (MayRead z h pa
     ((other : ℕ) → covers row (span_in h segment row) other ≡ true → other < z.rows → MayRead z h pass segment other)
     (inl own) (λ other covered within. inl own)
 
-some_key : (o : Option (List ℕ)) → is_some o ≡ true → (key : List ℕ) × (o ≡ Some key)
+pub some_key : (o : Option (List ℕ)) → is_some o ≡ true → (key : List ℕ) × (o ≡ Some key)
 some_key None t = absurd (false≢true t)
 some_key (Some key) t = (key, refl)
 

@@ -1,9 +1,9 @@
 -- The rows of a segment of the pass's own, each with the word of a chain that names it.
-use Rattle.std.specs.Prelude.{◌≡◌, ℕ, ◌<◌, ◌==◌, List, MatchBool, Option, Some, MatchOption}
+use Rattle.std.specs.Prelude.{◌≡◌, ℕ, ◌<◌, ◌==◌, IsSome, List, MatchBool, Option, Some, MatchOption}
 use Rattle.segword.specs.Words.{IsSameItem, Item, item_word, most_span, Shape}
 use Rattle.segmodel.specs.declared.answer.SegState.TheVariants.{InUse}
 use Rattle.segmodel.specs.Words.{Begins, bucket_of, owner, tag_of}
-use Rattle.segcore.specs.Words.{Event, row_after, RowAt, RowGone, word}
+use Rattle.segcore.specs.Words.{Event, row_after, RowAt, RowGone, span_in, word}
 use Rattle.segbase.specs.Words.{Board, cell_at, number, Pass, position, trace}
 use Rattle.segbase.specs.Words.{state_of, used_of}
 use Rattle.segwrite.specs.Words.{IsInChain, Target}
@@ -64,12 +64,15 @@ FindsRow b bucket item found p =
 
 -- ---- a walk
 
--- what the pass has seen only grew, the rows of the segment have the keys that they had,
--- and what was gone stays gone
+-- What the pass has seen only grew, the rows of the segment have the keys that they had,
+-- its items take as many rows as they took, and what was gone stays gone.
 pub record KeepsGone (b : Board) (segment : ℕ) (p q : Pass) : Type 0 where
   pub grew : Begins (trace p) (trace q)
   pub linked : (row : ℕ)
       → (row_after (trace q) segment row).linked ≡ (row_after (trace p) segment row).linked
+  pub spans : (row : ℕ)
+      → IsSome (row_after (trace p) segment row).linked
+      → span_in (trace q) segment row ≡ span_in (trace p) segment row
   pub lasts : (row : ℕ)
       → RowGone b.shape segment row (trace p)
       → RowGone b.shape segment row (trace q)

@@ -1,7 +1,7 @@
--- How many rows an item takes, as a call tells it that reads its first row.
-use Rattle.std.specs.Prelude.{◌≡◌, ℕ, ◌≤◌, ◌==◌, MatchBool}
+-- How many rows an item takes, as a call tells it by its first row, and which rows are first.
+use Rattle.std.specs.Prelude.{◌≡◌, ℕ, zero, suc, ◌+◌, ◌≤◌, ◌==◌, List, MatchBool}
 use Rattle.segword.specs.Words.{most_span}
-use Rattle.segcore.specs.Words.{span_in}
+use Rattle.segcore.specs.Words.{Event, span_in}
 use Rattle.segbase.specs.Words.{Board, Pass, trace}
 use Rattle.segstore.specs.Words.{Idles}
 use Rattle.segevict.specs.Rows.{HasRow}
@@ -13,3 +13,13 @@ TellsSpan b segment row told p q =
     MatchBool (most_span == 1)
     ((told ≡ 1) × (q ≡ p))
     (Idles b p q × (1 ≤ told) × (HasRow segment row p → told ≡ span_in (trace q) segment row))
+
+-- The first row of an item of a segment, by how many items are before it.
+-- Behind the last item it is the first row that isn't used.
+abbrev pub first_row : List Event → ℕ → ℕ → ℕ
+first_row trace segment zero = 0
+first_row trace segment (suc before) =
+    first_row trace segment before + span_in trace segment (first_row trace segment before)
+
+abbrev pub IsFirstRow : List Event → ℕ → ℕ → Type 0
+IsFirstRow trace segment row = (before : ℕ) × (first_row trace segment before ≡ row)
