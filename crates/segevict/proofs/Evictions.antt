@@ -2,7 +2,7 @@
 use Rattle.std.proofs.Common.{◌≡◌, ◌≢◌, ℕ, zero, suc, ◌+◌, ◌<◌, ◌≤◌, Bool, true, false, cond, eqb, is_some, List, [], ◌∷◌, ◌++◌, length, Option, Some, None, refl, sym, ap, ◌∙◌, subst, inl, inr, ⊎_elim, arith}
 use Rattle.std.proofs.lemmas.Bool.{cases_eq, cases_Bool, cond-true, cond-false, eq-eqb, ne_eqb, ltb-true, false≢true}
 use Rattle.std.proofs.lemmas.Option.{none-some, same_Some}
-use Rattle.segword.specs.Words.{Shape}
+use Rattle.segword.specs.Words.{most_span, Shape}
 use Rattle.segmodel.specs.declared.entry.Entry.TheVariants as entry
 use Rattle.segmodel.specs.declared.answer.EvictAnswer.TheVariants as evict
 use Rattle.segmodel.specs.declared.answer.SegState.TheVariants.{InUse, Evicted}
@@ -14,18 +14,19 @@ use Rattle.segcore.proofs.Counts.{count_both}
 use Rattle.segcore.proofs.Caches.{stands as standing_at, has_value}
 use Rattle.segcore.proofs.Standing.{coherent}
 use Rattle.segbase.specs.declared.pass.PlainPart.{PlainPart}
-use Rattle.segbase.specs.Words.{Board, count, current_of, mine, number, own_segment, Pass, seen}
+use Rattle.segbase.specs.Words.{Board, count, current_of, IsPassOf, mine, number, own_segment, Pass, seen}
 use Rattle.segbase.specs.Words.{state_in, state_of, trace, used_of, with_current, with_state}
 use Rattle.segbase.proofs.Known.{state_set, state_apart, used_kept, owner_stated, deadline_stated}
 use Rattle.segbase.proofs.Moves.{stays}
 use Rattle.segbase.proofs.Owned.{owner_of, state_there, still_pass}
-use Rattle.segstore.specs.Words.{DrawsNothing, GoesOn, IsQuiet, KeepsSegments, memo, ReadsNothing, TakesAtMost}
+use Rattle.segstore.specs.Words.{DrawsNothing, GoesOn, Idles, IsQuiet, KeepsSegments, memo, ReadsNothing, TakesAtMost}
 use Rattle.segevict.specs.Steps.{most_steps_of_evict_row}
 use Rattle.segstore.proofs.Keeping.{same_states, same_used}
+use Rattle.segstore.proofs.Refills.{idles}
 use Rattle.segevict.specs.declared.eviction.EvictRowAnswer.{EvictRowAnswer}
 use Rattle.segevict.specs.declared.eviction.EvictRowAnswer.TheVariants as evict_row
 use Rattle.segevict.specs.EvictedRow.{EvictsItem}
-use Rattle.segevict.specs.Evicting.{AreEvictions, CostsOfEvict, ended, EvictsInOrder, EvictsOver}
+use Rattle.segevict.specs.Evicting.{AreEvictions, CostsOfEvict, ended, EvictsInOrder, EvictsOver, LooksForFirst}
 use Rattle.segevict.specs.Evicting.{IsEvictAnswer, TakesOut}
 use Rattle.segevict.specs.Naming.{AreUnnamed}
 use Rattle.segevict.specs.Rows.{HasRow, KeepsGone}
@@ -33,6 +34,7 @@ use Rattle.segevict.specs.Tries.{IsInTheWay, StoodIn, TriesFor}
 use Rattle.segevict.specs.Unlinking.{EvictsRow}
 use Rattle.segstore.proofs.Draws.{draws_none_then}
 use Rattle.segevict.proofs.EvictedRow.{row_out}
+use Rattle.segevict.proofs.IfNamed.{each_way}
 use Rattle.segevict.proofs.Naming.{gone_unless_named}
 use Rattle.segevict.proofs.KeyTries.{no_tries, of_row, rows_tried_then, stood_before}
 use Rattle.segevict.proofs.RowsOut.{goes_then, keeps_gone_then}
@@ -87,6 +89,10 @@ pub record Evicting (b : Board) (segment from row taken : ℕ) (p q : Pass) : Ty
   pub tries : TriesFor b.shape (λ key. StoodIn b.shape segment key p q) rows p q
   pub order : EvictsOver b segment from rows taken p q
 
+-- the pass looks for no item's first row
+pub looks_for_none : (b : Board) (from : ℕ) (p : Pass) → IsPassOf b p → LooksForFirst b from p p
+looks_for_none b from p is = each_way (eqb most_span 1) (p ≡ p) (Idles b p p × TakesAtMost from p p) (λ one. refl) (λ several. (idles b p is, omega arith))
+
 -- before the first row
 pub evicting_first : (b : Board) (segment from : ℕ) (p : Pass) → IsQuiet b p → AreUnnamed b.shape segment from p → Evicting b segment from from 0 p p
 evicting_first b segment from p quiet none = record {
@@ -105,7 +111,7 @@ evicting_first b segment from p quiet none = record {
   rows = 0;
   at = omega arith;
   tries = no_tries b (λ key. StoodIn b.shape segment key p p) 0 p p (stays b p quiet.pass);
-  order = (refl, refl);
+  order = (refl, looks_for_none b from p quiet.pass);
 }
 
 -- the rows that no item names are used ones

@@ -9,6 +9,7 @@ pub mod KeyTries
 pub mod RowsOut
 pub mod EvictedRow
 pub mod Evictions
+pub mod EvictedItems
 pub mod Frequencies
 pub mod Relinking
 pub mod Moving

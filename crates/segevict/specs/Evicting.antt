@@ -1,7 +1,7 @@
 -- What an evict answers: how many keys it took out of the segment, each by one entry.
 -- Either no key stands there then, or the bucket of one was in the way. And what an evict costs.
-use Rattle.std.specs.Prelude.{◌≡◌, ◌≢◌, ◌↔◌, ◌⊎◌, ℕ, zero, suc, ◌+◌, ◌<◌, List, [], ◌∷◌, ◌++◌, length, Some, None}
-use Rattle.segword.specs.Words.{Shape}
+use Rattle.std.specs.Prelude.{◌≡◌, ◌≢◌, ◌↔◌, ◌⊎◌, ℕ, zero, suc, ◌+◌, ◌<◌, ◌==◌, List, [], ◌∷◌, ◌++◌, length, MatchBool, Some, None}
+use Rattle.segword.specs.Words.{most_span, Shape}
 use Rattle.segmodel.specs.declared.entry.Entry.TheVariants as entry
 use Rattle.segmodel.specs.declared.answer.EvictAnswer.TheVariants as evict
 use Rattle.segmodel.specs.declared.answer.SegState.TheVariants.{InUse, Evicted}
@@ -9,7 +9,7 @@ use Rattle.segmodel.specs.Words.{after, but_for, Entry, EvictAnswer, NoneStandsI
 use Rattle.segbase.specs.declared.pass.PlainPart.{PlainPart}
 use Rattle.segbase.specs.Words.{Board, mine, number, Pass, seen, state_of}
 use Rattle.segbase.specs.Words.{used_of, with_current, with_state}
-use Rattle.segstore.specs.Words.{DrawsNothing, GoesOn, memo, ReadsNothing}
+use Rattle.segstore.specs.Words.{DrawsNothing, GoesOn, Idles, memo, ReadsNothing, TakesAtMost}
 use Rattle.segevict.specs.declared.eviction.EvictRowAnswer.TheVariants as evict_row
 use Rattle.segevict.specs.EvictedRow.{EvictsItem}
 use Rattle.segevict.specs.Tries.{IsInTheWay, StoodIn, TriesFor}
@@ -50,11 +50,17 @@ IsEvictAnswer shape segment (evict.Busy count) p q =
 
 -- ---- rows in their order
 
+-- Where items take several rows, the pass first looks which row from this one on is an item's
+-- first, by no more loads than there are rows before this one. Where each takes one row,
+-- it does nothing.
+abbrev pub LooksForFirst : Board → ℕ → Pass → Pass → Type 0
+LooksForFirst b from p q = MatchBool (most_span == 1) (q ≡ p) (Idles b p q × TakesAtMost from p q)
+
 -- This number of rows was gone over, from this one on, each by an evict of one row. One behind an
 -- item's first row is Left, by no step.
 -- This number of their keys was taken out.
 abbrev pub EvictsOver : Board → ℕ → ℕ → ℕ → ℕ → Pass → Pass → Type 0
-EvictsOver b segment from zero count p q = (count ≡ 0) × (q ≡ p)
+EvictsOver b segment from zero count p q = (count ≡ 0) × LooksForFirst b from p q
 EvictsOver b segment from (suc rows) count p q =
     (middle : Pass)
     × (((before : ℕ) × (count ≡ before + 1) × EvictsOver b segment from rows before p middle

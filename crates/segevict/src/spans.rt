@@ -1,20 +1,22 @@
 //! Items of several rows: an eviction, a keep and a count go from the first row of an item to that of
 //! the next. Where each item has one row, they go from row to row.
-ghost use Rattle.std.specs.Prelude.{◌≡◌, ◌≢◌, ◌≤◌, ◌<◌, IfSome, IsNone, MatchOption, Some};
+ghost use Rattle.std.specs.Prelude.{◌≡◌, ◌≢◌, ℕ, ◌+◌, ◌-◌, ◌≤◌, ◌<◌, IfSome, IsNone, MatchOption, Some};
 ghost use Rattle.std.specs.Prelude.{false};
 ghost use Rattle.segmodel.specs.declared.answer.SegState.TheVariants.{InUse};
 ghost use Rattle.segmodel.specs.declared.answer.EvictAnswer.TheVariants.{NotYours};
+ghost use Rattle.segword.specs.Words.{head_width};
 ghost use Rattle.segcore.specs.Words.{RowGone, span_in};
 ghost use Rattle.segbase.specs.Words.{current_of, IsPassOf, state_of, trace, used_of};
 ghost use Rattle.segstore.specs.Words.{GoesOn, HasCleanBit, Idles, IsQuiet, KeepsSegments};
 ghost use Rattle.segstore.specs.Words.{TakesAtMost};
-ghost use Rattle.segevict.specs.Evicting.{CostsOfEvict, IsEvictAnswer};
+ghost use Rattle.segevict.specs.Evicting.{CostsOfEvict, IsEvictAnswer, LooksForFirst};
 ghost use Rattle.segevict.specs.Keeping.{KeepsItems};
 ghost use Rattle.segevict.specs.Moving.{KeepsRow, MovesRow};
 ghost use Rattle.segevict.specs.Naming.{AreUnnamed, FindsNamed};
 ghost use Rattle.segevict.specs.Rows.{IsStoredIn, IsUsedRow};
-ghost use Rattle.segevict.specs.Spans.{TellsSpan};
-ghost use Rattle.segevict.specs.Steps.{most_steps_of_evict_row, most_steps_of_keep_row};
+ghost use Rattle.segevict.specs.Spans.{IsFirstRow, TellsSpan};
+ghost use Rattle.segevict.specs.Steps.{loads_of_span, most_steps_of_evict_row};
+ghost use Rattle.segevict.specs.Steps.{most_steps_of_keep_row};
 ghost use Rattle.segevict.specs.Steps.{most_steps_to_move};
 ghost use Rattle.segevict.specs.Target.{AreNextIn, has_rows_in, IsKeepTarget, IsMoveTarget};
 ghost use Rattle.segevict.specs.Target.{IsNextIn};
@@ -47,6 +49,7 @@ fn item_at(board: &Board, pass: &mut Pass, segment: u32, row: u32) -> Option<(u3
     requires quiet { IsQuiet board.now pass.old }
     requires used { IsUsedRow segment row pass.old }
     ensures idles { Idles board.now pass.old pass.new }
+    ensures steps { TakesAtMost (head_width + 1) pass.old pass.new }
     ensures place { IfSome result (λ found. (found.1.seg ≡ segment) × (found.1.row ≡ row)) }
     ensures bucket { IfSome result (λ found. found.0 < board.now.shape.buckets) }
     ensures stored { IfSome result (λ found. IsStoredIn board.now found.0 found.1 pass.new) }
@@ -71,10 +74,17 @@ fn item_at(board: &Board, pass: &mut Pass, segment: u32, row: u32) -> Option<(u3
 }
 
 // The first row of an item from this row on, or the one behind the used rows.
+// No item names a row before this one.
 fn first_from(board: &Board, pass: &mut Pass, segment: u32, from: u32) -> u32
     requires quiet { IsQuiet board.now pass.old }
-    ensures idles { Idles board.now pass.old pass.new }
+    requires unnamed { AreUnnamed board.now.shape segment from pass.old }
+    ensures looks { LooksForFirst board.now from pass.old pass.new }
     ensures later { from ≤ result }
+    ensures within { (used : ℕ) → used_of pass.old segment ≡ Some used → result ≤ used }
+    ensures first { IsUsedRow segment result pass.new
+        → IsFirstRow (trace pass.new) segment result }
+    ensures behind { (row : ℕ) → from ≤ row → row < result
+        → RowGone board.now.shape segment row (trace pass.new) }
 {
     if MOST_SPAN == 1 {
         return from;
@@ -132,7 +142,8 @@ pub(crate) fn evict_used_row(
     requires quiet { IsQuiet board.now pass.old }
     requires used { IsUsedRow segment row pass.old }
     ensures evicts { EvictsRow board.now segment row result pass.old pass.new }
-    ensures steps { TakesAtMost (most_steps_of_evict_row result) pass.old pass.new }
+    ensures steps { TakesAtMost (most_steps_of_evict_row result - loads_of_span 1)
+        pass.old pass.new }
 {
     if MOST_SPAN == 1 {
         return evict_first_row(board, pass, segment, row);

@@ -26,11 +26,11 @@ loop-row-preserved c = let b = c.args.board.now in let l = c.loop-row in
       | in-Evicted w ↦ subst (λ n. Evicting b c.args.segment c.args.from (l.row + 1) n c.args.pass.now
           c.evict_used_row.new.pass) (sym w.evicted-is)
           (evicting_one b c.args.segment c.args.from l.row l.evicted c.args.pass.now l.pass
-          c.evict_used_row.new.pass l.invariant has w.in-Evicted.ensures.evicts w.in-Evicted.ensures.steps)
+          c.evict_used_row.new.pass l.invariant has w.in-Evicted.ensures.evicts (let few = w.in-Evicted.ensures.steps in omega (arith, few)))
       | in-Left w ↦ subst (λ n. Evicting b c.args.segment c.args.from (l.row + 1) n c.args.pass.now
           c.evict_used_row.new.pass) (sym w.evicted-is)
           (evicting_none b c.args.segment c.args.from l.row l.evicted c.args.pass.now l.pass
-          c.evict_used_row.new.pass l.invariant has w.in-Left.ensures.evicts w.in-Left.ensures.steps)
+          c.evict_used_row.new.pass l.invariant has w.in-Left.ensures.evicts (let few = w.in-Left.ensures.steps in omega (arith, few)))
     ]
 
 pub returns-clause-on : goal.returns-clause-on
@@ -52,7 +52,7 @@ returns-clause-answer c = let l = c.loop-row in let r = c.requires in let done =
 pub returns-in-Busy-clause-costs : goal.returns-in-Busy-clause-costs
 returns-in-Busy-clause-costs c = let l = c.loop-row in let r = c.requires in
     barred_costs c.args.board.now c.args.segment c.args.from l.row l.evicted c.args.pass.now l.pass r.in_use r.ended l.invariant c.evict_used_row.new.pass c.in-Busy.ensures.evicts
-    c.unwrap-used.result (sym c.used.ensures ∙ c.unwrap-used.ensures) c.loop-row-test.true c.in-Busy.ensures.steps
+    c.unwrap-used.result (sym c.used.ensures ∙ c.unwrap-used.ensures) c.loop-row-test.true (let few = c.in-Busy.ensures.steps in omega (arith, few))
 
 pub returns-clause-costs : goal.returns-clause-costs
 returns-clause-costs c = let l = c.loop-row in let r = c.requires in let done = sym c.set_state.ensures in

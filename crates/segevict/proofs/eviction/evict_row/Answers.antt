@@ -1,4 +1,4 @@
-use Rattle.std.proofs.Common.{rules, refl}
+use Rattle.std.proofs.Common.{rules, refl, arith}
 use Rattle.segevict.proofs.EvictedRow.{out_not_used, out_not_yours, row_out}
 use Rattle.segevict.proofs.eviction.evict_row.Goals as goal
 
@@ -16,5 +16,5 @@ pub returns : goal.returns
 returns c = record {
   evicts = row_out c.args.board.now c.args.segment c.args.row c.evict_used_row.result c.args.pass.now
       c.evict_used_row.new.pass (c.if-not-has_row.ensures.yes refl) c.evict_used_row.ensures.evicts
-      c.evict_used_row.ensures.steps;
+      (let few = c.evict_used_row.ensures.steps in omega (arith, few));
 }

@@ -1,5 +1,44 @@
-use Rattle.segstore.proofs.Refills.{idles}
+use Rattle.std.proofs.Common.{◌≡◌, ℕ, ◌<◌, Option, None, Some, sym, ap, ◌∙◌, arith}
+use Rattle.std.specs.Option.{unwrap_or}
+use Rattle.std.proofs.lemmas.Bool.{eq-eqb}
+use Rattle.segword.specs.Words.{most_span}
+use Rattle.segbase.specs.Words.{trace}
+use Rattle.segevict.proofs.EvictedItems.{looking_first, looking_next}
+use Rattle.segevict.proofs.Evictions.{looks_for_none, unnamed_few}
+use Rattle.segevict.proofs.Items.{each_first}
+use Rattle.segevict.proofs.Naming.{quiet_still}
 use Rattle.segevict.proofs.spans.first_from.Goals as goal
 
-pub returns-then-this-eq-MOST_SPAN-clause-idles : goal.returns-then-this-eq-MOST_SPAN-clause-idles
-returns-then-this-eq-MOST_SPAN-clause-idles c = idles _ _ c.requires.quiet.pass
+-- more rows than none are used, so it is known how many
+known : (o : Option ℕ) (from used : ℕ) → used ≡ unwrap_or o 0 → from < used → o ≡ Some used
+known None from used is lt = absurd (omega (arith, is, lt))
+known (Some n) from used is lt = ap Some (sym is)
+
+-- where each item takes one row
+pub returns-then-this-eq-MOST_SPAN-clause-looks : goal.returns-then-this-eq-MOST_SPAN-clause-looks
+returns-then-this-eq-MOST_SPAN-clause-looks c = looks_for_none c.args.board.now c.args.from c.args.pass.now c.requires.quiet.pass
+
+pub returns-then-this-eq-MOST_SPAN-clause-within : goal.returns-then-this-eq-MOST_SPAN-clause-within
+returns-then-this-eq-MOST_SPAN-clause-within c used is = unnamed_few c.args.board.now.shape c.args.segment c.args.from used c.args.pass.now c.requires.unnamed is
+
+pub returns-then-this-eq-MOST_SPAN-clause-first : goal.returns-then-this-eq-MOST_SPAN-clause-first
+returns-then-this-eq-MOST_SPAN-clause-first c used = (c.args.from, each_first (trace c.args.pass.now) c.args.segment c.args.from (eq-eqb most_span 1 c.if-this-eq-MOST_SPAN.true))
+
+-- behind the rows that are used
+pub returns-then-used-from-clause-looks : goal.returns-then-used-from-clause-looks
+returns-then-used-from-clause-looks c = looks_for_none c.args.board.now c.args.from c.args.pass.now c.requires.quiet.pass
+
+pub returns-then-used-from-clause-within : goal.returns-then-used-from-clause-within
+returns-then-used-from-clause-within c used is = unnamed_few c.args.board.now.shape c.args.segment c.args.from used c.args.pass.now c.requires.unnamed is
+
+pub loop-row-init : goal.loop-row-init
+loop-row-init c = looking_first c.args.board.now c.args.segment c.args.from c.args.pass.now c.requires.quiet
+
+pub rows_from-row-requires-clause-quiet : goal.rows_from-row-requires-clause-quiet
+rows_from-row-requires-clause-quiet c = quiet_still c.args.board.now c.args.pass.now c.loop-row.pass c.requires.quiet c.loop-row.invariant.idles
+
+pub loop-row-preserved : goal.loop-row-preserved
+loop-row-preserved c = let l = c.loop-row in let r = c.rows_from-row in
+    looking_next c.args.board.now c.args.segment c.args.from l.row c.unwrap_or-used.result r.result c.args.pass.now l.pass r.new.pass c.requires.quiet
+    (sym c.used.ensures ∙ known c.used.result c.args.from c.unwrap_or-used.result c.unwrap_or-used.ensures c.if-used-from.false) c.loop-row-test.true c.if-used-from.false
+    l.invariant r.ensures.idles r.ensures.steps r.ensures.rows
