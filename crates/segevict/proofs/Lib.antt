@@ -16,6 +16,7 @@ pub mod Moving
 pub mod KeptRows
 pub mod AfterRow
 pub mod Naming
+pub mod NamedItems
 pub mod Carrying
 pub mod OneRow
 pub mod Keeping

@@ -1,16 +1,19 @@
 -- Which rows items name, and how many: from a search along one chain to the sums over a pass's own segments.
-use Rattle.std.proofs.Common.{◌≡◌, ℕ, zero, suc, ◌+◌, ◌*◌, ◌<◌, ◌≤◌, Bool, true, false, is_some, List, [], Option, Some, None, refl, sym, ap, ◌∙◌, subst, inl, inr, arith}
+use Rattle.std.proofs.Common.{◌≡◌, ℕ, zero, suc, ◌+◌, ◌*◌, ◌<◌, ◌≤◌, Bool, true, false, eqb, is_some, List, [], Option, Some, None, refl, sym, ap, ◌∙◌, subst, inl, inr, arith}
+use Rattle.std.proofs.lemmas.Bool.{lt-ltb}
 use Rattle.std.proofs.lemmas.Nat.{div-mul-add}
 use Rattle.std.proofs.lemmas.Option.{same_Some}
-use Rattle.segword.specs.Words.{Item, Shape}
+use Rattle.segword.specs.RowLayout.{key_length, value_length}
+use Rattle.segword.specs.Words.{covers, Item, most_span, Shape}
 use Rattle.segmodel.specs.Words.{after, bucket_of, owner, StandsIn}
 use Rattle.segcore.specs.Event as event
 use Rattle.segcore.specs.Mark as mark
-use Rattle.segcore.specs.Words.{cached, Event, IsLawful, last_at, RowAt, RowGone, Slot, slot}
+use Rattle.segcore.specs.Words.{cached, Event, IsLawful, last_at, row_after, RowAt, RowGone, Slot, slot, span_in}
 use Rattle.segcore.proofs.Caches.{has_value, stands_in}
 use Rattle.segcore.proofs.Coherent.{IsStanding}
 use Rattle.segcore.proofs.Marked.{entries_marked}
 use Rattle.segcore.proofs.Moments.{begins_on, marked_begins}
+use Rattle.segcore.proofs.Spans.{header_some, span_one}
 use Rattle.segcore.proofs.Standing.{coherent}
 use Rattle.segbase.specs.Words.{Board, IsPassOf, marked, number, number_of, own_segment, Pass, position, trace}
 use Rattle.segbase.specs.Words.{HasStep, TakesSteps, used_in, used_of}
@@ -18,12 +21,14 @@ use Rattle.segbase.proofs.Starting.{has_later, since_before, since_then, steps_g
 use Rattle.segbase.proofs.Moves.{stays}
 use Rattle.segbase.proofs.Owned.{state_owned, state_there, used_there}
 use Rattle.segstore.specs.Words.{Idles, IsQuiet}
-use Rattle.segstore.proofs.Keeping.{same_used}
+use Rattle.segstore.proofs.Keeping.{owns_used, same_used}
 use Rattle.segstore.proofs.Idling.{goes_nowhere}
 use Rattle.segwrite.specs.Words.{Target}
 use Rattle.segwrite.proofs.Places.{idles_then}
-use Rattle.segevict.specs.Naming.{AreNamed, CountsRows, FindsNamed, IsNamed, or_zero, own_at, sum_below, SumsUp, Tallies, ReturnsNamed, used_at, WasNamed, WasNamedIn}
+use Rattle.segevict.specs.Naming.{AreNamed, CountsRows, FindsNamed, IsNamed, or_zero, own_at, sum_below, SumsUp, Tallies, ReturnsNamed, used_at, WasNamed, WasNamedIn, WasTaken}
 use Rattle.segevict.specs.Rows.{FindsRow, IsNamedAt, IsUsedRow}
+use Rattle.segevict.proofs.IfNamed.{each_way, in_either}
+use Rattle.segevict.proofs.Items.{in_rows, span_over}
 use Rattle.segevict.proofs.Unnamed.{gone_over}
 
 -- ---- a row
@@ -78,6 +83,24 @@ was_after : (z : Shape) (s r : ℕ) (p q f : Pass) → TakesSteps q f → WasNam
 was_after z s r p q f steps was = since_then p q f (λ start. WasNamed z s r (mark.marked start) (marked q)) (λ start. WasNamed z s r (mark.marked start) (marked f)) steps
     (λ start x. record { moment = x.moment; from = x.from; to = begins_on x.moment (marked q) (marked f) x.to (marked_begins (trace q) (trace f) (steps_grew q f steps)); named = x.named }) was
 
+-- ---- the rows of an item that was named
+
+abbrev IsOneOf : Shape → ℕ → ℕ → Pass → Pass → Type 0
+IsOneOf z s r p q = (first : ℕ) × IsUsedRow s first q × (covers first (span_in (trace q) s first) r ≡ true) × WasNamedIn z s first p q
+
+taken_map : (z : Shape) (s r : ℕ) (p q p' q' : Pass) → ((first : ℕ) → WasNamedIn z s first p q → WasNamedIn z s first p' q')
+    → ((first : ℕ) → IsUsedRow s first q → IsUsedRow s first q' × (span_in (trace q') s first ≡ span_in (trace q) s first)) → WasTaken z s r p q → WasTaken z s r p' q'
+taken_map z s r p q p' q' named used =
+    in_either (eqb most_span 1) (WasNamedIn z s r p q) (IsOneOf z s r p q) (WasNamedIn z s r p' q') (IsOneOf z s r p' q') (named r)
+    (λ x. let u = used x.0 x.1 in (x.0, u.0, subst (λ n. covers x.0 n r ≡ true) (sym u.1) x.2, named x.0 x.3))
+
+pub taken_by : (b : Board) (s row i used : ℕ) (p q : Pass) → used_of q s ≡ Some used → row < used → row ≤ i → i < row + span_in (trace q) s row
+    → WasNamedIn b.shape s row p q → WasTaken b.shape s i p q
+taken_by b s row i used p q is lt low high was = each_way (eqb most_span 1) (WasNamedIn b.shape s i p q) (IsOneOf b.shape s i p q)
+    (λ one. let header = (row_after (trace q) s row).words 0 in let rows = span_one (key_length header) (value_length header) one in
+    let same : row ≡ i = omega (arith, low, high, rows) in subst (λ r. WasNamedIn b.shape s r p q) same was)
+    (λ several. (row, (used, is, lt), in_rows row (span_in (trace q) s row) i low high, was))
+
 -- ---- how many
 
 tallies_map : (A B C D : ℕ → Type 0) → ((n : ℕ) → A n → C n) → ((n : ℕ) → B n → D n) → (n count : ℕ) → Tallies A B n count → Tallies C D n count
@@ -89,15 +112,26 @@ sums_map : (A B : ℕ → ℕ → Type 0) (most : ℕ) → ((at one : ℕ) → a
 sums_map A B most f zero sum le is = is
 sums_map A B most f (suc n) sum le (before, one, adds, rest, so) = (before, one, adds, sums_map A B most f n before (omega (arith, le)) rest, f n one (omega (arith, le)) so)
 
+taken_before : (b : Board) (s r : ℕ) (p f q : Pass) → Idles b p f → WasTaken b.shape s r f q → WasTaken b.shape s r p q
+taken_before b s r p f q i = taken_map b.shape s r f q p q (λ first was. was_before b.shape s first p f q i.moved.same i.moved.steps was) (λ first used. (used, refl))
+
+taken_after : (b : Board) (s r : ℕ) (p q f : Pass) → IsQuiet b q → owner b.shape s ≡ number q → Idles b q f → WasTaken b.shape s r p q → WasTaken b.shape s r p f
+taken_after b s r p q f quiet own i = taken_map b.shape s r p q p f (λ first was. was_after b.shape s first p q f i.moved.steps was)
+    (λ first used. (
+      (used.0, same_used q f s i.plain ∙ used.1, used.2),
+      span_over b [] q f s first i.moved tt own
+          (let few = quiet.segments.few s used.0 used.1 in let lt = used.2 in quiet.segments.rows s used.0 first used.1 (omega (arith, few, lt)) ∙ lt-ltb first used.0 lt),
+    ))
+
 finds_before : (b : Board) (s rows count : ℕ) (p f q : Pass) → Idles b p f → FindsNamed b.shape s rows count f q → FindsNamed b.shape s rows count p q
-finds_before b s rows count p f q i is = tallies_map _ _ _ _ (λ r was. was_before b.shape s r p f q i.moved.same i.moved.steps was) (λ r gone. gone) rows count is
+finds_before b s rows count p f q i is = tallies_map _ _ _ _ (λ r was. taken_before b s r p f q i was) (λ r gone. gone) rows count is
 
 are_before : (b : Board) (s rows count : ℕ) (p f q : Pass) → Idles b p f → AreNamed b.shape s rows count f q → AreNamed b.shape s rows count p q
-are_before b s rows count p f q i is = tallies_map _ _ _ _ (λ r was. was_before b.shape s r p f q i.moved.same i.moved.steps was) (λ r none. none) rows count is
+are_before b s rows count p f q i is = tallies_map _ _ _ _ (λ r was. taken_before b s r p f q i was) (λ r none. none) rows count is
 
-finds_after : (b : Board) (s rows count : ℕ) (p q r : Pass) → owner b.shape s ≡ number q → Idles b q r → FindsNamed b.shape s rows count p q → FindsNamed b.shape s rows count p r
-finds_after b s rows count p q r own i is =
-    tallies_map _ _ _ _ (λ row was. was_after b.shape s row p q r i.moved.steps was) (λ row gone. gone_over b [] q r s row i.moved tt own gone) rows count is
+pub finds_after : (b : Board) (s rows count : ℕ) (p q r : Pass) → IsQuiet b q → owner b.shape s ≡ number q → Idles b q r → FindsNamed b.shape s rows count p q → FindsNamed b.shape s rows count p r
+finds_after b s rows count p q r quiet own i is =
+    tallies_map _ _ _ _ (λ row was. taken_after b s row p q r quiet own i was) (λ row gone. gone_over b [] q r s row i.moved tt own gone) rows count is
 
 finds_none : (b : Board) (s rows count : ℕ) (p q : Pass) → IsPassOf b q → FindsNamed b.shape s rows count p q → AreNamed b.shape s rows count p q
 finds_none b s rows count p q pass is = tallies_map _ _ _ _ (λ row was. was) (λ row gone. unnamed b.shape (trace q) s row pass.lawful gone) rows count is
@@ -121,29 +155,43 @@ quiet_still b p q quiet i = (goes_nowhere b p q quiet i.moved i.plain i.memo).qu
 pub used_still : (b : Board) (s row used : ℕ) (p q : Pass) → Idles b p q → used_of p s ≡ Some used → row < used → IsUsedRow s row q
 used_still b s row used p q i is lt = (used, same_used p q s i.plain ∙ is, lt)
 
-module _ (b : Board) (s row count : ℕ) (p q r : Pass) (own : owner b.shape s ≡ number q) (c : Counting b s row count p q) (i : Idles b q r) where
+pub named_in : (b : Board) (s row : ℕ) (p q r : Pass) → Idles b p q → HasStep q r → IsNamed b.shape s row (marked r) → WasNamedIn b.shape s row p r
+named_in b s row p q r i step named =
+    let first = has_later p q r i.moved.same i.moved.steps step in
+    (first.0, first.1, record { moment = marked r; from = marked_begins first.0 (trace r) first.1.until; to = ([], refl); named = named })
+
+module _ (b : Board) (s row count used : ℕ) (p q r : Pass) (quiet : IsQuiet b p) (is : used_of p s ≡ Some used) (lt : row < used) (c : Counting b s row count p q) (i : Idles b q r) where
+  own : owner b.shape s ≡ number q
+  own = owns_used b p s used quiet.pass is ∙ sym c.idles.moved.same
+
+  found_after : FindsNamed b.shape s row count p r
+  found_after = finds_after b s row count p q r (quiet_still b p q quiet c.idles) own i c.named
+
   onward : Idles b p r
   onward = idles_then b p q r c.idles i
 
   next : suc row ≡ row + 1
   next = omega arith
 
-  named_then : HasStep p r → IsNamed b.shape s row (marked r) → WasNamedIn b.shape s row p r
-  named_then first named = (first.0, first.1, record { moment = marked r; from = marked_begins first.0 (trace r) first.1.until; to = ([], refl); named = named })
-
   pub counting_one : HasStep q r → ReturnsNamed b.shape s row true r → Counting b s (row + 1) (count + 1) p r
   counting_one first named = record {
     idles = onward;
     few = let few = c.few in omega arith;
     named = subst (λ n. FindsNamed b.shape s n (count + 1) p r) next
-        (inl (count, refl, finds_after b s row count p q r own i c.named, named_then (has_later p q r c.idles.moved.same c.idles.moved.steps first) named));
+        (inl (
+          count,
+          refl,
+          found_after,
+          taken_by b s row row used p r (same_used p r s onward.plain ∙ is) lt (omega arith)
+              (let some = header_some ((row_after (trace r) s row).words 0) in omega (arith, some)) (named_in b s row p q r c.idles first named),
+        ));
   }
 
   pub counting_none : ReturnsNamed b.shape s row false r → Counting b s (row + 1) count p r
   counting_none gone = record {
     idles = onward;
     few = let few = c.few in omega arith;
-    named = subst (λ n. FindsNamed b.shape s n count p r) next (inr (finds_after b s row count p q r own i c.named, gone));
+    named = subst (λ n. FindsNamed b.shape s n count p r) next (inr (found_after, gone));
   }
 
 -- ---- all segments of the pass's own
@@ -189,7 +237,7 @@ all_next b at used named rows count p q r quiet lt c is less i finds =
         named,
         count,
         refl,
-        sums_map _ _ at (λ n one below is. finds_after b (own_at z p n) (used_at z p n) one p q r
+        sums_map _ _ at (λ n one below is. finds_after b (own_at z p n) (used_at z p n) one p q r (quiet_still b p q quiet c.idles)
             (own_here b p quiet n (omega (arith, below, lt)) ∙ sym c.idles.moved.same) i is) at named (omega arith)
             c.sums,
         subst (λ n. FindsNamed z (own_at z p at) n count p r) (sym here) (finds_before b (own_at z p at) rows count p q r c.idles finds),

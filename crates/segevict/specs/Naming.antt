@@ -38,12 +38,14 @@ abbrev pub ReturnsNamed : Shape → ℕ → ℕ → Bool → Pass → Type 0
 ReturnsNamed shape segment row true q = IsNamed shape segment row (marked q)
 ReturnsNamed shape segment row false q = RowGone shape segment row (trace q)
 
--- the row is one of an item that was named so, the first one where each has one row
+-- The row is one of an item that was named so, the first one where each has one row.
+-- The item's first row is a used one.
 abbrev pub WasTaken : Shape → ℕ → ℕ → Pass → Pass → Type 0
 WasTaken shape segment row p q =
     MatchBool (most_span == 1)
     (WasNamedIn shape segment row p q)
-    ((first : ℕ) × (covers first (span_in (trace q) segment first) row ≡ true)
+    ((first : ℕ) × IsUsedRow segment first q
+    × (covers first (span_in (trace q) segment first) row ≡ true)
     × WasNamedIn shape segment first p q)
 
 -- ---- how many

@@ -1,5 +1,4 @@
-use Rattle.std.proofs.Common.{◌+◌, sym, subst, ◌∙◌}
-use Rattle.segstore.proofs.Keeping.{owns_used}
+use Rattle.std.proofs.Common.{◌+◌, sym, subst}
 use Rattle.segevict.specs.Naming.{ReturnsNamed}
 use Rattle.segevict.proofs.Naming.{Counting, counting_first, counting_none, counting_one, quiet_still, used_still}
 use Rattle.segevict.proofs.named.named_each_row.Goals as goal
@@ -17,10 +16,11 @@ is_named-requires-clause-used c =
 
 pub loop-row-preserved : goal.loop-row-preserved
 loop-row-preserved c = let b = c.args.board.now in let s = c.args.segment in let l = c.loop-row in let p = c.args.pass.now in let n = c.is_named in
-    let own = owns_used b p s c.args.used c.requires.quiet.pass c.requires.used ∙ sym l.invariant.idles.moved.same in elim c.if-is_named.branch [
+    let lt = c.loop-row-test.true in elim c.if-is_named.branch [
       | then-is_named w ↦ subst (λ k. Counting b s (l.row + 1) k p n.new.pass) (sym w.named-is)
-          (counting_one b s l.row l.named p l.pass n.new.pass own l.invariant n.ensures.idles n.ensures.looks
+          (counting_one b s l.row l.named c.args.used p l.pass n.new.pass c.requires.quiet c.requires.used lt l.invariant n.ensures.idles n.ensures.looks
           (subst (λ t. ReturnsNamed b.shape s l.row t n.new.pass) w.if-is_named.true n.ensures.told))
       | else-is_named w ↦ subst (λ k. Counting b s (l.row + 1) k p n.new.pass) (sym w.named-is)
-          (counting_none b s l.row l.named p l.pass n.new.pass own l.invariant n.ensures.idles (subst (λ t. ReturnsNamed b.shape s l.row t n.new.pass) w.if-is_named.false n.ensures.told))
+          (counting_none b s l.row l.named c.args.used p l.pass n.new.pass c.requires.quiet c.requires.used lt l.invariant n.ensures.idles
+          (subst (λ t. ReturnsNamed b.shape s l.row t n.new.pass) w.if-is_named.false n.ensures.told))
     ]
