@@ -1,27 +1,78 @@
 -- What the words of a chain at rest say: the pair that a word names, the bucket that the last one leads on to, and where the chain ends.
-use Rattle.std.proofs.Common.{◌≡◌, ℕ, ◌+◌, ◌-◌, ◌*◌, ◌%◌, ◌^◌, ◌<◌, ◌≤◌, true, false, ltb, List, length, Some, refl, sym, ap, ◌∙◌, subst, inl, inr, ⊎_elim, arith}
-use Rattle.std.proofs.lemmas.Bool.{cases_lt, lt-ltb, le-ltb}
-use Rattle.std.proofs.lemmas.List.{ext_get_or}
-use Rattle.std.specs.Prelude.{slice_index, Option, option_map}
-use Rattle.segword.specs.Words.{chain_word, IsChainWord, IsKey, IsValid, IsValue, Item, item_word}
-use Rattle.segword.specs.Words.{row_of, row_width, Shape}
-use Rattle.segword.proofs.RowLemmas.{length-row_of}
+use Rattle.std.proofs.Common.{◌≡◌, ℕ, ◌+◌, ◌-◌, ◌*◌, ◌%◌, ◌^◌, ◌<◌, ◌≤◌, ◌==◌, Bool, true, false, cond, ltb, nat_lt, List, length, Some, sym, refl, ap, ◌∙◌, subst, inl, inr, ⊎_elim, arith}
+use Rattle.std.proofs.lemmas.Bool.{cases_Bool, cases_lt, eqb-true, lt-ltb, le-ltb, ltb-false, ltb-true}
+use Rattle.std.specs.Prelude.{Option, option_map}
+use Rattle.segword.specs.Words.{chain_word, IsChainWord, IsKey, IsValid, IsValue, Item, item_width, item_word as word_of_item}
+use Rattle.segword.specs.Words.{most_span, place_behind, row_behind, row_of, row_width, Shape, span_of_header}
 use Rattle.segmodel.specs.Words.{Cached}
 use Rattle.segcore.specs.declared.cell.Cell.TheVariants.{OfRow}
-use Rattle.segcore.specs.Words.{bucket_after, Cell, Event, home as home_at, home_of, IsItemAt}
-use Rattle.segcore.specs.Words.{IsSegment, KeyAt, row_after, word}
+use Rattle.segcore.specs.Words.{bucket_after, Cell, Event, Holds, home as home_at, home_of, IsItemAt}
+use Rattle.segcore.specs.Words.{IsSegment, KeyAt, Row, row_after, span_in, word}
 use Rattle.segcore.proofs.Chains.{chain_of}
 use Rattle.segcore.proofs.ChainWords.{leads_on, ends_there}
 use Rattle.segcore.proofs.Limits.{few_drawn}
+use Rattle.segcore.proofs.Spans.{first_words}
 use Rattle.segcore.proofs.StepKinds.{cell_in}
 use Rattle.segbase.specs.declared.closing.Words.{Words}
 use Rattle.segbase.specs.Words.{cell_at, home_bucket, IsAtRest, Place, position, shape_of}
 use Rattle.segbase.specs.Words.{word_of_cell}
+use Rattle.segbase.specs.Closing.{HasWordsOf, rows_there, word_on}
 use Rattle.segbase.proofs.Placed.{item_home}
 use Rattle.segstore.specs.Words.{IsChained, row_part, segment_part, WasLinked}
+use Rattle.segstore.proofs.ItemRows.{item_is_pair, item_word, one_width, outside, past_item, place_fits}
 use Rattle.segstore.proofs.Words.{at_place, stood_item, segment_of_packed, row_of_packed}
 use Rattle.segread.specs.Words.{place_of}
 use Rattle.segindex.specs.Closing.{IsWordIn, IsBucketIn, IsPairAt}
+
+-- ---- a row
+
+-- a word of the item that begins in a row, or of that row alone, is what the events made it
+module _ (words : Words) (trace : List Event) (segment row place : ℕ) (rest : IsAtRest words trace) (in_table : IsSegment (shape_of words) segment)
+    (own : row < (shape_of words).rows) (inside : place < item_width) where
+  abbrev rows_all : ℕ
+  rows_all = (shape_of words).rows
+
+  abbrev there : ℕ
+  there = rows_there words segment row
+
+  abbrev row_word : ℕ
+  row_word = word_of_cell words (OfRow segment (row_behind row place) (place_behind place))
+
+  at_rest : (r n : ℕ) → r < rows_all → n < row_width → word_of_cell words (OfRow segment r n) ≡ (row_after trace segment r).words n
+  at_rest r n lt within = rest.each (OfRow segment r n) (in_table, lt, within)
+
+  -- behind the last row of the segment is 0, and nothing is stored there either
+  past_rows : rows_all ≤ row_behind row place → (row_after trace segment row).words place ≡ 0
+  past_rows past = ⊎_elim
+      (λ on. item_word trace segment row place on ∙ ap (λ (u : Row). u.words (place_behind place)) (outside (shape_of words) trace segment (row_behind row place) rest.lawful past))
+      (λ behind. ⊎_elim
+      (λ one. let single = eqb-true most_span 1 one in absurd (omega (arith, past, own, single, inside)))
+      (λ several. past_item trace segment row place several behind)
+      (cases_Bool (most_span == 1)))
+      (cases_lt place (row_width * span_in trace segment row))
+
+  item_at_rest : word_on words segment row place ≡ (row_after trace segment row).words place
+  item_at_rest = by (most_span == 1) refl
+    where
+      header : span_of_header (word_of_cell words (OfRow segment row 0)) ≡ span_in trace segment row
+      header = ap span_of_header (at_rest row 0 own (omega arith))
+
+      of : (most_span == 1) ≡ false → (here : Bool) → nat_lt place (row_width * there) ≡ here → cond here row_word 0 ≡ (row_after trace segment row).words place
+      of several true is =
+          let low = ltb-true place (row_width * there) is in let within = place_fits place inside in
+          let on : place < row_width * span_in trace segment row = omega (arith, low, header) in
+          at_rest (row_behind row place) (place_behind place) (omega (arith, low, own)) within
+          ∙ (first_words trace segment (row_behind row place) (place_behind place) within ∙ sym (item_word trace segment row place on))
+      of several false is =
+          let high = ltb-false place (row_width * there) is in ⊎_elim
+          (λ before. sym (past_item trace segment row place several (omega (arith, high, before, header))))
+          (λ past. sym (past_rows past))
+          (cases_lt (row_behind row place) rows_all)
+
+      by : (one : Bool) → (most_span == 1) ≡ one
+          → cond one (word_of_cell words (OfRow segment row place)) (cond (nat_lt place (row_width * there)) row_word 0) ≡ (row_after trace segment row).words place
+      by true is = at_rest row place own (let width = one_width is in omega (arith, width, inside))
+      by false is = of is (nat_lt place (row_width * there)) refl
 
 -- ---- a word
 
@@ -47,7 +98,7 @@ module _ (words : Words) (trace : List Event) (home at : ℕ) (place : Place) (r
     at = subst (λ b. IsItemAt z trace b (position z trace place) cell) (sym place_is.0) (subst (λ n. IsItemAt z trace home n cell) (sym place_is.1) is.1);
   }
 
-  module _ (item : Item) (of : item_word item ≡ word_of_cell words cell) where
+  module _ (item : Item) (of : word_of_item item ≡ word_of_cell words cell) where
     linked : (key : List ℕ) × (value : List ℕ) × WasLinked z place (word_of_cell words cell) key value trace
     linked = stood_item z trace place (word_of_cell words cell) rest.valid rest.lawful chained (sym same_word)
         (let low_tag = item.tag_above_zero in let e = of in omega arith)
@@ -63,13 +114,14 @@ module _ (words : Words) (trace : List Event) (home at : ℕ) (place : Place) (r
     row_in_table = let there = linked.2.in_segment in (subst (λ s. IsSegment z s) in_segment there.0, subst (λ r. r < z.rows) in_row there.1)
 
     -- and its words are those of the key's pair
-    same_row : (row : List ℕ) → length row ≡ row_width → ((n : ℕ) → n < row_width → slice_index row n ≡ word_of_cell words (OfRow item.seg item.row n)) → row_of linked.0 linked.1 ≡ row
+    same_row : (row : List ℕ) → length row ≡ item_width → HasWordsOf words item.seg item.row row → row_of linked.0 linked.1 ≡ row
     same_row row long each = let x = linked.2 in
-        ext_get_or 0 (row_of linked.0 linked.1) row (length-row_of linked.0 linked.1 ∙ sym long) (λ n less.
-        let lt : n < row_width = subst (λ m. n < m) (length-row_of linked.0 linked.1) less in
-        sym (x.holds n lt) ∙ ((λ i. (row_after trace (in_segment i) (in_row i)).words n) ∙ (sym (rest.each (OfRow item.seg item.row n) (row_in_table.0, row_in_table.1, lt)) ∙ sym (each n lt))))
+        item_is_pair trace item.seg item.row linked.0 linked.1 row x.valid.0 x.valid.1
+        (subst (λ s. Holds (row_after trace s item.row) linked.0 linked.1) in_segment
+        (subst (λ r. Holds (row_after trace (segment_part (word_of_cell words cell)) r) linked.0 linked.1) in_row x.holds))
+        long (λ n lt. each n lt ∙ item_at_rest words trace item.seg item.row n rest row_in_table.0 row_in_table.1 lt)
 
-    pub pair_is : (row : List ℕ) (result : Option (List ℕ × List ℕ)) → length row ≡ row_width → ((n : ℕ) → n < row_width → slice_index row n ≡ word_of_cell words (OfRow item.seg item.row n))
+    pub pair_is : (row : List ℕ) (result : Option (List ℕ × List ℕ)) → length row ≡ item_width → HasWordsOf words item.seg item.row row
         → ((key value : List ℕ) → IsKey key → IsValue value → row_of key value ≡ row → result ≡ Some (key, value)) → IsPairAt z trace home at result
     pair_is row result long each packed = let x = linked.2 in let key = linked.0 in let value = linked.1 in
         subst (λ r. IsPairAt z trace home at r) (sym (packed key value x.valid.0 x.valid.1 (same_row row long each))) (
