@@ -8,6 +8,7 @@ pub mod LaterReads
 pub mod Stats
 pub mod OnePass
 pub mod Probing
+pub mod FirstRows
 pub mod QuietPass
 pub mod Pairs
 pub mod AtRest

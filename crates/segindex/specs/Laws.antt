@@ -1,5 +1,6 @@
 -- Laws of quiet passes and of replies. Each is proved as the contract of a function in src/laws.rt.
-use Rattle.std.specs.Prelude.{◌≡◌, ◌≢◌, ℕ, ◌+◌, ◌*◌, ◌^◌, ◌<◌, ◌≤◌, ◌↔◌, nat_lt, is_some, IsSome, List, Some}
+use Rattle.std.specs.Prelude.{◌≡◌, ◌≢◌, ℕ, ◌+◌, ◌*◌, ◌^◌, ◌<◌, ◌≤◌, ◌↔◌, ◌==◌, nat_lt, true, is_some, IsSome, List, MatchBool, Some}
+use Rattle.segword.specs.Words.{covers, most_span}
 use Rattle.segmodel.specs.declared.request.Request.TheVariants.{Cas, Delete}
 use Rattle.segmodel.specs.declared.answer.GetsAnswer.TheVariants.{Found}
 use Rattle.segmodel.specs.declared.answer.KeepAnswer.TheVariants.{Kept}
@@ -8,7 +9,7 @@ use Rattle.segmodel.specs.Words.{after, Begins, DeleteAnswer, Entry, IsLegal, ke
 use Rattle.segmodel.specs.Words.{owner, Reply, reply_of_delete, reply_of_write, Request, SegState}
 use Rattle.segmodel.specs.Words.{stirred, WriteAnswer}
 use Rattle.segcore.specs.Words.{bounced, chained_to, entries, glanced, inside, IsSegment, linked_in}
-use Rattle.segcore.specs.Words.{width}
+use Rattle.segcore.specs.Words.{span_in, width}
 use Rattle.segbase.specs.Words.{Board, count, current_of, deadline_of, Locked, locked, locked_of}
 use Rattle.segbase.specs.Words.{marked, mine, number, Pass, seen, SinceFirst, state_of, trace}
 use Rattle.segbase.specs.Words.{used_of}
@@ -42,10 +43,24 @@ abbrev pub OwnAreInTable : Type 0
 OwnAreInTable =
     OfQuiet (λ b p. (segment : ℕ) → IsSome (state_of p segment) → IsSegment b.shape segment)
 
+-- The row is one of the rows of an item that was linked in this filling.
+abbrev pub IsOfLinkedItem : Pass → ℕ → ℕ → Type 0
+IsOfLinkedItem p segment row = (first : ℕ)
+    × IsSome (linked_in (marked p) segment first)
+    × (covers first (span_in (trace p) segment first) row ≡ true)
+
+-- Where each item takes one row, an item was linked to the row exactly if the row is used.
+-- Else it is one of the rows of an item that was linked exactly if it is used.
+abbrev pub IsUsedIfLinked : Pass → ℕ → ℕ → ℕ → Type 0
+IsUsedIfLinked p segment used row =
+    MatchBool (most_span == 1)
+    (is_some (linked_in (marked p) segment row) ≡ nat_lt row used)
+    ((row < used) ↔ IsOfLinkedItem p segment row)
+
 -- Of a segment of the pass those rows are used that an item was linked to in this filling.
 abbrev pub UsedAreLinked : Type 0
 UsedAreLinked = OfQuiet (λ b p. (segment used row : ℕ) → used_of p segment ≡ Some used
-    → row < b.shape.rows → is_some (linked_in (marked p) segment row) ≡ nat_lt row used)
+    → row < b.shape.rows → IsUsedIfLinked p segment used row)
 
 -- The segment that the pass stores into is in use.
 abbrev pub CurrentIsInUse : Type 0
