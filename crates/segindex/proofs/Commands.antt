@@ -1,6 +1,6 @@
 -- What commands leave: a pass holds what it held before, and a segment has nothing after a keep of everything.
-use Rattle.std.proofs.Common.{◌≡◌, ℕ, List, Option, Some, None, inl, inr, refl, sym, ap, subst, ◌∙◌, arith}
-use Rattle.segword.specs.Words.{Shape}
+use Rattle.std.proofs.Common.{◌≡◌, ℕ, ◌≤◌, ◌==◌, Bool, true, false, MatchBool, List, Option, Some, None, inl, inr, refl, sym, ap, subst, ◌∙◌, arith}
+use Rattle.segword.specs.Words.{most_span, Shape}
 use Rattle.segmodel.specs.Words.{after, Answer, DeleteAnswer, EvictAnswer, KeepAnswer, NoneStandsIn, RefillAnswer, Request}
 use Rattle.segmodel.specs.Words.{SegState, WriteAnswer}
 use Rattle.segmodel.specs.declared.answer.Answer.TheVariants as answer
@@ -15,7 +15,8 @@ use Rattle.segmodel.specs.declared.request.Request.TheVariants as request
 use Rattle.segbase.specs.Words.{Board, holding, Memo, Pass, seen, state_of}
 use Rattle.segstore.specs.Words.{IsQuiet, memo}
 use Rattle.segwrite.specs.Words.{IsDeleteAnswer, IsWriteAnswer}
-use Rattle.segevict.specs.Words.{IsEvictAnswer, IsKeepAnswer, KeepsItems}
+use Rattle.segevict.specs.Keeping.{UsesSome}
+use Rattle.segevict.specs.Words.{IsEvictAnswer, IsKeepAnswer, KeepsItems, UsesRows}
 use Rattle.segindex.specs.Commands.{AnswersCommand}
 use Rattle.segindex.specs.Refilling.{IsRefillAnswer}
 
@@ -38,17 +39,26 @@ delete_holds shape key now delete.Deleted p q is = held_then p q is.2
 delete_holds shape key now delete.NotFound p q is = held_then p q is.2
 delete_holds shape key now delete.Busy p q is = held_then p q is.0.memo
 
+by_case : (b : Bool) {A B C : Type 0} → (A → C) → (B → C) → MatchBool b A B → C
+by_case true f g is = f is
+by_case false f g is = g is
+
+-- as many rows as items are used, or where an item takes several, as many or more
+moves_hold : (into count : ℕ) (p q : Pass) → UsesSome into count p q → holding q ≡ holding p
+moves_hold into count p q uses = by_case (most_span == 1) {A = UsesRows into count p q} {B = (rows : ℕ) × (count ≤ rows) × UsesRows into rows p q}
+    (λ same. held_then p q same.memo) (λ more. held_then p q more.2.memo) uses
+
 keep_holds : (shape : Shape) (segment cutoff : ℕ) (told : KeepAnswer) (p q : Pass) → IsKeepAnswer shape segment cutoff told p q → holding q ≡ holding p
 keep_holds shape segment cutoff (keep.Kept count) p q is = elim is [
-  | inl moves ↦ held_then p q moves.0.1.2.uses.memo
+  | inl moves ↦ moves_hold moves.0.1.0 count p q moves.0.1.2.uses
   | inr idle ↦ ap holding idle.2
 ]
 keep_holds shape segment cutoff keep.NotYours p q is = ap holding is
 keep_holds shape segment cutoff (keep.NoRoom count) p q is = elim is [
   | inl idle ↦ ap holding idle.3
-  | inr moves ↦ held_then p q moves.0.1.2.uses.memo
+  | inr moves ↦ moves_hold moves.0.1.0 count p q moves.0.1.2.uses
 ]
-keep_holds shape segment cutoff (keep.Busy count) p q is = held_then p q is.0.1.2.uses.memo
+keep_holds shape segment cutoff (keep.Busy count) p q is = moves_hold is.0.1.0 count p q is.0.1.2.uses
 
 evict_holds : (shape : Shape) (segment : ℕ) (told : EvictAnswer) (p q : Pass) → IsEvictAnswer shape segment told p q → holding q ≡ holding p
 evict_holds shape segment (evict.Evicted count) p q is = elim is [

@@ -12,7 +12,7 @@ use Rattle.segmodel.specs.History.{pass_of}
 use Rattle.segmodel.specs.Words.{Entry, owner, SegState}
 use Rattle.segcore.specs.declared.event.Event.TheVariants.{Refilled}
 use Rattle.segcore.specs.Event as event
-use Rattle.segcore.specs.Words.{Event, IsLawful, NoneRefills}
+use Rattle.segcore.specs.Words.{Event, IsLawful, NoneRefills, span_in}
 use Rattle.segbase.specs.declared.pass.PlainPart.{PlainPart}
 use Rattle.segbase.specs.Words.{Board, marked, mine, number, own_segment, Pass, state_of, trace, used_in, used_of}
 use Rattle.segbase.proofs.Starting.{steps_grew}
@@ -116,10 +116,10 @@ module _ (b : Board) (p q : Pass) (segment row : ℕ) (quiet : IsQuiet b p) (on 
       let grew = steps_grew p q on.steps in
       one_more_unnamed b segment row p q grew.0 quiet on grew.1 (own_events b p q segment added on entries none) (has.1.0, same ∙ has.1.1, has.1.2) free are
 
-  one_moved : (into cutoff : ℕ) (key : List ℕ) → segment ≢ into → UsesRows into 1 p q
+  one_moved : (into count cutoff : ℕ) (key : List ℕ) → segment ≢ into → UsesRows into count p q
       → CarriesItem b.shape segment row cutoff into p q key → HasRow segment row p
       → AreUnnamed b.shape segment row p → AreUnnamed b.shape segment (row + 1) q
-  one_moved into cutoff key other uses carries has = one_more (entry.Moved (number p) key segment into ∷ []) carries.entries
+  one_moved into count cutoff key other uses carries has = one_more (entry.Moved (number p) key segment into ∷ []) carries.entries
       ((λ n d is. let no : entry.Moved (number p) key segment into ≡ entry.Refilled n segment d = is in cc), tt) has (uses.others segment other) carries.left
 
 same_used : (p q : Pass) (segment : ℕ) → q.plain ≡ p.plain → used_of q segment ≡ used_of p segment
@@ -167,7 +167,7 @@ pub moved_is_unnamed : (b : Board) (p q : Pass) (segment row cutoff : ℕ) → I
     ⊎ ((into : ℕ) × KeepsItemInto b segment row cutoff into kept.Moved p q)
     → AreUnnamed b.shape segment row p → AreUnnamed b.shape segment (row + 1) q
 moved_is_unnamed b p q segment row cutoff quiet which are = ⊎_elim
-    (λ k. let a = k.answer in one_moved b p q segment row quiet k.on a.0 cutoff a.3.0 a.1.other a.2 a.3.1 (moved_has segment row p k.not_yours k.not_used) are)
+    (λ k. let a = k.answer in one_moved b p q segment row quiet k.on a.0 (span_in (trace p) segment row) cutoff a.3.0 a.1.other a.2 a.3.1 (moved_has segment row p k.not_yours k.not_used) are)
     (λ named. let k = named.1 in let a = k.answer in
-    one_moved b p q segment row quiet k.on a.0 cutoff a.3.0 (λ same. a.1.1.other (same ∙ a.1.0)) a.2 a.3.1 (moved_has segment row p k.not_yours k.not_used) are)
+    one_moved b p q segment row quiet k.on a.0 (span_in (trace p) segment row) cutoff a.3.0 (λ same. a.1.1.other (same ∙ a.1.0)) a.2 a.3.1 (moved_has segment row p k.not_yours k.not_used) are)
     which
