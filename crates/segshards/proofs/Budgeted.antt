@@ -7,10 +7,11 @@ use Rattle.segword.specs.declared.shape.ShapeFault.{ShapeFault}
 use Rattle.segword.specs.Shape.{word_count}
 use Rattle.segword.specs.Words.{Shape}
 use Rattle.segshards.specs.Budget.{bytes_of, clients_bytes, IsPlanOf, IsPlanWithin, IsShapeFor, TakesOver}
+use Rattle.segshards.specs.declared.budget.TheConstants.{MOST_ITEMS}
 use Rattle.segshards.specs.declared.plan.ShardPlan.{ShardPlan}
 
 -- a shard with the most keys takes more than 2 ^ 25 bytes
-large_words : (threads : ℕ) (shape : Shape) → IsShapeFor 262144 threads shape → 4194304 ≤ word_count shape
+large_words : (threads : ℕ) (shape : Shape) → IsShapeFor MOST_ITEMS threads shape → 4194304 ≤ word_count shape
 large_words threads shape is =
     let rows = is.room.rows in
     let spread : shape.passes * shape.segments_each * (1 + ROW_WORDS * shape.rows)
@@ -18,7 +19,7 @@ large_words threads shape is =
     omega arith in
     omega (arith, rows, spread)
 
-large_bytes : (threads count : ℕ) (shape : Shape) → IsShapeFor 262144 threads shape
+large_bytes : (threads count : ℕ) (shape : Shape) → IsShapeFor MOST_ITEMS threads shape
     → (count + 1) * 33554432 ≤ bytes_of shape count
 large_bytes threads count shape is =
     let words = large_words threads shape is in
@@ -70,8 +71,8 @@ module _ (bytes threads count : ℕ) (some : 1 ≤ count) (few : count ≤ 16384
     full = full is.full;
   }
     where
-      full : (is.each ≡ 262144) ⊎ TakesOver bytes threads (is.each + 1) plan.count
-          → ((is.each ≡ 262144) × (plan.count ≡ 16384)) ⊎ TakesOver bytes threads (is.each + 1) plan.count
+      full : (is.each ≡ MOST_ITEMS) ⊎ TakesOver bytes threads (is.each + 1) plan.count
+          → ((is.each ≡ MOST_ITEMS) × (plan.count ≡ 16384)) ⊎ TakesOver bytes threads (is.each + 1) plan.count
       full (inr over) = inr over
       full (inl most) = inl (most, all enough)
         where
@@ -96,8 +97,8 @@ module _ (bytes threads count : ℕ) (some : 1 ≤ count) (few : count ≤ 16384
     full = full is.full;
   }
     where
-      full : (is.each ≡ 262144) ⊎ TakesOver bytes threads (is.each + 1) plan.count
-          → ((is.each ≡ 262144) × (plan.count ≡ 16384)) ⊎ TakesOver bytes threads (is.each + 1) plan.count
+      full : (is.each ≡ MOST_ITEMS) ⊎ TakesOver bytes threads (is.each + 1) plan.count
+          → ((is.each ≡ MOST_ITEMS) × (plan.count ≡ 16384)) ⊎ TakesOver bytes threads (is.each + 1) plan.count
       full (inr more) = inr more
       full (inl most) =
           let large = large_bytes threads plan.count plan.shape

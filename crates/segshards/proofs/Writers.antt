@@ -79,7 +79,7 @@ module _ (keys threads writers least count each : ℕ) (are : AreWriters threads
   pub each_times : (keys ≤ each * count) × (each * count < keys + count)
   each_times = rw is_each (div_ceil_times keys count some)
 
-  each_fits : each * threads < 262144 * writers + threads
+  pub each_fits : each * threads < 262144 * writers + threads
   each_fits =
       let share : (each * count + 1) * threads ≤ (keys + count) * threads =
       mul-le-mul_right threads (omega (arith, each_times.1)) in

@@ -4,6 +4,7 @@ pub mod Clients
 pub mod Closing
 pub mod Each
 pub mod Holding
+pub mod Items
 pub mod Locality
 pub mod Many
 pub mod Noting

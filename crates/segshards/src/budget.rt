@@ -5,6 +5,7 @@ ghost use Rattle.segword.specs.Words.{IsValid};
 ghost use Rattle.segshards.specs.Budget.{bytes_of, IsShapeFor, TakesOver};
 ghost use Rattle.segshards.specs.Budget.{IsFaultOfBudget, IsPlanOf, IsPlanWithin};
 
+use crate::items::{MEAN_ROWS, shape_for_items};
 use crate::plan::{MOST_KEYS, ShardPlan};
 use crate::shard::MOST_SHARDS;
 use segclient::{Shape, ShapeFault};
@@ -38,13 +39,16 @@ fn shards_within(bytes: u64) -> u32
     small.max(large).clamp(1, MOST_SHARDS as u64) as u32
 }
 
+// So many keys a shard has at most, if their items have the mean length.
+const MOST_ITEMS: u32 = MOST_KEYS / MEAN_ROWS;
+
 // A shape for so many keys, which few enough keys have.
 fn shape_for(keys: u32, threads: u32) -> Shape
-    requires few { keys ≤ MOST_KEYS }
+    requires few { keys ≤ MOST_ITEMS }
     requires threads { IsInRange 1 64 threads }
     ensures { IsShapeFor keys threads result }
 {
-    Shape::for_keys(keys, threads).unwrap()
+    shape_for_items(keys, MEAN_ROWS, threads)
 }
 
 // How many bytes a cache takes at most, from its opening on.
@@ -74,7 +78,7 @@ fn largest_plan(bytes: u64, threads: u32, count: u32) -> Option<ShardPlan>
         return None;
     }
     let mut keys = 0;
-    let mut over = MOST_KEYS + 1;
+    let mut over = MOST_ITEMS + 1;
     while over - keys > 1 {
         let middle = keys + (over - keys) / 2;
         let tried = shape_for(middle, threads);
@@ -91,7 +95,8 @@ fn largest_plan(bytes: u64, threads: u32, count: u32) -> Option<ShardPlan>
 impl ShardPlan {
     /// Shards that take no more than this number of bytes, for so many threads: their tables, one
     /// table more while they are opened, and what their clients keep beside the tables.
-    /// They have room for as many keys as that allows. Notes and a close take more.
+    /// They have room for as many keys as that allows, whose items take one row each. In a build
+    /// for longer ones they take four on the mean. Notes and a close take more.
     /// `TooLarge`: even the smallest cache takes more.
     pub fn for_bytes(bytes: u64, threads: u32) -> Result<ShardPlan, ShapeFault>
         ensures plan { IfOk result (IsPlanWithin bytes threads) }

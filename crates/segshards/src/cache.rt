@@ -3,6 +3,7 @@ ghost use Rattle.std.specs.Prelude.{◌≡◌, ◌≤◌, [], All, Any, IfNone, 
 ghost use Rattle.segword.specs.Words.{Shape};
 ghost use Rattle.segindex.specs.Words.{shape_of};
 ghost use Rattle.segshards.specs.Budget.{AreWithin};
+ghost use Rattle.segshards.specs.Items.{HaveRoomForItems, rows_of_mean};
 ghost use Rattle.segshards.specs.Shards.{AreNew, AreOfShards, HaveRoomFor};
 ghost use Rattle.segshards.specs.Writers.{HaveRoomForWriters};
 
@@ -59,6 +60,26 @@ impl Cache {
             HaveRoomForWriters keys threads writers made.0.shards.items) }
     {
         match ShardPlan::for_writers(keys, threads, writers) {
+            Ok(plan) => Cache::of_shards(alloc, plan.shape, plan.count),
+            Err(fault) => Err(MakeFault::Shape(fault)),
+        }
+    }
+
+    /// A cache in which this number of items has room to spare, if keys and values together have so
+    /// many bytes on the mean (`ShardPlan::for_items`). The rest is as of `for_keys`.
+    pub fn for_items(
+        alloc: Global,
+        items: u32,
+        mean_bytes: u32,
+        threads: u32,
+    ) -> Result<(Cache, Vec<Vec<Pass>>), MakeFault>
+        ensures passes { IfOk result (λ made. AreOfShards made.0.shards.items made.1.items) }
+        ensures new { IfOk result (λ made.
+            (shape : Shape) × AreNew shape made.0.shards.items made.1.items) }
+        ensures room { IfOk result (λ made.
+            HaveRoomForItems items (rows_of_mean mean_bytes) threads made.0.shards.items) }
+    {
+        match ShardPlan::for_items(items, mean_bytes, threads) {
             Ok(plan) => Cache::of_shards(alloc, plan.shape, plan.count),
             Err(fault) => Err(MakeFault::Shape(fault)),
         }

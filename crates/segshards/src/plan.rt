@@ -1,6 +1,7 @@
 //! How many shards a cache has for a number of keys, and of which shape.
 ghost use Rattle.std.specs.Prelude.{◌≡◌, ◌≤◌, ◌⊎◌, IfErr, IfOk, max};
 
+use crate::items::{rows_of_mean, shape_for_items};
 use crate::shard::MOST_SHARDS;
 use segclient::{Shape, ShapeFault};
 
@@ -30,6 +31,7 @@ fn shards_for(least: u32, wanted: u64) -> u32
 }
 
 impl ShardPlan {
+    ghost use Rattle.segshards.specs.Items.{IsFaultOfItems, IsPlanForItems, rows_of_mean};
     ghost use Rattle.segshards.specs.Plan.{IsFaultOfPlan, IsPlanFor};
     ghost use Rattle.segshards.specs.Writers.{IsFaultOfWriters, IsPlanForWriters};
 
@@ -72,6 +74,27 @@ impl ShardPlan {
             overflow: chains.overflow,
             ..rows
         };
+        Ok(ShardPlan { shape, count })
+    }
+    /// Shards in which this number of items has room to spare, for so many threads, if keys and
+    /// values together have so many bytes on the mean. Where each item takes one row, it is a plan
+    /// of `for_keys`, and the bytes change nothing.
+    pub fn for_items(items: u32, mean_bytes: u32, threads: u32) -> Result<ShardPlan, ShapeFault>
+        ensures plan { IfOk result (IsPlanForItems items (rows_of_mean mean_bytes) threads) }
+        ensures fault { IfErr result (IsFaultOfItems items (rows_of_mean mean_bytes) threads) }
+    {
+        if !(1..=Shape::MOST_PASSES).contains(&threads) {
+            return Err(ShapeFault::BadPasses);
+        }
+        let rows_each = rows_of_mean(mean_bytes);
+        let rows = u64::from(items) * u64::from(rows_each);
+        let least = rows.div_ceil(u64::from(MOST_KEYS)).max(1);
+        if least > MOST_SHARDS as u64 {
+            return Err(ShapeFault::TooLarge);
+        }
+        let wanted = rows.div_ceil(u64::from(KEYS_OF_SHARD));
+        let count = shards_for(least as u32, wanted);
+        let shape = shape_for_items(items.div_ceil(count), rows_each, threads);
         Ok(ShardPlan { shape, count })
     }
 }
