@@ -9,11 +9,14 @@ use Rattle.segcache.specs.declared.status.Status.TheVariants as status
 use Rattle.segcache.specs.Exports.{Answers, ByClient, Out}
 use Rattle.segcache.specs.Reading.{GotKey, GotKeyVersion}
 
--- the key of a lookup: its bytes among those of the call, and none if they aren't all among them
-pub record IsKeyOf (keys : List ℕ) (lookup : Lookup) (key : List ℕ) : Type 0 where
-  pub inside : lookup.key_at + lookup.key_len ≤ length keys
-      → key ≡ slice_range keys lookup.key_at (lookup.key_at + lookup.key_len)
-  pub outside : ¬ (lookup.key_at + lookup.key_len ≤ length keys) → key ≡ []
+-- so many bytes from this place on, and none if they aren't all among these
+pub record AreBytesAt (bytes : List ℕ) (at len : ℕ) (found : List ℕ) : Type 0 where
+  pub inside : at + len ≤ length bytes → found ≡ slice_range bytes at (at + len)
+  pub outside : ¬ (at + len ≤ length bytes) → found ≡ []
+
+-- the key of a lookup: its bytes among those of the call
+abbrev pub IsKeyOf : List ℕ → Lookup → List ℕ → Type 0
+IsKeyOf keys lookup key = AreBytesAt keys lookup.key_at lookup.key_len key
 
 -- the place of its key stays
 pub record KeepsKey (was is : Lookup) : Type 0 where
@@ -54,3 +57,8 @@ GotMany versioned keys now was is before after returned =
     ByClient (λ why. (returned ≡ why) × (is ≡ was))
     (λ old new. (returned ≡ status.Ok) × InTurn (LooksUp versioned keys now) was is old new)
     before after
+
+-- the client is as it was
+abbrev pub LooksAhead : Option Kept → Option Kept → Status → Type 0
+LooksAhead before after returned =
+    ByClient (λ why. returned ≡ why) (λ old new. (returned ≡ status.Ok) × (new ≡ old)) before after

@@ -9,6 +9,7 @@ use Rattle.segword.specs.declared.shape.ShapeFault.{ShapeFault}
 use Rattle.segshards.specs.declared.plan.ShardPlan.{ShardPlan}
 use Rattle.segshards.specs.declared.shard.TheConstants.{MOST_SHARDS}
 use Rattle.segshards.specs.Budget.{IsFaultOfBudget, IsPlanWithin}
+use Rattle.segshards.specs.Items.{IsFaultOfItems, IsPlanForItems}
 use Rattle.segshards.specs.Plan.{IsFaultOfPlan, IsPlanFor}
 use Rattle.segshards.specs.Writers.{IsFaultOfWriters, IsPlanForWriters}
 use Rattle.segcache.specs.declared.client.SharedClient.{SharedClient}
@@ -156,6 +157,21 @@ pub record IsPlanToOpen (keys threads : ℕ) (plan : ShardPlan) : Type 0 where
 abbrev pub OpensKeys : ℕ → ℕ → Option Kept → Option Kept → List Handle → List Handle → Status
     → Type 0
 OpensKeys keys threads = OpensBy (IsPlanToOpen keys threads) (IsFaultOfPlan threads)
+
+-- In a small cache for items there is room as for as many keys as they have rows.
+pub record IsPlanToOpenItems (items rows_each threads : ℕ) (plan : ShardPlan) : Type 0 where
+  pub small : IsSmall (items * rows_each) threads → IsPlanToOpen (items * rows_each) threads plan
+  pub large : ¬ (IsSmall (items * rows_each) threads)
+      → IsPlanForItems items rows_each threads plan
+  pub some : 1 ≤ plan.count
+  pub few : plan.count ≤ MOST_SHARDS
+
+-- a cache for so many items of so many rows each, for as many threads as handles
+abbrev pub OpensItems : ℕ → ℕ → Option Kept → Option Kept → List Handle → List Handle → Status
+    → Type 0
+OpensItems items rows_each before after clients =
+    OpensBy (IsPlanToOpenItems items rows_each (length clients))
+    (IsFaultOfItems items rows_each (length clients)) before after clients
 
 -- a cache for so many writers, and as many threads as handles
 abbrev pub OpensForWriters : ℕ → ℕ → Option Kept → Option Kept → List Handle → List Handle

@@ -1,8 +1,8 @@
 //! The exports that look up several keys at a time, so that their waits for memory overlap.
 ghost use Rattle.std.specs.Prelude.{◌<◌, false, length, Some, true};
 ghost use Rattle.segcache.specs.Exports.{Answers};
-ghost use Rattle.segcache.specs.Many.{GotMany, InTurn, IsKeyOf, KeepsKey, LooksUp};
-ghost use Rattle.segcache.specs.Many.{out_of, Reads};
+ghost use Rattle.segcache.specs.Many.{AreBytesAt, GotMany, InTurn, IsKeyOf, KeepsKey, LooksAhead};
+ghost use Rattle.segcache.specs.Many.{LooksUp, out_of, Reads};
 
 use crate::client::SharedClient;
 use crate::handle::Handle;
@@ -24,6 +24,14 @@ pub struct Lookup {
     pub status: u32,
     pub version: u32,
     pub value: [u8; VALUE_BYTES],
+}
+
+/// The place of a key among the bytes of a call.
+#[repr(C)]
+#[derive(Clone, Copy, Drop)]
+pub struct KeyPlace {
+    pub key_at: usize,
+    pub key_len: usize,
 }
 
 /// Looks up each key at a moment, one after another, and writes value and status into its lookup.
@@ -65,6 +73,43 @@ pub extern "C" fn segcache_raw_gets_many(
     let status = get_many(&mut kept, keys, lookups, true, now);
     client.fill(alloc, kept);
     status.number()
+}
+
+/// Loads what gets of the first sixteen of the keys will read, so that their waits for memory overlap.
+/// No answer depends on it.
+#[unsafe(no_mangle)]
+pub extern "C" fn segcache_raw_look_ahead(
+    alloc: Global,
+    client: &mut Handle,
+    keys: &[u8],
+    places: &[KeyPlace],
+) -> u32
+    ensures { Answers result (LooksAhead client.old.value client.new.value) }
+{
+    let Some(kept) = client.take(alloc) else {
+        return Status::NoHandle.number();
+    };
+    let status = ahead_of(&kept, keys, places);
+    client.fill(alloc, kept);
+    status.number()
+}
+
+fn ahead_of(kept: &Kept, keys: &[u8], places: &[KeyPlace]) -> Status
+    ensures { LooksAhead (Some kept.now) (Some kept.now) result }
+{
+    let Kept::Client(client) = kept else {
+        return Status::NoHandle;
+    };
+    look_ahead_at(client, keys, places);
+    Status::Ok
+}
+
+// Loads what gets of the first of these keys will read, where it can pay.
+fn look_ahead_at(client: &SharedClient, keys: &[u8], places: &[KeyPlace]) {
+    if places.len() >= LEAST_AHEAD && client.is_large() {
+        let ahead: [Key; ROUND] = std::array::from_fn(|number| place_or_any(keys, places, number));
+        client.look_ahead(&ahead[..places.len().min(ROUND)]);
+    }
 }
 
 // Looks up the keys, with their versions or without.
@@ -133,12 +178,17 @@ fn read_into(
 fn key_of<'k>(keys: &'k [u8], lookup: &Lookup) -> &'k [u8]
     ensures { IsKeyOf keys.now lookup.now result.now }
 {
-    let at = lookup.key_at;
-    let len = lookup.key_len;
-    if at > keys.len() || len > keys.len() - at {
+    bytes_at(keys, lookup.key_at, lookup.key_len)
+}
+
+// So many bytes from this place on: none, unless all are among these bytes.
+fn bytes_at(bytes: &[u8], at: usize, len: usize) -> &[u8]
+    ensures { AreBytesAt bytes.now at len result.now }
+{
+    if at > bytes.len() || len > bytes.len() - at {
         return &[];
     }
-    &keys[at..at + len]
+    &bytes[at..at + len]
 }
 
 // Looks ahead for a piece of the keys, if one begins at this place.
@@ -159,12 +209,26 @@ fn look_ahead_piece(client: &SharedClient, keys: &[u8], piece: &[Lookup]) {
 
 // The key of the lookup at this place, or any key where it has none.
 fn key_or_any(keys: &[u8], piece: &[Lookup], number: usize) -> Key {
-    if let Some(lookup) = piece.get(number) {
-        if let Some(key) = Key::new(key_of(keys, lookup)) {
-            return key;
-        }
+    match piece.get(number) {
+        Some(lookup) => key_or_other(key_of(keys, lookup)),
+        None => key_or_other(&[]),
     }
-    Key::new(b"0").unwrap()
+}
+
+// The key at this place, or any key where there is none.
+fn place_or_any(keys: &[u8], places: &[KeyPlace], number: usize) -> Key {
+    match places.get(number) {
+        Some(place) => key_or_other(bytes_at(keys, place.key_at, place.key_len)),
+        None => key_or_other(&[]),
+    }
+}
+
+// These bytes as a key, or another key.
+fn key_or_other(bytes: &[u8]) -> Key {
+    match Key::new(bytes) {
+        Some(key) => key,
+        None => Key::new(b"0").unwrap(),
+    }
 }
 
 impl SharedClient {

@@ -2,8 +2,10 @@
 ghost use Rattle.std.specs.Prelude.{◌≡◌, ◌≤◌, IfErr, IfOk, length, map};
 ghost use Rattle.segcache.specs.Exports.{Answers};
 ghost use Rattle.segcache.specs.Opening.{are_empty, one_of, Opens};
-ghost use Rattle.segcache.specs.Opening.{OpensForBytes, OpensForWriters, OpensKeys};
-ghost use Rattle.segcache.specs.Opening.{IsPlanToOpen, put_in, shape_from, values_of};
+ghost use Rattle.segcache.specs.Opening.{OpensForBytes, OpensForWriters, OpensItems, OpensKeys};
+ghost use Rattle.segcache.specs.Opening.{IsPlanToOpen, IsPlanToOpenItems, put_in, shape_from};
+ghost use Rattle.segcache.specs.Opening.{values_of};
+ghost use Rattle.segshards.specs.Items.{IsFaultOfItems, rows_of_mean};
 ghost use Rattle.segshards.specs.Plan.{IsFaultOfPlan};
 ghost use Rattle.segshards.specs.declared.shard.TheConstants.{MOST_SHARDS};
 
@@ -12,7 +14,7 @@ use crate::kept::Kept;
 use crate::making::make;
 use crate::status::Status;
 use segclient::{MakeFault, Shape, ShapeFault};
-use segshards::ShardPlan;
+use segshards::{ShardPlan, rows_of_mean};
 use std::alloc::Global;
 
 // So many keys the table of a small cache has rows for, at most.
@@ -83,6 +85,42 @@ pub extern "C" fn segcache_raw_open_for_writers(
     match ShardPlan::for_writers(keys, threads, writers) {
         Ok(plan) => open(alloc, plan, cache, clients).number(),
         Err(_) => Status::BadShape.number(),
+    }
+}
+
+/// Opens a cache for so many items whose keys and values have so many bytes together on the mean,
+/// and a client for each handle, in empty handles.
+#[unsafe(no_mangle)]
+pub extern "C" fn segcache_raw_open_items(
+    alloc: Global,
+    items: u32,
+    mean_bytes: u32,
+    cache: &mut Handle,
+    clients: &mut [Handle],
+) -> u32
+    ensures { Answers result (OpensItems items (rows_of_mean mean_bytes)
+        cache.old.value cache.new.value clients.old clients.new) }
+{
+    let Ok(threads) = u32::try_from(clients.len()) else {
+        return Status::BadShape.number();
+    };
+    match plan_for_items(items, mean_bytes, threads) {
+        Ok(plan) => open(alloc, plan, cache, clients).number(),
+        Err(_) => Status::BadShape.number(),
+    }
+}
+
+// The plan of a cache for so many items. In a small one each client has room for all of them,
+// as if each of their rows were a key.
+fn plan_for_items(items: u32, mean_bytes: u32, threads: u32) -> Result<ShardPlan, ShapeFault>
+    ensures plan { IfOk result (IsPlanToOpenItems items (rows_of_mean mean_bytes) threads) }
+    ensures fault { IfErr result (IsFaultOfItems items (rows_of_mean mean_bytes) threads) }
+{
+    let rows = items.saturating_mul(rows_of_mean(mean_bytes));
+    if threads >= 2 && rows <= ROOMY_KEYS / threads {
+        plan_to_open(rows, threads)
+    } else {
+        ShardPlan::for_items(items, mean_bytes, threads)
     }
 }
 
