@@ -1,45 +1,60 @@
 -- The passes of a new index are quiet.
 use Rattle.std.proofs.Common.{refl, ◌≡◌, ℕ, zero, suc, ◌-◌, ◌≤◌, All, List, get_or, nat_le, nat_lt, cond, is_some, Some, None, option_map, replicate, slice_get, sym, ap, ◌∙◌, subst, ⊎_elim, arith, Option}
-use Rattle.std.proofs.lemmas.Bool.{cases_Bool, cond-true, cond-false, le-ltb}
+use Rattle.std.specs.Prelude.{IsSome}
+use Rattle.std.proofs.lemmas.Bool.{cases_Bool, cond-true, cond-false, false≢true, le-ltb}
 use Rattle.std.proofs.lemmas.Option.{none-some, same_Some, slice_get-get_or}
 use Rattle.segword.specs.Words.{Shape}
-use Rattle.segmodel.specs.Words.{after, NoneStandsIn}
+use Rattle.segmodel.specs.declared.answer.SegState.TheVariants.{Empty}
+use Rattle.segmodel.specs.Words.{after, NoneStandsIn, owner, SegState}
 use Rattle.segcore.specs.Event as event
 use Rattle.segcore.specs.Words.{bucket_after, inside, row_after}
 use Rattle.segbase.specs.Words.{Board, IsMade, IsNewPass, IsNewPlain, Locked, number, Pass, deadline_of, OwnSegment, deadline_in, own_segment}
-use Rattle.segbase.specs.Words.{segments_of, unfilled, used_in, used_of}
+use Rattle.segbase.specs.PlainPart.{state_in}
+use Rattle.segbase.specs.Words.{segments_of, state_of, unfilled, used_in, used_of}
+use Rattle.segbase.proofs.Owned.{state_owned}
 use Rattle.segstore.specs.Words.{is_held_in, IsQuiet, KeepsSegments}
 use Rattle.segindex.specs.Words.{Index}
 use Rattle.segindex.specs.Index.{board_of, IsNew}
 
--- what is told of a segment that was never filled is 0, be it the rows used or the deadline
-record ReturnsZero (told : Option OwnSegment → Option ℕ) : Type 0 where
+-- of a segment that was never filled this is told, be it the state, the rows used or the deadline
+record Returns {A : Type 0} (empty : A) (told : Option OwnSegment → Option A) : Type 0 where
   none : told None ≡ None
-  zero_of : told (Some unfilled) ≡ Some 0
+  empty_of : told (Some unfilled) ≡ Some empty
 
-module _ (told : Option OwnSegment → Option ℕ) (tells : ReturnsZero told) where
-  unused : (n k count : ℕ) → told (slice_get (replicate n unfilled) k) ≡ Some count → count ≡ 0
-  unused zero k count e = absurd (none-some count (sym tells.none ∙ e))
-  unused (suc n) zero count e = sym (same_Some 0 count (sym tells.zero_of ∙ e))
-  unused (suc n) (suc k) count e = unused n k count e
+module _ {A : Type 0} (empty : A) (told : Option OwnSegment → Option A) (tells : Returns empty told) where
+  unused : (n k : ℕ) (found : A) → told (slice_get (replicate n unfilled) k) ≡ Some found → found ≡ empty
+  unused zero k found e = absurd (none-some found (sym tells.none ∙ e))
+  unused (suc n) zero found e = sym (same_Some empty found (sym tells.empty_of ∙ e))
+  unused (suc n) (suc k) found e = unused n k found e
 
   -- so it is told of each segment of a new pass
-  zero_told : (b : Board) (n : ℕ) (p : Pass) (segment count : ℕ) → IsNewPlain b.shape n p.plain → told (own_segment p.plain segment) ≡ Some count → count ≡ 0
-  zero_told b n p segment count new is =
+  told_new : (b : Board) (n : ℕ) (p : Pass) (segment : ℕ) (found : A) → IsNewPlain b.shape n p.plain → told (own_segment p.plain segment) ≡ Some found → found ≡ empty
+  told_new b n p segment found new is =
       let first = p.plain.first in
       let got = slice_get (segments_of p.plain) (segment - first) in ⊎_elim
-      (λ t. unused b.shape.segments_each (segment - first) count
+      (λ t. unused b.shape.segments_each (segment - first) found
       (ap (λ l. told (slice_get l (segment - first))) (sym new.segments)
       ∙ (sym (ap told (cond-true (nat_le first segment) got None t)) ∙ is)))
-      (λ f. absurd (none-some count (sym tells.none ∙ (sym (ap told (cond-false (nat_le first segment) got None f)) ∙ is))))
+      (λ f. absurd (none-some found (sym tells.none ∙ (sym (ap told (cond-false (nat_le first segment) got None f)) ∙ is))))
       (cases_Bool (nat_le first segment))
 
 -- no row of a segment of a new pass is used, and its deadline is 0
 pub none_used : (b : Board) (n : ℕ) (p : Pass) (segment used : ℕ) → IsNewPlain b.shape n p.plain → used_of p segment ≡ Some used → used ≡ 0
-none_used = zero_told used_in (record { none = refl; zero_of = refl })
+none_used = told_new 0 used_in (record { none = refl; empty_of = refl })
 
 no_deadline : (b : Board) (n : ℕ) (p : Pass) (segment deadline : ℕ) → IsNewPlain b.shape n p.plain → deadline_of p segment ≡ Some deadline → deadline ≡ 0
-no_deadline = zero_told deadline_in (record { none = refl; zero_of = refl })
+no_deadline = told_new 0 deadline_in (record { none = refl; empty_of = refl })
+
+-- each segment of its own is empty
+no_state : (b : Board) (n : ℕ) (p : Pass) (segment : ℕ) (state : SegState) → IsNewPlain b.shape n p.plain → state_of p segment ≡ Some state → state ≡ Empty
+no_state = told_new Empty state_in (record { none = refl; empty_of = refl })
+
+pub all_empty : (b : Board) (n : ℕ) (p : Pass) (segment : ℕ) → IsNewPass b n p → owner b.shape segment ≡ n → state_of p segment ≡ Some Empty
+all_empty b n p segment new own = by (state_of p segment) refl (state_owned b p segment new.pass (own ∙ sym new.number))
+  where
+    by : (state : Option SegState) → state_of p segment ≡ state → IsSome state → state ≡ Some Empty
+    by None is known = absurd (false≢true known)
+    by (Some state) is known = ap (λ s. Some s) (no_state b n p segment state new.plain is)
 
 pub new_keeps : (b : Board) (n : ℕ) (p : Pass) → IsNewPass b n p → KeepsSegments b p
 new_keeps b n p new = record {

@@ -6,6 +6,7 @@ pub mod LaterReads
 pub mod Laws
 pub mod Linearizable
 pub mod Meeting
+pub mod NewPasses
 pub mod Noting
 pub mod Order
 pub mod Probing

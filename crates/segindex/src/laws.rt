@@ -7,6 +7,9 @@ ghost use Rattle.segindex.specs.Laws.{KeysAreFew, ChainsAreShort, AllAreOwn, NoT
 ghost use Rattle.segindex.specs.Laws.{NoLookGlanced, NobodyIsInside, BusyIsLocked, DrawnHaveJoined};
 ghost use Rattle.segindex.specs.Laws.{KeptAllLeavesNone, NothingIsStirred, WritesAtAMoment, DeletesAtAMoment};
 ghost use Rattle.segindex.specs.Laws.{CasFailsWhereWrittenSince, CasCalledLaterFails};
+ghost use Rattle.segindex.specs.NewPasses.{NewHasEmptySegments, NewHasItsNumber, NewHasItsShape};
+ghost use Rattle.segindex.specs.NewPasses.{NewHasNewPasses, NewHasNothing, NewHasSeenNothing};
+ghost use Rattle.segindex.specs.NewPasses.{NewIsQuiet};
 ghost use Rattle.segindex.specs.LaterReads.{NotedIsRead, SeenIsRead, StoodIsRead, StoredStands};
 ghost use Rattle.segindex.specs.Linearizable.{CallsAreLinearizable, DeleteHasEffect};
 ghost use Rattle.segindex.specs.Linearizable.{GetHasEffect, GetsHasEffect, HoldHasEffect};
@@ -36,6 +39,23 @@ pub fn quiet_pass()
     ensures locked { LockedIsStill }
     ensures few_keys { KeysAreFew }
     ensures few_chained { ChainsAreShort }
+{}
+
+/// A new pass is quiet, has its number and has seen nothing.
+/// Each of its segments is empty. It stores into none, has no bucket locked and holds no item.
+pub fn new_pass()
+    ensures quiet { NewIsQuiet }
+    ensures number { NewHasItsNumber }
+    ensures nothing { NewHasSeenNothing }
+    ensures empty { NewHasEmptySegments }
+    ensures free { NewHasNothing }
+{}
+
+/// A new index has the shape that was asked for, which is valid, and as many passes as that says.
+/// Each is new, and has its place for its number.
+pub fn new_index()
+    ensures shape { NewHasItsShape }
+    ensures passes { NewHasNewPasses }
 {}
 
 /// A keep with the cutoff 0 that returns Kept leaves no key in the segment.
