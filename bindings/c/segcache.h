@@ -8,11 +8,18 @@
  *     segcache_free(&cache);
  *
  * SHAPES. A key has 1 to 24 bytes, a value 0 to 32: SEGCACHE_MAX_KEY and SEGCACHE_MAX_VALUE. -DSEGCACHE_WIDE makes
- * them 250 and 4,064, for a wide build that isn't made or proved yet: until then an open returns OTHER_SIZES. A key
- * is its bytes: a final NUL counts only if the length counts it. `now` is the caller's clock, a number that grows, in
+ * them 250 and 4,064, for the library's wide build, libsegcachewide.a, which isn't proved or made yet. A key is
+ * its bytes: a final NUL counts only if the length counts it. `now` is the caller's clock, a number that grows, in
  * units of the caller's choice (seconds since the start, say). Times to live have the unit of `now`. At 4294967295 all
  * keys are absent, which milliseconds come to in 49 days. With no time to live set, any smaller number will do. A thread
  * whose `now` lags behind others' can find what has expired for them: read the clock right before each call.
+ *
+ * ROWS. The room of a cache is rows of 64 bytes. In the default build each item takes one row. In the wide build an item
+ * takes as many as hold 8 bytes, its key and its value, where key and value are rounded up to a multiple of 8, and the
+ * key to 24 at least. That is one row for a key of 24 and a value of 32, and 68 for the longest. The rows of an item
+ * stand in one segment. Of each table a client has 64 segments or more, unless a shape says otherwise. An item that has
+ * more rows than a segment is never stored: each put of it is NO_ROOM. So a client that has 4,352 rows in each table, 64
+ * times 68, can store every item.
  *
  * ANSWERS. Each call on a handle returns a status, SEGCACHE_OK or another of the list below. A null or freed
  * handle and a key or value of a bad length are answers, and the call did nothing. Only what an open or a close
@@ -132,7 +139,7 @@ typedef struct segcache_shape {
   uint32_t overflow;      /* overflow buckets, 65536 at most, each for 6 keys more of one bucket */
   uint32_t passes;        /* clients, 1 to 64 */
   uint32_t segments_each; /* segments of each client, 1 to 1024 */
-  uint32_t rows;          /* items that a segment has room for, 1 to 4096 */
+  uint32_t rows;          /* rows of a segment, 1 to 4096; in the default build each item takes one */
   uint32_t first_version; /* the version that all buckets begin with; 0 will do */
 } segcache_shape;
 
@@ -167,6 +174,8 @@ uint32_t segcache_raw_open(uint32_t keys, uint32_t threads, segcache_handle *cac
                            size_t clients_len);
 uint32_t segcache_raw_open_for_writers(uint32_t keys, uint32_t writers, segcache_handle *cache,
                                        segcache_handle *clients, size_t clients_len);
+uint32_t segcache_raw_open_items(uint32_t items, uint32_t mean_bytes, segcache_handle *cache, segcache_handle *clients,
+                                 size_t clients_len);
 uint32_t segcache_raw_open_bytes(uint64_t bytes, segcache_handle *cache, segcache_handle *clients, size_t clients_len);
 uint32_t segcache_raw_open_shape(const segcache_shape *shape, segcache_handle *cache, segcache_handle *clients,
                                  size_t clients_len);
@@ -262,6 +271,8 @@ static inline uint32_t segcache_hand_out(uint32_t status, segcache_handle made, 
    the keys, or for 65,536 / threads if that is less. A client isn't told of what others delete: where they delete what
    it stores, in the same order all the while, it can evict keys that have room. There is a table for every 200,000
    keys, and each key belongs to one of the tables by its hash. A call on a key goes to that table alone.
+   In the wide build there is room for so many keys if each item takes one row, as with 32 bytes of value: see
+   segcache_open_items for longer ones.
    It takes all memory at once, but for that of notes and of a close: 174 to 214 bytes a key and up to 8 KB a thread,
    for a small cache of several threads up to 11 MB in all, and up to 34 MB more for a moment. `cache` and
    `clients[threads]` are written, whatever they were: if they are of a cache that is still open, that one is lost. If
@@ -293,10 +304,30 @@ static inline uint32_t segcache_open_for_writers(uint32_t keys, uint32_t threads
   return segcache_hand_out(status, made, raw, count, cache, clients);
 }
 
+/* The same for so many items, whose key and value have so many bytes together on the mean. All of them have room, and
+   to spare, if the clients store about as many each. In the default build an item takes one row whatever the mean is,
+   and this is segcache_open. In the wide build the mean and 8 bytes are divided by 64 and rounded up: so many rows are
+   planned for each item, 64 at most. The cache has two rows for each planned one. It takes 134 bytes for each planned
+   row, 40 to 80 for each item, and up to 8 KB a thread. There is a table for every 200,000 planned rows. In a small
+   cache, of at most 65,536 / threads planned rows, all items have room whichever clients store them, as of
+   segcache_open. BAD_SHAPE comes also if more than 2^32 rows are planned. Answers as segcache_open. */
+static inline uint32_t segcache_open_items(uint32_t items, uint32_t mean_bytes, uint32_t threads, segcache *cache,
+                                           segcache_client *clients) {
+  segcache_handle made, raw[SEGCACHE_MAX_THREADS];
+  uint32_t status = segcache_may_open(threads);
+  uint32_t count = threads <= SEGCACHE_MAX_THREADS ? threads : SEGCACHE_MAX_THREADS;
+  memset(&made, 0, sizeof made);
+  memset(raw, 0, sizeof raw);
+  if (status == SEGCACHE_OK) status = segcache_raw_open_items(items, mean_bytes, &made, raw, count);
+  return segcache_hand_out(status, made, raw, count, cache, clients);
+}
+
 /* The same for a number of bytes: a cache for so many threads that takes no more, also while it is opened. What the
    opening needs for a moment, one table, is free afterwards: half of a budget up to 8 MiB, a ninth of 64 to 256 MiB.
-   Notes and a close take more. All threads are to store about as much each. BAD_SHAPE comes also if even the smallest
-   cache takes more, which has some 18,000 bytes for one thread. Answers as segcache_open. */
+   Notes and a close take more. All threads are to store about as much each. In the wide build an item is taken to have
+   four rows on the mean, about 230 bytes of key and value. Shorter ones run out of buckets first, and longer ones out of
+   rows; the cache takes no more than its bytes in either case. BAD_SHAPE comes also if even the smallest cache takes
+   more, which has some 18,000 bytes for one thread. Answers as segcache_open. */
 static inline uint32_t segcache_open_bytes(uint64_t bytes, uint32_t threads, segcache *cache,
                                            segcache_client *clients) {
   segcache_handle made, raw[SEGCACHE_MAX_THREADS];

@@ -63,7 +63,11 @@ uint32_t segcache_raw_open_for_writers(uint32_t keys, uint32_t writers, H cache,
   fill(cache, 1);
   return fill(clients, count);
 }
-
+uint32_t segcache_raw_open_items(uint32_t items, uint32_t mean_bytes, H cache, H clients, size_t count) {
+  tell("open_items %u %u %zu %zu %zu", items, mean_bytes, count, empty(cache, 1), empty(clients, count));
+  fill(cache, 1);
+  return fill(clients, count);
+}
 uint32_t segcache_raw_open_bytes(uint64_t bytes, H cache, H clients, size_t count) {
   tell("open_bytes %llu %zu %zu %zu", (unsigned long long)bytes, count, empty(cache, 1), empty(clients, count));
   fill(cache, 1);
@@ -235,9 +239,15 @@ static int is_zeroed(const void *at, size_t length) {
 }
 
 /* Each of the ways to open a cache with two clients. */
+enum { WAYS = 5 };
 static uint32_t open_by(int way, const segcache_shape *shape, segcache *cache, segcache_client *clients) {
-  if (way == 0) return segcache_open(100, 2, cache, clients);
-  return way == 1 ? segcache_open_for_writers(100, 2, 1, cache, clients) : segcache_open_shape(shape, cache, clients);
+  switch (way) {
+  case 0: return segcache_open(100, 2, cache, clients);
+  case 1: return segcache_open_for_writers(100, 2, 1, cache, clients);
+  case 2: return segcache_open_items(100, 230, 2, cache, clients);
+  case 3: return segcache_open_bytes(100, 2, cache, clients);
+  default: return segcache_open_shape(shape, cache, clients);
+  }
 }
 
 static void test_opening(void) {
@@ -248,17 +258,20 @@ static void test_opening(void) {
   PASSES(segcache_open(99, 0, &cache, clients), "open 99 0 0 1 0");
   PASSES(segcache_open_for_writers(98, 64, 5, &cache, clients), "open_for_writers 98 5 64 1 64");
   PASSES(segcache_open_for_writers(97, 2, 0, &cache, clients), "open_for_writers 97 0 2 1 2");
+  PASSES(segcache_open_items(96, 230, 64, &cache, clients), "open_items 96 230 64 1 64");
+  PASSES(segcache_open_items(UINT32_MAX, 0, 2, &cache, clients), "open_items 4294967295 0 2 1 2");
+  PASSES(segcache_open_items(0, UINT32_MAX, 0, &cache, clients), "open_items 0 4294967295 0 1 0");
   PASSES(segcache_open_bytes(1ull << 40, 64, &cache, clients), "open_bytes 1099511627776 64 1 64");
   PASSES(segcache_open_bytes(3, 2, &cache, clients), "open_bytes 3 2 1 2");
   PASSES(segcache_open_shape(&shape, &cache, clients), "open_shape %p 3 1 3", AT & shape);
   shape.passes = 64;
   PASSES(segcache_open_shape(&shape, &cache, clients), "open_shape %p 64 1 64", AT & shape);
   shape.passes = 2;
-  for (int i = 0; i < 6; i++) {
+  for (int i = 0; i < 2 * WAYS; i++) {
     memset(&cache, 1, sizeof cache);
     memset(clients, 1, sizeof clients);
-    answer = i / 3 ? SEGCACHE_OUT_OF_MEMORY : SEGCACHE_OK;
-    open_by(i % 3, &shape, &cache, clients);
+    answer = i / WAYS ? SEGCACHE_OUT_OF_MEMORY : SEGCACHE_OK;
+    open_by(i % WAYS, &shape, &cache, clients);
     int zeroed = is_zeroed(&cache, sizeof cache), of_one = is_zeroed(&clients[1], sizeof *clients);
     checks++;
     if (zeroed != (answer != SEGCACHE_OK) || of_one != zeroed || clients[2].raw.full != 1)
@@ -267,6 +280,7 @@ static void test_opening(void) {
   memset(clients, 1, sizeof clients);
   STOPS(segcache_open(100, 65, &cache, clients), SEGCACHE_BAD_SHAPE);
   STOPS(segcache_open_for_writers(100, 65, 1, &cache, clients), SEGCACHE_BAD_SHAPE);
+  STOPS(segcache_open_items(100, 230, 65, &cache, clients), SEGCACHE_BAD_SHAPE);
   STOPS(segcache_open_bytes(1 << 20, 65, &cache, clients), SEGCACHE_BAD_SHAPE);
   shape.passes = 65;
   STOPS(segcache_open_shape(&shape, &cache, clients), SEGCACHE_BAD_SHAPE);
@@ -280,7 +294,7 @@ static void test_others(uint32_t *number, uint32_t (*shown)(void), uint32_t othe
   uint32_t before = *number;
   *number = other;
   answer = SEGCACHE_OK;
-  for (int i = 0; i < 3; i++) {
+  for (int i = 0; i < WAYS; i++) {
     memset(&cache, 1, sizeof cache);
     memset(clients, 1, sizeof clients);
     STOPS(open_by(i, &shape, &cache, clients), wanted);
@@ -323,7 +337,7 @@ static void test_homes(segcache *cache, segcache_client *client, segcache *other
 
 /* A null handle is none, and neither export nor client is needed to say so. */
 static void test_null_handles(segcache *cache, segcache_client *client) {
-  char bytes[40], key[SEGCACHE_MAX_KEY];
+  char bytes[SEGCACHE_MAX_VALUE], key[SEGCACHE_MAX_KEY];
   size_t length, key_len;
   uint32_t version;
   segcache_lookup lookup = {0};

@@ -56,6 +56,7 @@ pub struct Builder {
     keys: u32,
     threads: u32,
     writers: Option<u32>,
+    items: Option<(u32, u32)>,
     bytes: Option<u64>,
     shape: Option<Shape>,
 }
@@ -87,7 +88,15 @@ impl Builder {
         self
     }
 
-    /// How many bytes the cache may take, in place of the numbers of keys and writers, also while it is made. What
+    /// How many items the cache is to have room for, and how many bytes key and value of an item have together on the
+    /// mean, in place of the numbers of keys and writers. It is as [`Builder::keys`] where each item takes one row.
+    #[must_use]
+    pub fn items(mut self, items: u32, mean_bytes: u32) -> Builder {
+        self.items = Some((items, mean_bytes));
+        self
+    }
+
+    /// How many bytes the cache may take, in place of the numbers of keys, writers and items, also while it is made. What
     /// making it needs for a moment, one table, is free afterwards. Notes and a close take more.
     #[must_use]
     pub fn bytes(mut self, bytes: u64) -> Builder {
@@ -95,7 +104,7 @@ impl Builder {
         self
     }
 
-    /// The shape of one table, in place of the numbers of keys, threads, writers and bytes.
+    /// The shape of one table, in place of the numbers of keys, threads, writers, items and bytes.
     #[must_use]
     pub fn shape(mut self, shape: Shape) -> Builder {
         self.shape = Some(shape);
@@ -122,13 +131,16 @@ impl Builder {
         let (at, len) = (clients.as_mut_ptr(), clients.len());
         // SAFETY: the handles are none and apart from each other, and the length is that of the list.
         let status = unsafe {
-            match (&self.shape, self.bytes, self.writers) {
-                (Some(shape), _, _) => raw::segcache_raw_open_shape(shape, &mut cache, at, len),
-                (None, Some(bytes), _) => raw::segcache_raw_open_bytes(bytes, &mut cache, at, len),
-                (None, None, Some(writers)) => {
-                    raw::segcache_raw_open_for_writers(self.keys, writers, &mut cache, at, len)
-                }
-                (None, None, None) => raw::segcache_raw_open(self.keys, self.threads, &mut cache, at, len),
+            if let Some(shape) = &self.shape {
+                raw::segcache_raw_open_shape(shape, &mut cache, at, len)
+            } else if let Some(bytes) = self.bytes {
+                raw::segcache_raw_open_bytes(bytes, &mut cache, at, len)
+            } else if let Some((items, mean_bytes)) = self.items {
+                raw::segcache_raw_open_items(items, mean_bytes, &mut cache, at, len)
+            } else if let Some(writers) = self.writers {
+                raw::segcache_raw_open_for_writers(self.keys, writers, &mut cache, at, len)
+            } else {
+                raw::segcache_raw_open(self.keys, self.threads, &mut cache, at, len)
             }
         };
         if status != 0 {
@@ -151,7 +163,7 @@ impl Cache {
     /// Begins to say how large a cache is to be.
     #[must_use]
     pub fn builder() -> Builder {
-        Builder { keys: 10_000, threads: 1, writers: None, bytes: None, shape: None }
+        Builder { keys: 10_000, threads: 1, writers: None, items: None, bytes: None, shape: None }
     }
 
     /// Closes the cache, once its clients are dropped, and lists its content: table by table, each in the order

@@ -137,6 +137,18 @@ pub(crate) unsafe extern "C" fn segcache_raw_open_for_writers(
     tell(format!("open_for_writers {keys} {writers} {clients_len}"))
 }
 
+pub(crate) unsafe extern "C" fn segcache_raw_open_items(
+    items: u32,
+    mean_bytes: u32,
+    cache: *mut Handle,
+    clients: *mut Handle,
+    clients_len: usize,
+) -> u32 {
+    fill(cache, 1, 1);
+    fill(clients, clients_len, 100);
+    tell(format!("open_items {items} {mean_bytes} {clients_len}"))
+}
+
 pub(crate) unsafe extern "C" fn segcache_raw_open_bytes(
     bytes: u64,
     cache: *mut Handle,

@@ -44,6 +44,7 @@ extern "C" {
     pub(crate) fn segcache_raw_sizes() -> u32;
     pub(crate) fn segcache_raw_open(keys: u32, threads: u32, cache: *mut Handle, clients: *mut Handle, clients_len: usize) -> u32;
     pub(crate) fn segcache_raw_open_for_writers(keys: u32, writers: u32, cache: *mut Handle, clients: *mut Handle, clients_len: usize) -> u32;
+    pub(crate) fn segcache_raw_open_items(items: u32, mean_bytes: u32, cache: *mut Handle, clients: *mut Handle, clients_len: usize) -> u32;
     pub(crate) fn segcache_raw_open_bytes(bytes: u64, cache: *mut Handle, clients: *mut Handle, clients_len: usize) -> u32;
     pub(crate) fn segcache_raw_open_shape(shape: *const crate::Shape, cache: *mut Handle, clients: *mut Handle, clients_len: usize) -> u32;
     pub(crate) fn segcache_raw_get(client: *mut Handle, key: *const u8, key_len: usize, value: *mut u8, room: usize, value_len: *mut usize, now: u32) -> u32;

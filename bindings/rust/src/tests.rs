@@ -183,18 +183,24 @@ fn a_builder_asks_for_what_it_was_told() {
     assert_eq!(calls()[0], "open 5 64 64");
     open(Cache::builder().keys(5).threads(3).writers(2));
     assert_eq!(calls()[0], "open_for_writers 5 2 3");
-    open(Cache::builder().keys(5).threads(3).writers(2).bytes(1 << 40));
+    open(Cache::builder().keys(5).threads(3).writers(2).items(6, 230));
+    assert_eq!(calls()[0], "open_items 6 230 3");
+    open(Cache::builder().items(6, 230).threads(64));
+    assert_eq!(calls()[0], "open_items 6 230 64");
+    open(Cache::builder().keys(5).threads(3).writers(2).items(6, 230).bytes(1 << 40));
     assert_eq!(calls()[0], "open_bytes 1099511627776 3");
     let shape = Shape { buckets: 1, overflow: 2, passes: 64, segments_each: 4, rows: 5, first_version: 6 };
-    open(Cache::builder().keys(5).threads(3).writers(2).bytes(1 << 20).shape(shape));
+    open(Cache::builder().keys(5).threads(3).writers(2).items(6, 230).bytes(1 << 20).shape(shape));
     assert_eq!(calls()[0], format!("open_shape {shape:?} 64"));
     open(Cache::builder().keys(5).threads(2).shape(shape));
     assert_eq!(calls()[0], format!("open_shape {shape:?} 64"));
     assert_eq!(Cache::builder().threads(65).build().err(), Some(Error::BadShape));
+    assert_eq!(Cache::builder().threads(65).items(6, 230).build().err(), Some(Error::BadShape));
     assert_eq!(Cache::builder().shape(Shape { passes: 65, ..shape }).build().err(), Some(Error::BadShape));
     assert_eq!(calls().len(), 0);
     for (status, error) in ERRORS {
         assert_eq!(returns(status, || Cache::builder().build().err()), Some(error));
+        assert_eq!(returns(status, || Cache::builder().items(6, 230).build().err()), Some(error));
     }
 }
 
