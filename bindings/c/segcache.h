@@ -97,6 +97,7 @@ enum {
 #endif
 #define SEGCACHE_SIZES (SEGCACHE_MAX_KEY << 16 | SEGCACHE_MAX_VALUE) /* of this header: both numbers in one */
 #define SEGCACHE_MAX_THREADS 64u
+#define SEGCACHE_AHEAD 16u    /* keys that a look ahead takes at a time */
 #define SEGCACHE_STACK 16384u /* bytes of stack that are enough for each call: measured, with a call of malloc */
 
 /* What a handle is to the library. Its content is the library's own. */
@@ -166,6 +167,20 @@ typedef struct segcache_lookup {
   uint8_t value[SEGCACHE_MAX_VALUE];
 } segcache_lookup;
 
+/* A key of segcache_get_many_into or segcache_gets_many_into, a buffer for its value, and what came of it. */
+typedef struct segcache_lookup_into {
+  const void *key;
+  size_t key_len;
+  void *value;
+  size_t room, value_len;   /* the bytes of the buffer, and those of the value */
+  uint32_t status, version; /* version: of segcache_gets_many_into alone */
+} segcache_lookup_into;
+
+/* The place of a key among the bytes of segcache_raw_look_ahead. */
+typedef struct segcache_key_place {
+  size_t key_at, key_len;
+} segcache_key_place;
+
 /* --- The exports of the library. Programs call the functions below these. ---------------------------- */
 
 uint32_t segcache_raw_version(void);
@@ -187,6 +202,8 @@ uint32_t segcache_raw_get_many(segcache_handle *client, const uint8_t *keys, siz
                                size_t count, uint32_t now);
 uint32_t segcache_raw_gets_many(segcache_handle *client, const uint8_t *keys, size_t keys_len, segcache_lookup *lookups,
                                 size_t count, uint32_t now);
+uint32_t segcache_raw_look_ahead(segcache_handle *client, const uint8_t *keys, size_t keys_len,
+                                 const segcache_key_place *places, size_t places_len);
 uint32_t segcache_raw_put(segcache_handle *client, const uint8_t *key, size_t key_len, const uint8_t *value,
                           size_t value_len, uint32_t now);
 uint32_t segcache_raw_put_for(segcache_handle *client, const uint8_t *key, size_t key_len, const uint8_t *value,
@@ -224,6 +241,7 @@ uint32_t segcache_raw_free(segcache_handle *cache);
 #define SEGCACHE_CALL(of, call) ((of) == NULL ? (uint32_t)SEGCACHE_NO_HANDLE : (call))
 #define SEGCACHE_BYTES(at, length) ((void)0)
 #define SEGCACHE_APART(a, a_len, b, b_len) ((void)0)
+#define SEGCACHE_LOOKUPS(lookups, count) ((void)0)
 #define SEGCACHE_LIVES(handle) ((void)0)
 #endif
 
@@ -385,7 +403,8 @@ static inline uint32_t segcache_gets(segcache_client *client, const void *key, s
    memory, each key then takes less time than a single get. Fewer keys are single gets, and so are any keys of a smaller
    cache, whose table fits into the processor's own caches.
    Each lookup names its key by key_at and key_len, among the `len` bytes of `keys`. Afterwards it has a status of its
-   own, OK, MISS, BUSY or BAD_KEY (also where its bytes aren't all in `keys`), and with OK value and value_len.
+   own, OK, MISS, BUSY or BAD_KEY (also where its bytes aren't all in `keys`), and with OK value and value_len. In the
+   wide build a lookup takes 4,096 bytes: prefer segcache_get_many_into there.
    Answers: OK, whatever the lookups have; NO_HANDLE, and they are as they were. */
 static inline uint32_t segcache_get_many(segcache_client *client, const void *keys, size_t len, uint32_t now,
                                          segcache_lookup *lookups, size_t count) {
@@ -402,6 +421,65 @@ static inline uint32_t segcache_gets_many(segcache_client *client, const void *k
   SEGCACHE_BYTES(lookups, count);
   SEGCACHE_APART(lookups, count * sizeof *lookups, keys, len);
   return SEGCACHE_CALL(client, segcache_raw_gets_many(&client->raw, (const uint8_t *)keys, len, lookups, count, now));
+}
+
+/* Loads what gets of so many lookups from this one on will read, SEGCACHE_AHEAD of them at most. No answer depends on
+   it. A key that is too long is passed over. Answers: OK, NO_HANDLE. */
+static inline uint32_t segcache_look_ahead(segcache_client *client, const segcache_lookup_into *lookups, size_t first,
+                                           size_t count) {
+  uint8_t keys[SEGCACHE_AHEAD * SEGCACHE_MAX_KEY];
+  segcache_key_place places[SEGCACHE_AHEAD];
+  size_t i, end = 0;
+  for (i = 0; i < count; i++) {
+    const segcache_lookup_into *it = &lookups[first + i];
+    places[i].key_at = end;
+    places[i].key_len = it->key_len <= SEGCACHE_MAX_KEY ? it->key_len : 0;
+    if (places[i].key_len > 0) memcpy(keys + end, it->key, places[i].key_len);
+    end += places[i].key_len;
+  }
+  return segcache_raw_look_ahead(&client->raw, keys, end, places, count);
+}
+
+/* The same as segcache_get_many_into or segcache_gets_many_into, once the client is in a call. */
+static inline uint32_t segcache_look_up(segcache_client *client, segcache_lookup_into *lookups, size_t count,
+                                        int versioned, uint32_t now) {
+  size_t first = 0, end, i;
+  uint32_t status;
+  do {
+    end = count - first < SEGCACHE_AHEAD ? count : first + SEGCACHE_AHEAD;
+    status = segcache_look_ahead(client, lookups, first, end - first);
+    if (status != SEGCACHE_OK) return status;
+    for (i = first; i < end; i++) {
+      segcache_lookup_into *it = &lookups[i];
+      const uint8_t *key = (const uint8_t *)it->key;
+      uint8_t *value = (uint8_t *)it->value;
+      if (versioned)
+        it->status =
+            segcache_raw_gets(&client->raw, key, it->key_len, value, it->room, &it->value_len, &it->version, now);
+      else it->status = segcache_raw_get(&client->raw, key, it->key_len, value, it->room, &it->value_len, now);
+    }
+    first = end;
+  } while (first < count);
+  return SEGCACHE_OK;
+}
+
+/* Gets of several keys into buffers of yours, one after another. Waits for memory overlap as of segcache_get_many, and a
+   lookup has no room for a value of its own: it has a pointer and a length for its key, and a pointer and a room for its
+   value. Afterwards it has a status as of segcache_get: OK, MISS, BUSY, BAD_KEY; or SHORT_BUFFER, and the buffer is as it
+   was. With OK and SHORT_BUFFER value_len is the length of the value.
+   Answers: OK, whatever the lookups have; NO_HANDLE, and they are as they were. */
+static inline uint32_t segcache_get_many_into(segcache_client *client, segcache_lookup_into *lookups, size_t count,
+                                              uint32_t now) {
+  SEGCACHE_LOOKUPS(lookups, count);
+  return SEGCACHE_CALL(client, segcache_look_up(client, lookups, count, 0, now));
+}
+
+/* The same with the version of each key's bucket, for segcache_cas, where the status is OK or SHORT_BUFFER. Answers as
+   segcache_get_many_into. */
+static inline uint32_t segcache_gets_many_into(segcache_client *client, segcache_lookup_into *lookups, size_t count,
+                                               uint32_t now) {
+  SEGCACHE_LOOKUPS(lookups, count);
+  return SEGCACHE_CALL(client, segcache_look_up(client, lookups, count, 1, now));
 }
 
 /* --- Writing ---------------------------------------------------------------------------------------- */

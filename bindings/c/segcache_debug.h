@@ -100,6 +100,26 @@ static inline void segcache_debug_apart(const void *a, size_t a_len, const void 
     segcache_debug_fail(function, "what is written overlaps something else that is passed");
 }
 
+/* The keys and buffers of lookups. Of a buffer it is looked at whether it overlaps the lookups, a key of the sixteen
+   lookups before it or behind it, or a buffer of those. */
+static inline void segcache_debug_lookups(const segcache_lookup_into *lookups, size_t count, const char *function) {
+  size_t i, j;
+  segcache_debug_bytes(lookups, count, function);
+  for (i = 0; i < count; i++) {
+    const segcache_lookup_into *it = &lookups[i];
+    segcache_debug_bytes(it->key, it->key_len, function);
+    segcache_debug_bytes(it->value, it->room, function);
+    segcache_debug_apart(lookups, count * sizeof *lookups, it->key, it->key_len, function);
+    segcache_debug_apart(lookups, count * sizeof *lookups, it->value, it->room, function);
+    for (j = i; j < count && j <= i + SEGCACHE_AHEAD; j++) {
+      const segcache_lookup_into *other = &lookups[j];
+      segcache_debug_apart(it->value, it->room, other->key, other->key_len, function);
+      segcache_debug_apart(other->value, other->room, it->key, it->key_len, function);
+      if (j > i) segcache_debug_apart(it->value, it->room, other->value, other->room, function);
+    }
+  }
+}
+
 #define SEGCACHE_CALL(of, call)                                            \
   __extension__({                                                          \
     uint32_t status_ = SEGCACHE_NO_HANDLE;                                 \
@@ -112,6 +132,7 @@ static inline void segcache_debug_apart(const void *a, size_t a_len, const void 
   })
 #define SEGCACHE_BYTES(at, length) segcache_debug_bytes(at, length, __func__)
 #define SEGCACHE_APART(a, a_len, b, b_len) segcache_debug_apart(a, a_len, b, b_len, __func__)
+#define SEGCACHE_LOOKUPS(lookups, count) segcache_debug_lookups(lookups, count, __func__)
 #define SEGCACHE_LIVES(handle) segcache_debug_add((handle)->raw.at)
 
 #endif

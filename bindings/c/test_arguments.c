@@ -10,21 +10,26 @@
 #include <sys/wait.h>
 #include <unistd.h>
 
-static uint32_t answer; /* what the exports answer */
-static char told[400];  /* what the last one was handed */
+static uint32_t answer;       /* what the exports answer */
+static uint32_t answer_ahead; /* what a look ahead answers */
+static int in_turn;           /* whether each next call of an export has the next answer */
+static char told[400];        /* what the last one was handed */
+static char story[40000];     /* what all of them were handed since this was emptied */
 static int checks, faults;
 
 static uint32_t tell(const char *format, ...) {
+  size_t end = strlen(story);
   va_list words;
   va_start(words, format);
   vsnprintf(told, sizeof told, format, words);
   va_end(words);
-  return answer;
+  snprintf(story + end, sizeof story - end, "%s\n", told);
+  return in_turn ? answer++ % 20 : answer;
 }
 
-/* Opening and closing fill handles, and so does a note. Each gets a place of its own. */
-static char places[256];
-static size_t places_used;
+/* Opening and closing fill handles, and so does a note. Each gets a byte of its own. */
+static char fillings[256];
+static size_t fillings_used;
 
 /* How many of these handles are empty, as all have to be that are to be filled. */
 static size_t empty(const segcache_handle *handles, size_t count) {
@@ -35,7 +40,7 @@ static size_t empty(const segcache_handle *handles, size_t count) {
 
 static uint32_t fill(segcache_handle *handles, size_t count) {
   for (size_t i = 0; answer == SEGCACHE_OK && i < count; i++) {
-    handles[i].at = &places[places_used++ % sizeof places];
+    handles[i].at = &fillings[fillings_used++ % sizeof fillings];
     handles[i].full = 1;
   }
   return answer;
@@ -90,6 +95,20 @@ uint32_t segcache_raw_get_many(H client, MANY) {
 }
 uint32_t segcache_raw_gets_many(H client, MANY) {
   return tell("gets_many %p %p %zu %p %zu %u", AT client, AT keys, keys_len, AT lookups, count, now);
+}
+/* The keys are told as texts, and those that aren't among the bytes as question marks. */
+uint32_t segcache_raw_look_ahead(H client, const uint8_t *keys, size_t keys_len, const segcache_key_place *places,
+                                 size_t count) {
+  size_t end = strlen(story), known = 0;
+  end += (size_t)snprintf(story + end, sizeof story - end, "look_ahead %p %zu:", AT client, count);
+  for (size_t i = 0; i < count; i++) {
+    int is_among = places[i].key_at <= keys_len && places[i].key_len <= keys_len - places[i].key_at;
+    const char *key = is_among ? (const char *)keys + places[i].key_at : "?";
+    end += (size_t)snprintf(story + end, sizeof story - end, " %.*s", is_among ? (int)places[i].key_len : 1, key);
+    known += places[i].key_len;
+  }
+  snprintf(story + end, sizeof story - end, "%s\n", known == keys_len ? "" : " and more");
+  return answer_ahead;
 }
 #define TELL_WRITE(name) tell(name " %p %p %zu %p %zu %u", AT client, AT key, key_len, AT value, value_len, now)
 uint32_t segcache_raw_put(WRITE) { return TELL_WRITE("put"); }
@@ -179,6 +198,72 @@ static void test_reads(segcache_client *client) {
   PASSES(segcache_hold(client, key, 2, 105), "hold %p %p 2 105", raw, AT key);
   PASSES(segcache_held_value(client, value, 29, &length), "held_value %p %p 29 %p", raw, AT value, AT & length);
   PASSES(segcache_release(client), "release %p", raw);
+}
+
+/* What the exports are to be handed for so many lookups: for each sixteen a look ahead, and then each by itself. */
+static void tell_wanted(char *to, size_t room, segcache_client *client, segcache_lookup_into *lookups, size_t count,
+                        int versioned) {
+  size_t end = 0;
+  if (count == 0) snprintf(to, room, "look_ahead %p 0:\n", AT & client->raw);
+  for (size_t i = 0; i < count; i++) {
+    segcache_lookup_into *it = &lookups[i];
+    size_t piece = count - i < 16 ? count - i : 16;
+    if (i % 16 == 0) end += (size_t)snprintf(to + end, room - end, "look_ahead %p %zu:", AT & client->raw, piece);
+    for (size_t j = i; i % 16 == 0 && j < i + piece; j++) {
+      int length = lookups[j].key_len <= SEGCACHE_MAX_KEY ? (int)lookups[j].key_len : 0;
+      end += (size_t)snprintf(to + end, room - end, " %.*s", length, (const char *)lookups[j].key);
+    }
+    if (i % 16 == 0) end += (size_t)snprintf(to + end, room - end, "\n");
+    end += (size_t)snprintf(to + end, room - end, "%s %p %p %zu %p %zu %p", versioned ? "gets" : "get",
+                            AT & client->raw, AT it->key, it->key_len, it->value, it->room, AT & it->value_len);
+    if (versioned) end += (size_t)snprintf(to + end, room - end, " %p", AT & it->version);
+    end += (size_t)snprintf(to + end, room - end, " %d\n", versioned ? 107 : 106);
+  }
+}
+
+/* Keys of many lengths, also of those that no key has, and buffers of many rooms, also of none. Each lookup has what its
+ * own get answers, and nothing behind the last one is touched. */
+static void test_lookups(segcache_client *client, size_t count, int versioned) {
+  enum { MOST = 33, LONGEST = SEGCACHE_MAX_KEY + 2 };
+  static char keys[MOST][LONGEST], wanted[sizeof story];
+  static uint8_t values[MOST][MOST];
+  segcache_lookup_into lookups[MOST + 1];
+  for (size_t i = 0; i <= MOST; i++) {
+    size_t at = i % MOST, length = i % 11 == 3 ? 0 : i % 11 == 5 ? LONGEST : 1 + i * 7 % SEGCACHE_MAX_KEY;
+    memset(keys[at], 'a' + (int)at % 26, LONGEST);
+    if (length == LONGEST && i % 2) length = SEGCACHE_MAX_KEY + 1;
+    lookups[i] = (segcache_lookup_into){keys[at], length, i == 7 ? NULL : values[at], i == 7 ? 0 : i % MOST, 0, 99, 98};
+  }
+  tell_wanted(wanted, sizeof wanted, client, lookups, count, versioned);
+  for (uint32_t first = 0; first < 20; first++) {
+    answer = first, in_turn = 1, story[0] = 0;
+    uint32_t status = versioned ? segcache_gets_many_into(client, lookups, count, 107)
+                                : segcache_get_many_into(client, lookups, count, 106);
+    in_turn = 0;
+    checks += 2;
+    if (status != SEGCACHE_OK || strcmp(story, wanted) != 0)
+      faults++, printf("%zu lookups: %u (%s), and not %s\n", count, status, story, wanted);
+    for (size_t i = 0; i <= MOST; i++)
+      if (lookups[i].status != (i < count ? (first + i) % 20 : 99) || lookups[i].version != 98)
+        faults++, printf("lookup %zu of %zu has %u\n", i, count, lookups[i].status);
+  }
+  /* Where there is no client, the lookups are as they were. */
+  for (size_t i = 0; i < MOST; i++) lookups[i].status = 99;
+  answer = SEGCACHE_OK, answer_ahead = SEGCACHE_NO_HANDLE;
+  checks++;
+  if ((versioned ? segcache_gets_many_into(client, lookups, count, 107)
+                 : segcache_get_many_into(client, lookups, count, 106)) != SEGCACHE_NO_HANDLE)
+    faults++, printf("%zu lookups of no client are answered\n", count);
+  for (size_t i = 0; i < MOST; i++)
+    if (lookups[i].status != 99) faults++, printf("lookup %zu of no client has %u\n", i, lookups[i].status);
+  answer_ahead = SEGCACHE_OK;
+}
+
+static void test_many_into(segcache_client *client) {
+  const size_t counts[] = {0, 1, 15, 16, 17, 32, 33};
+  for (size_t i = 0; i < 2 * sizeof counts / sizeof *counts; i++) test_lookups(client, counts[i / 2], (int)i % 2);
+  answer = SEGCACHE_OK, story[0] = 0;
+  STOPS(segcache_get_many_into(client, NULL, 0, 108), SEGCACHE_OK);
 }
 
 static void test_writes(segcache_client *client) {
@@ -341,6 +426,7 @@ static void test_null_handles(segcache *cache, segcache_client *client) {
   size_t length, key_len;
   uint32_t version;
   segcache_lookup lookup = {0};
+  segcache_lookup_into into = {0};
   segcache_stats_t stats;
   segcache_index_stats_t table;
   segcache_note_t note = {0};
@@ -349,6 +435,9 @@ static void test_null_handles(segcache *cache, segcache_client *client) {
   STOPS(segcache_gets(NULL, "k", 1, 0, bytes, 32, &length, &version), SEGCACHE_NO_HANDLE);
   STOPS(segcache_get_many(NULL, "k", 1, 0, &lookup, 1), SEGCACHE_NO_HANDLE);
   STOPS(segcache_gets_many(NULL, "k", 1, 0, &lookup, 1), SEGCACHE_NO_HANDLE);
+  STOPS(segcache_get_many_into(NULL, &into, 1, 0), SEGCACHE_NO_HANDLE);
+  STOPS(segcache_gets_many_into(NULL, &into, 1, 0), SEGCACHE_NO_HANDLE);
+  STOPS(segcache_get_many_into(NULL, NULL, 0, 0), SEGCACHE_NO_HANDLE);
   STOPS(segcache_put(NULL, "k", 1, "v", 1, 0), SEGCACHE_NO_HANDLE);
   STOPS(segcache_put_for(NULL, "k", 1, "v", 1, 1, 0), SEGCACHE_NO_HANDLE);
   STOPS(segcache_set(NULL, "k", 1, "v", 1, 0), SEGCACHE_NO_HANDLE);
@@ -397,6 +486,43 @@ static void test_null_handles(segcache *cache, segcache_client *client) {
     if (!WIFSIGNALED(ended) || WTERMSIG(ended) != SIGABRT) faults++, printf("%d: not stopped: %s\n", __LINE__, #call); \
   } while (0)
 
+/* Each fault in one of forty lookups, whichever it is: of the keys and buffers of the sixteen before and behind it. */
+static void test_lookups_apart(segcache_client *client) {
+  enum { COUNT = 40, ROOM = 8 };
+  static char keys[COUNT][4], values[COUNT][ROOM];
+  segcache_lookup_into lookups[COUNT], good[COUNT];
+  for (size_t i = 0; i < COUNT; i++) good[i] = (segcache_lookup_into){keys[i], 4, values[i], ROOM, 0, 0, 0};
+  for (size_t i = 0; i < COUNT; i += 13) {
+    size_t other = i >= 16 ? i - 16 : i + 16;
+    for (int fault = 0; fault < 10; fault++) {
+      memcpy(lookups, good, sizeof good);
+      segcache_lookup_into *it = &lookups[i];
+      switch (fault) {
+      case 0: it->key = NULL; break;
+      case 1: it->value = NULL; break;
+      case 2: it->key = &lookups[other].status; break;
+      case 3: it->value = &lookups[other].status; break;
+      case 4: it->value = values[other] + ROOM - 1; break;
+      case 5: it->value = keys[other] + 3; break;
+      case 6: it->value = keys[i] + 3; break;
+      case 7: it->key = values[other]; break;
+      case 8: it->value = &lookups[COUNT - 1].version, it->room = 1; break;
+      default: it->key = NULL, it->key_len = 0, it->value = NULL, it->room = 0; /* no fault */
+      }
+      if (fault == 9) {
+        answer = SEGCACHE_OK;
+        checks++;
+        if (segcache_get_many_into(client, lookups, COUNT, 0) != SEGCACHE_OK) faults++, printf("no fault is one\n");
+        continue;
+      }
+      ABORTS(segcache_get_many_into(client, lookups, COUNT, 0));
+      ABORTS(segcache_gets_many_into(client, lookups, COUNT, 0));
+    }
+  }
+  ABORTS(segcache_get_many_into(client, NULL, 1, 0));
+  ABORTS(segcache_gets_many_into(client, NULL, 1, 0));
+}
+
 /* Null pointers with a length, and what is written over something else that is passed. */
 static void test_pointers(segcache_client *client, segcache_cursor *cursor) {
   char bytes[100] = "key";
@@ -419,6 +545,7 @@ static void test_pointers(segcache_client *client, segcache_cursor *cursor) {
   ABORTS(segcache_gets_many(client, NULL, 1, 0, lookups, 1));
   ABORTS(segcache_gets_many(client, "k", 1, 0, NULL, 1));
   ABORTS(segcache_gets_many(client, &lookups[1], 1, 0, lookups, 2));
+  test_lookups_apart(client);
   ABORTS(segcache_put(client, NULL, 1, "v", 1, 0));
   ABORTS(segcache_put(client, "k", 1, NULL, 1, 0));
   ABORTS(segcache_put_for(client, NULL, 1, "v", 1, 1, 0));
@@ -518,6 +645,7 @@ int main(void) {
   segcache_open(100, 1, &cache, &client);
   segcache_open(100, 1, &other, &foreign);
   test_reads(&client);
+  test_many_into(&client);
   test_writes(&client);
   test_fill(&client);
   test_settings(&client);
