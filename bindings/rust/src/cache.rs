@@ -1,7 +1,8 @@
 // SPDX-License-Identifier: MIT
 //! The cache that the clients share: how it is made, and what it lists at its end.
+use crate::bytes::Written;
 use crate::raw::{self, Handle};
-use crate::{Bytes, Client, Error, Key, Value};
+use crate::{Client, Error, Key, Value};
 use std::fmt;
 use std::sync::{Arc, Mutex, PoisonError};
 
@@ -21,7 +22,7 @@ pub struct Shape {
     /// Segments of each client, 1 to 1,024. By queues two of several are held free, or three if they have one row; by
     /// [`Client::keep_from`] one, and none by [`Client::keep_nothing`].
     pub segments_each: u32,
-    /// Items that a segment has room for, 1 to 4,096.
+    /// Rows of a segment, 1 to 4,096. Without the feature `wide` each item takes one.
     pub rows: u32,
     /// The version that all buckets begin with; 0 will do.
     pub first_version: u32,
@@ -66,7 +67,8 @@ impl Builder {
     /// share of the room, so all keys fit if the clients store about as many each. In a small cache, for at most
     /// 65,536 / threads keys, all keys fit whichever clients store them. A client isn't told of what others delete:
     /// where they delete what it stores, in the same order all the while, it can evict keys that have room. There is a
-    /// table for every 200,000 keys, and each key belongs to one of the tables by its hash.
+    /// table for every 200,000 keys, and each key belongs to one of the tables by its hash. With the feature `wide`
+    /// there is room for so many keys if each item takes one row, as with 32 bytes of value.
     #[must_use]
     pub fn keys(mut self, keys: u32) -> Builder {
         self.keys = keys;
@@ -89,7 +91,10 @@ impl Builder {
     }
 
     /// How many items the cache is to have room for, and how many bytes key and value of an item have together on the
-    /// mean, in place of the numbers of keys and writers. It is as [`Builder::keys`] where each item takes one row.
+    /// mean, in place of the numbers of keys and writers. It is as [`Builder::keys`] where each item takes one row. With
+    /// the feature `wide` the mean and 8 bytes are divided by 64 and rounded up: so many rows are planned for each item.
+    /// The cache has two rows for each planned one. An item that has more rows than a segment of the cache is never
+    /// stored, and a put of it is [`Error::NoRoom`]. With 4,352 planned rows for each thread every item can be stored.
     #[must_use]
     pub fn items(mut self, items: u32, mean_bytes: u32) -> Builder {
         self.items = Some((items, mean_bytes));
@@ -97,7 +102,8 @@ impl Builder {
     }
 
     /// How many bytes the cache may take, in place of the numbers of keys, writers and items, also while it is made. What
-    /// making it needs for a moment, one table, is free afterwards. Notes and a close take more.
+    /// making it needs for a moment, one table, is free afterwards. Notes and a close take more. With the feature
+    /// `wide` an item is taken to have four rows on the mean, about 230 bytes of key and value.
     #[must_use]
     pub fn bytes(mut self, bytes: u64) -> Builder {
         self.bytes = Some(bytes);
@@ -228,8 +234,8 @@ impl Iterator for Content {
 
     fn next(&mut self) -> Option<(Key, Value)> {
         let cursor: *mut Handle = &mut self.cursor;
-        let ((status, value), key) = Bytes::written(|key, key_room, key_len| {
-            Bytes::written(|value, value_room, value_len| {
+        let ((status, value), key) = Key::written(|key, key_room, key_len| {
+            Value::written(|value, value_room, value_len| {
                 // SAFETY: the cursor is this one's, and the buffers are apart and as long as is said.
                 unsafe {
                     raw::segcache_raw_next(cursor, key, key_room, key_len, value, value_room, value_len)

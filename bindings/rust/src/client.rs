@@ -1,8 +1,13 @@
 // SPDX-License-Identifier: MIT
 //! A client: what one thread reads and writes the cache by.
+use crate::bytes::Written;
 use crate::cache::Shared;
-use crate::raw::{self, Handle, Lookup};
-use crate::{Bytes, Error, Hold, Note, Value};
+#[cfg(feature = "wide")]
+use crate::raw::KeyPlace;
+#[cfg(not(feature = "wide"))]
+use crate::raw::Lookup;
+use crate::raw::{self, Handle};
+use crate::{Error, Hold, Note, Value};
 use std::cell::{Cell, UnsafeCell};
 use std::num::NonZeroU8;
 use std::sync::Arc;
@@ -13,6 +18,11 @@ const NO_ROOM: u32 = 3;
 const NOT_STORED: u32 = 5;
 const EXISTS: u32 = 6;
 const NOT_FOUND: u32 = 7;
+const SHORT_BUFFER: u32 = 10;
+
+// So many keys are looked ahead for at a time.
+#[cfg(feature = "wide")]
+const AHEAD: usize = 16;
 
 /// The version of a key's bucket, from [`Client::gets`] for [`Client::cas`].
 #[derive(Clone, Copy, Debug, PartialEq, Eq, Hash)]
@@ -74,6 +84,7 @@ pub struct Client {
     now: Cell<u32>,
 }
 
+#[cfg(not(feature = "wide"))]
 type ReadMany = unsafe extern "C" fn(*mut Handle, *const u8, usize, *mut Lookup, usize, u32) -> u32;
 type Write = unsafe extern "C" fn(*mut Handle, *const u8, usize, *const u8, usize, u32) -> u32;
 
@@ -99,7 +110,7 @@ impl Client {
     pub fn get(&self, key: impl AsRef<[u8]>) -> Result<Option<Value>, Error> {
         let (key, now) = (key.as_ref(), self.now.get());
         // SAFETY: the handle is this client's; the slices are borrowed, and the buffer is apart.
-        let (status, value) = Bytes::written(|value, room, length| unsafe {
+        let (status, value) = Value::written(|value, room, length| unsafe {
             raw::segcache_raw_get(self.handle(), key.as_ptr(), key.len(), value, room, length, now)
         });
         found(status, value)
@@ -113,10 +124,40 @@ impl Client {
         let (key, now, mut version) = (key.as_ref(), self.now.get(), 0);
         let (at, len) = (key.as_ptr(), key.len());
         // SAFETY: as in get.
-        let (status, value) = Bytes::written(|value, room, length| unsafe {
+        let (status, value) = Value::written(|value, room, length| unsafe {
             raw::segcache_raw_gets(self.handle(), at, len, value, room, length, &mut version, now)
         });
         Ok(found(status, value)?.map(|value| (value, Version(version))))
+    }
+
+    /// Copies the value of a key to the front of a buffer. Returns how many bytes it has, or `None` if the key is absent.
+    ///
+    /// # Errors
+    /// [`Error::ShortBuffer`], [`Error::Busy`], [`Error::BadKey`]. The buffer is then as it was.
+    pub fn get_into(&self, key: impl AsRef<[u8]>, buffer: &mut [u8]) -> Result<Option<usize>, Error> {
+        let (key, now, mut length) = (key.as_ref(), self.now.get(), 0);
+        let (at, len, value, room) = (key.as_ptr(), key.len(), buffer.as_mut_ptr(), buffer.len());
+        // SAFETY: the handle is this client's, the slice is borrowed, and the buffer is borrowed to be written.
+        let status = unsafe { raw::segcache_raw_get(self.handle(), at, len, value, room, &mut length, now) };
+        copied(status, length)
+    }
+
+    /// A [`Client::get_into`] that also returns the version of the key's bucket, for [`Client::cas`].
+    ///
+    /// # Errors
+    /// As [`Client::get_into`].
+    pub fn gets_into(
+        &self,
+        key: impl AsRef<[u8]>,
+        buffer: &mut [u8],
+    ) -> Result<Option<(usize, Version)>, Error> {
+        let (key, now, mut length, mut version) = (key.as_ref(), self.now.get(), 0, 0);
+        let (at, len, value, room) = (key.as_ptr(), key.len(), buffer.as_mut_ptr(), buffer.len());
+        // SAFETY: as in get_into.
+        let status = unsafe {
+            raw::segcache_raw_gets(self.handle(), at, len, value, room, &mut length, &mut version, now)
+        };
+        Ok(copied(status, length)?.map(|length| (length, Version(version))))
     }
 
     /// The value of each key, in their order: one get after another. In a cache for 6,554 keys or more, and for 820 or
@@ -125,8 +166,10 @@ impl Client {
     /// # Errors
     /// Of each key, as [`Client::get`].
     pub fn get_many<K: AsRef<[u8]>>(&self, keys: &[K]) -> Vec<Result<Option<Value>, Error>> {
-        let lookups = self.look_up(raw::segcache_raw_get_many, keys);
-        lookups.iter().map(Lookup::value).collect()
+        #[cfg(feature = "wide")]
+        return self.read_each(keys, |key| self.get(key));
+        #[cfg(not(feature = "wide"))]
+        self.look_up(raw::segcache_raw_get_many, keys).iter().map(Lookup::value).collect()
     }
 
     /// The value of each key with its version, in their order, for [`Client::cas`].
@@ -135,9 +178,12 @@ impl Client {
     /// Of each key, as [`Client::get`].
     #[allow(clippy::type_complexity)]
     pub fn gets_many<K: AsRef<[u8]>>(&self, keys: &[K]) -> Vec<Result<Option<(Value, Version)>, Error>> {
-        let lookups = self.look_up(raw::segcache_raw_gets_many, keys);
+        #[cfg(feature = "wide")]
+        return self.read_each(keys, |key| self.gets(key));
+        #[cfg(not(feature = "wide"))]
         let versioned = |it: &Lookup| Ok(it.value()?.map(|value| (value, Version(it.version))));
-        lookups.iter().map(versioned).collect()
+        #[cfg(not(feature = "wide"))]
+        self.look_up(raw::segcache_raw_gets_many, keys).iter().map(versioned).collect()
     }
 
     /// Holds the value of a key, or `None` if it is absent: until the hold is dropped it reads the same, also
@@ -337,11 +383,38 @@ impl Client {
         stats
     }
 
+    // What this read returns for each key, where it has looked ahead for sixteen keys at a time. A list of lookups
+    // would have room for the longest value of each.
+    #[cfg(feature = "wide")]
+    fn read_each<'k, K: AsRef<[u8]>, T>(&self, keys: &'k [K], read: impl Fn(&'k K) -> T) -> Vec<T> {
+        let mut found = Vec::with_capacity(keys.len());
+        for piece in keys.chunks(AHEAD) {
+            self.look_ahead(piece);
+            found.extend(piece.iter().map(&read));
+        }
+        found
+    }
+
+    // Loads what gets of these keys will read. No answer depends on it. A key that is too long is passed over.
+    #[cfg(feature = "wide")]
+    fn look_ahead<K: AsRef<[u8]>>(&self, keys: &[K]) {
+        let (mut bytes, mut places) = (Vec::new(), Vec::with_capacity(keys.len()));
+        for key in keys.iter().map(AsRef::as_ref) {
+            let key = if key.len() <= crate::MAX_KEY { key } else { &[] };
+            places.push(KeyPlace { key_at: bytes.len(), key_len: key.len() });
+            bytes.extend_from_slice(key);
+        }
+        let (at, len) = (bytes.as_ptr(), bytes.len());
+        // SAFETY: the handle is this client's, and both lists are this call's own.
+        unsafe { raw::segcache_raw_look_ahead(self.handle(), at, len, places.as_ptr(), places.len()) };
+    }
+
     // The keys' bytes stand one behind another.
+    #[cfg(not(feature = "wide"))]
     fn look_up<K: AsRef<[u8]>>(&self, read: ReadMany, keys: &[K]) -> Vec<Lookup> {
         let (mut bytes, mut lookups) = (Vec::new(), Vec::with_capacity(keys.len()));
         for key in keys.iter().map(AsRef::as_ref) {
-            lookups.push(Lookup { key_at: bytes.len(), key_len: key.len(), ..Lookup::default() });
+            lookups.push(Lookup::of(bytes.len(), key.len()));
             bytes.extend_from_slice(key);
         }
         let (at, count, now) = (lookups.as_mut_ptr(), lookups.len(), self.now.get());
@@ -360,7 +433,12 @@ impl Client {
     }
 }
 
+#[cfg(not(feature = "wide"))]
 impl Lookup {
+    fn of(key_at: usize, key_len: usize) -> Lookup {
+        Lookup { key_at, key_len, value_len: 0, status: OK, version: 0, value: [0; crate::MAX_VALUE] }
+    }
+
     fn value(&self) -> Result<Option<Value>, Error> {
         found(self.status, Value::of(self.value, self.value_len))
     }
@@ -385,6 +463,15 @@ fn either(status: u32, no: u32) -> Result<bool, Error> {
     match status {
         OK => Ok(true),
         other if other == no => Ok(false),
+        other => Err(Error::of(other)),
+    }
+}
+
+fn copied(status: u32, length: usize) -> Result<Option<usize>, Error> {
+    match status {
+        OK => Ok(Some(length)),
+        MISS => Ok(None),
+        SHORT_BUFFER => Err(Error::ShortBuffer(length)),
         other => Err(Error::of(other)),
     }
 }

@@ -1,5 +1,6 @@
 // SPDX-License-Identifier: MIT
 //! What a call may answer in place of a result.
+use crate::{MAX_KEY, MAX_VALUE};
 use std::fmt;
 
 /// Why a call did not do what was asked.
@@ -13,10 +14,12 @@ pub enum Error {
     NoRoom,
     /// The key's bucket has no free word.
     BucketFull,
-    /// A key has 1 to 24 bytes.
+    /// A key has 1 to [`MAX_KEY`](crate::MAX_KEY) bytes.
     BadKey,
-    /// A value has 32 bytes at most.
+    /// A value has [`MAX_VALUE`](crate::MAX_VALUE) bytes at most.
     BadValue,
+    /// The buffer is too short for the value, which has so many bytes. Nothing was copied.
+    ShortBuffer(usize),
     /// Such a number of keys or of threads, or such a shape, can't be.
     BadShape,
     /// The memory was refused.
@@ -59,8 +62,9 @@ impl fmt::Display for Error {
             Error::Busy => "others worked on the key's bucket all the while",
             Error::NoRoom => "no segment can be had to store into",
             Error::BucketFull => "the key's bucket is full",
-            Error::BadKey => "a key has 1 to 24 bytes",
-            Error::BadValue => "a value has 32 bytes at most",
+            Error::BadKey => return write!(f, "a key has 1 to {MAX_KEY} bytes"),
+            Error::BadValue => return write!(f, "a value has {MAX_VALUE} bytes at most"),
+            Error::ShortBuffer(length) => return write!(f, "the buffer is too short for {length} bytes"),
             Error::BadShape => "such a shape can't be",
             Error::OutOfMemory => "out of memory",
             Error::AlreadyHolding => "the client holds a value already",

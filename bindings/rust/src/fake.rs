@@ -2,12 +2,15 @@
 //! What the unit tests have in place of the library: each function writes down what it was handed, and returns the
 //! status that it was told. So they see what no run of the cache shows, as the moment of a set, and an answer that is
 //! Busy. A handle is its number here.
-use crate::raw::{Handle, Lookup};
-use crate::{IndexStats, Shape, Stats, Version};
+use crate::raw::{Handle, KeyPlace, Lookup};
+use crate::{IndexStats, Shape, Stats, Version, MAX_KEY, MAX_VALUE, SIZES};
 use std::cell::{Cell, RefCell};
 
 /// What is read where a call writes a value: the first bytes of the buffer.
 pub(crate) const VALUE: &[u8] = b"value";
+
+/// The status of a call whose buffer is too short.
+pub(crate) const SHORT_BUFFER: u32 = 10;
 
 /// The status of a call whose handle is none.
 pub(crate) const NO_HANDLE: u32 = 13;
@@ -19,7 +22,7 @@ thread_local! {
     static CALLS: RefCell<Vec<String>> = const { RefCell::new(Vec::new()) };
     static STATUS: Cell<u32> = const { Cell::new(0) };
     static LIBRARY: Cell<u32> = const { Cell::new(crate::VERSION_NUMBER) };
-    static SIZES: Cell<u32> = const { Cell::new(24 << 16 | 32) };
+    static LIBRARY_SIZES: Cell<u32> = const { Cell::new(SIZES) };
 }
 
 /// Sets the version of the library that is made up.
@@ -33,11 +36,11 @@ pub(crate) unsafe extern "C" fn segcache_raw_version() -> u32 {
 
 /// Sets the longest key and value of the library that is made up.
 pub(crate) fn be_of_sizes(key: u32, value: u32) {
-    SIZES.with(|it| it.set(key << 16 | value));
+    LIBRARY_SIZES.with(|it| it.set(key << 16 | value));
 }
 
 pub(crate) unsafe extern "C" fn segcache_raw_sizes() -> u32 {
-    SIZES.with(Cell::get)
+    LIBRARY_SIZES.with(Cell::get)
 }
 
 /// Sets what the calls of this thread return from now on.
@@ -76,11 +79,13 @@ unsafe fn fill(handles: *mut Handle, count: usize, from: usize) {
     }
 }
 
-/// Writes the value, if the status is 0.
+/// Writes the value, if the status is 0, and its length, also if the buffer is too short.
 unsafe fn write(value: *mut u8, room: usize, length: *mut usize) {
-    assert_eq!(room, 32);
     if status() == 0 {
+        assert!(room >= VALUE.len());
         value.copy_from(VALUE.as_ptr(), VALUE.len());
+    }
+    if status() == 0 || status() == SHORT_BUFFER {
         *length = VALUE.len();
     }
 }
@@ -181,7 +186,7 @@ pub(crate) unsafe extern "C" fn segcache_raw_get(
     now: u32,
 ) -> u32 {
     write(value, room, value_len);
-    tell(format!("get {} {} {now}", number(client), text(key, key_len)))
+    tell(format!("get {} {} {now}, {room}", number(client), text(key, key_len)))
 }
 
 #[allow(clippy::too_many_arguments)]
@@ -197,7 +202,7 @@ pub(crate) unsafe extern "C" fn segcache_raw_gets(
 ) -> u32 {
     write(value, room, value_len);
     *version = VERSION.0;
-    tell(format!("gets {} {} {now}", number(client), text(key, key_len)))
+    tell(format!("gets {} {} {now}, {room}", number(client), text(key, key_len)))
 }
 
 pub(crate) unsafe extern "C" fn segcache_raw_get_many(
@@ -224,6 +229,23 @@ pub(crate) unsafe extern "C" fn segcache_raw_gets_many(
     write_each(lookups, count, VERSION.0);
     let keys = keys_of(keys, keys_len, lookups, count);
     tell_many(format!("gets_many {} {keys:?} {now}", number(client)))
+}
+
+/// It is Ok, whatever the next calls return.
+pub(crate) unsafe extern "C" fn segcache_raw_look_ahead(
+    client: *mut Handle,
+    keys: *const u8,
+    keys_len: usize,
+    places: *const KeyPlace,
+    places_len: usize,
+) -> u32 {
+    let bytes = std::slice::from_raw_parts(keys, keys_len);
+    let places = std::slice::from_raw_parts(places, places_len);
+    let keys: Vec<_> =
+        places.iter().map(|it| String::from_utf8_lossy(&bytes[it.key_at..][..it.key_len])).collect();
+    assert_eq!(keys_len, places.iter().map(|it| it.key_len).sum());
+    tell(format!("look_ahead {} {keys:?}", number(client)));
+    0
 }
 
 macro_rules! writes {
@@ -299,6 +321,7 @@ pub(crate) unsafe extern "C" fn segcache_raw_held_value(
     room: usize,
     value_len: *mut usize,
 ) -> u32 {
+    assert_eq!(room, MAX_VALUE);
     write(value, room, value_len);
     tell(format!("held_value {}", number(client)))
 }
@@ -350,7 +373,7 @@ pub(crate) unsafe extern "C" fn segcache_raw_next(
     value_room: usize,
     value_len: *mut usize,
 ) -> u32 {
-    assert_eq!(key_room, 24);
+    assert_eq!((key_room, value_room), (MAX_KEY, MAX_VALUE));
     write(value, value_room, value_len);
     key.copy_from(b"key".as_ptr(), 3);
     *key_len = 3;

@@ -1,9 +1,10 @@
 // SPDX-License-Identifier: MIT
 //! Holds and notes.
+use crate::bytes::Written;
 use crate::cache::Shared;
 use crate::client::OK;
 use crate::raw::{self, Handle};
-use crate::{Bytes, Client, Value};
+use crate::{Client, Value};
 use std::sync::{Arc, Weak};
 
 /// A value that a client holds, from [`Client::hold`] until this is dropped. The client may make other calls
@@ -22,7 +23,7 @@ impl<'c> Hold<'c> {
     #[must_use]
     pub fn value(&self) -> Value {
         // SAFETY: the handle is the client's, and the buffer is apart.
-        let (status, value) = Bytes::written(|value, room, length| unsafe {
+        let (status, value) = Value::written(|value, room, length| unsafe {
             raw::segcache_raw_held_value(self.client.handle(), value, room, length)
         });
         debug_assert_eq!(status, OK);

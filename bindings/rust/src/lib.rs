@@ -2,8 +2,9 @@
 //! A cache for the threads of one program, over a proved index: safe Rust over `libsegcache.a`.
 //!
 //! Each thread has a [`Client`] of its own, and reads what all of them put. No call of a client waits; a
-//! client that is dropped waits while another is. A key has 1 to 24 bytes, a value at most 32. The cache takes
-//! its memory when it is made; notes, a close, [`Client::get_many`] and [`Client::gets_many`] take more.
+//! client that is dropped waits while another is. A key has 1 to 24 bytes, a value at most 32: [`MAX_KEY`] and
+//! [`MAX_VALUE`]. The cache takes its memory when it is made; notes, a close, [`Client::get_many`] and
+//! [`Client::gets_many`] take more.
 //!
 //! ```
 //! let (_cache, mut clients) = segcache::Cache::builder().keys(1_000).threads(2).build()?;
@@ -80,6 +81,24 @@
 //! # Ok::<(), segcache::Error>(())
 //! ```
 //!
+//! A get copies the value. [`Client::get_into`] copies it into a buffer of yours:
+//!
+//! ```
+//! # let (_cache, clients) = segcache::Cache::builder().build()?;
+//! # clients[0].put("page", "the page")?;
+//! let mut buffer = [0; segcache::MAX_VALUE];
+//! if let Some(length) = clients[0].get_into("page", &mut buffer)? {
+//!     assert_eq!(&buffer[..length], b"the page");
+//! }
+//! # Ok::<(), segcache::Error>(())
+//! ```
+//!
+//! **With the feature `wide`** the crate is for the library's wide build, `libsegcachewide.a`: keys have up to 250 bytes,
+//! values up to 4,064. There an item takes as many rows of 64 bytes as it needs, so [`Builder::items`] opens a cache. A
+//! `Value` then owns its bytes on the heap, and isn't `Copy`; `get_into` allocates nothing. The feature is the choice of
+//! the program, which has one library: a crate in between leaves it off, and takes a value for what reads as a slice.
+//! That build isn't proved or made yet.
+//!
 //! **What is proved**: the library's functions, under Rattle, where their caller keeps to what the header
 //! `segcache.h` lists. This crate is written by hand, and keeps to it by ownership and borrows: a client is
 //! moved and never copied, no two threads share it, and it is given back to its own cache. One thing is left to
@@ -92,6 +111,7 @@ mod cache;
 mod client;
 mod error;
 #[cfg(test)]
+#[allow(dead_code)] // some of it is for one of the two builds
 mod fake;
 mod hold;
 mod raw;
@@ -99,6 +119,8 @@ mod raw;
 mod tests;
 
 pub use bytes::Bytes;
+#[cfg(feature = "wide")]
+pub use bytes::Value;
 pub use cache::{Builder, Cache, Content, Shape, Unclosed};
 pub use client::{Cas, Client, IndexStats, Stats, Version};
 pub use error::Error;
@@ -119,7 +141,7 @@ pub fn library_version() -> u32 {
 
 /// The longest key and value of the crate, as the library says its own: 65,536 times the bytes of the one, and the bytes
 /// of the other.
-const SIZES: u32 = 24 << 16 | 32;
+const SIZES: u32 = (MAX_KEY << 16 | MAX_VALUE) as u32;
 
 /// The library's longest key and value.
 fn library_sizes() -> u32 {
@@ -127,8 +149,15 @@ fn library_sizes() -> u32 {
     unsafe { raw::segcache_raw_sizes() }
 }
 
-/// A key of the content: 1 to 24 bytes.
-pub type Key = Bytes<24>;
+/// The longest key, in bytes: 24, or 250 with the feature `wide`.
+pub const MAX_KEY: usize = if cfg!(feature = "wide") { 250 } else { 24 };
 
-/// A value: at most 32 bytes.
-pub type Value = Bytes<32>;
+/// The longest value, in bytes: 32, or 4,064 with the feature `wide`.
+pub const MAX_VALUE: usize = if cfg!(feature = "wide") { 4_064 } else { 32 };
+
+/// A key of the content: 1 to [`MAX_KEY`] bytes.
+pub type Key = Bytes<MAX_KEY>;
+
+/// A value: at most [`MAX_VALUE`] bytes.
+#[cfg(not(feature = "wide"))]
+pub type Value = Bytes<MAX_VALUE>;

@@ -22,16 +22,27 @@ impl Handle {
     }
 }
 
-/// The place of a key among the bytes of a call, and what came of it.
+/// The place of a key among the bytes of a call, and what came of it. With long values the crate makes single gets, since
+/// each of these has room for the longest one.
 #[repr(C)]
-#[derive(Clone, Copy, Default)]
+#[derive(Clone, Copy)]
+#[cfg_attr(feature = "wide", allow(dead_code))]
 pub(crate) struct Lookup {
     pub(crate) key_at: usize,
     pub(crate) key_len: usize,
     pub(crate) value_len: usize,
     pub(crate) status: u32,
     pub(crate) version: u32,
-    pub(crate) value: [u8; 32],
+    pub(crate) value: [u8; crate::MAX_VALUE],
+}
+
+/// The place of a key among the bytes of a look ahead.
+#[repr(C)]
+#[derive(Clone, Copy)]
+#[cfg_attr(not(feature = "wide"), allow(dead_code))]
+pub(crate) struct KeyPlace {
+    pub(crate) key_at: usize,
+    pub(crate) key_len: usize,
 }
 
 #[cfg(test)]
@@ -39,6 +50,7 @@ pub(crate) use crate::fake::*;
 
 #[rustfmt::skip]
 #[cfg(not(test))]
+#[allow(dead_code)] // the lookups of many keys in one build, and the look ahead in the other
 extern "C" {
     pub(crate) fn segcache_raw_version() -> u32;
     pub(crate) fn segcache_raw_sizes() -> u32;
@@ -51,6 +63,7 @@ extern "C" {
     pub(crate) fn segcache_raw_gets(client: *mut Handle, key: *const u8, key_len: usize, value: *mut u8, room: usize, value_len: *mut usize, version: *mut u32, now: u32) -> u32;
     pub(crate) fn segcache_raw_get_many(client: *mut Handle, keys: *const u8, keys_len: usize, lookups: *mut Lookup, count: usize, now: u32) -> u32;
     pub(crate) fn segcache_raw_gets_many(client: *mut Handle, keys: *const u8, keys_len: usize, lookups: *mut Lookup, count: usize, now: u32) -> u32;
+    pub(crate) fn segcache_raw_look_ahead(client: *mut Handle, keys: *const u8, keys_len: usize, places: *const KeyPlace, places_len: usize) -> u32;
     pub(crate) fn segcache_raw_put(client: *mut Handle, key: *const u8, key_len: usize, value: *const u8, value_len: usize, now: u32) -> u32;
     pub(crate) fn segcache_raw_put_for(client: *mut Handle, key: *const u8, key_len: usize, value: *const u8, value_len: usize, seconds: u32, now: u32) -> u32;
     pub(crate) fn segcache_raw_set(client: *mut Handle, key: *const u8, key_len: usize, value: *const u8, value_len: usize, now: u32) -> u32;

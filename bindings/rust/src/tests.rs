@@ -1,7 +1,7 @@
 // SPDX-License-Identifier: MIT
 //! What each call hands to the library, and what it makes of each answer, over functions that are made up (`fake`).
-use crate::fake::{answer, be_of_sizes, be_of_version, calls, NO_HANDLE, VALUE, VERSION};
-use crate::{Builder, Cache, Cas, Client, Error, Shape, Version};
+use crate::fake::{answer, be_of_sizes, be_of_version, calls, NO_HANDLE, SHORT_BUFFER, VALUE, VERSION};
+use crate::{Builder, Cache, Cas, Client, Error, Shape, Version, MAX_KEY, MAX_VALUE};
 use std::num::NonZeroU8;
 
 /// The statuses that a call can't turn into anything else.
@@ -60,12 +60,50 @@ fn returns<T>(status: u32, call: impl Fn() -> T) -> T {
 #[test]
 fn each_read_hands_its_arguments_on() {
     let (_cache, client) = at(7);
-    passes(|| client.get("one"), "get 100 one 7", &[]);
-    passes(|| client.gets("two"), "gets 100 two 7", &[]);
+    passes(|| client.get("one"), &format!("get 100 one 7, {MAX_VALUE}"), &[]);
+    passes(|| client.gets("two"), &format!("gets 100 two 7, {MAX_VALUE}"), &[]);
     client.set_now(8);
     passes(|| client.hold("three").map(|hold| hold.is_some()), "hold 100 three 8", &[]);
+    passes(|| client.get_into("four", &mut [0; 5]), "get 100 four 8, 5", &[]);
+    passes(|| client.gets_into("five", &mut [0; 6]), "gets 100 five 8, 6", &[]);
+}
+
+#[cfg(not(feature = "wide"))]
+#[test]
+fn many_keys_are_read_by_one_call() {
+    let (_cache, client) = at(8);
     passes(|| client.get_many(&["a", "bc"])[1], "get_many 100 [\"a\", \"bc\"] 8", &[]);
     passes(|| client.gets_many(&["a", "bc"])[0], "gets_many 100 [\"a\", \"bc\"] 8", &[]);
+}
+
+/// Sixteen keys at a time. One that is too long is passed over, and has its get.
+#[cfg(feature = "wide")]
+#[test]
+fn many_keys_are_read_one_by_one_behind_looks_ahead() {
+    let (_cache, client) = at(8);
+    for count in [0, 1, 15, 16, 17, 33] {
+        let length = |number: usize| if number % 10 == 3 { MAX_KEY + 1 } else { 1 + number };
+        let keys: Vec<String> = (0..count).map(|number| "k".repeat(length(number))).collect();
+        let mut wanted = [Vec::new(), Vec::new()];
+        for (call, wanted) in ["get", "gets"].iter().zip(&mut wanted) {
+            for piece in keys.chunks(16) {
+                let ahead = |key: &'_ String| if key.len() > MAX_KEY { String::new() } else { key.clone() };
+                wanted.push(format!("look_ahead 100 {:?}", piece.iter().map(ahead).collect::<Vec<_>>()));
+                wanted.extend(piece.iter().map(|key| format!("{call} 100 {key} 8, {MAX_VALUE}")));
+            }
+        }
+        assert!(client.get_many(&keys).iter().all(|found| found.as_ref().unwrap().as_deref() == Some(VALUE)));
+        assert_eq!(calls(), wanted[0]);
+        assert!(client
+            .gets_many(&keys)
+            .iter()
+            .all(|found| found.as_ref().unwrap().as_ref().unwrap().1 == VERSION));
+        assert_eq!(calls(), wanted[1]);
+        for (status, error) in ERRORS {
+            assert!(returns(status, || client.get_many(&keys)).iter().all(|found| *found == Err(error)));
+            assert!(returns(status, || client.gets_many(&keys)).iter().all(|found| *found == Err(error)));
+        }
+    }
 }
 
 #[test]
@@ -120,12 +158,30 @@ fn settings_and_counts_hand_their_arguments_on() {
 #[test]
 fn what_is_found_is_returned() {
     let (_cache, client) = at(0);
-    let versioned = Some((client.get("k").unwrap().unwrap(), VERSION));
+    let versioned = Ok(Some((client.get("k").unwrap().unwrap(), VERSION)));
     assert_eq!(client.get("k").unwrap().unwrap().as_slice(), VALUE);
-    assert_eq!(client.gets("k"), Ok(versioned));
+    assert_eq!(client.gets("k"), versioned);
     assert_eq!(client.get_many(&["k"])[0], client.get("k"));
-    assert_eq!(client.gets_many(&["k"])[0], Ok(versioned));
+    assert_eq!(client.gets_many(&["k"])[0], versioned);
     assert_eq!(client.hold("k").unwrap().unwrap().value().as_slice(), VALUE);
+}
+
+#[test]
+fn what_is_found_is_copied_into_a_buffer_that_is_long_enough() {
+    let (_cache, client) = at(0);
+    let mut buffer = [b'?'; 7];
+    assert_eq!(client.get_into("k", &mut buffer), Ok(Some(VALUE.len())));
+    assert_eq!(&buffer, b"value??");
+    let mut buffer = [b'?'; 5];
+    assert_eq!(client.gets_into("k", &mut buffer), Ok(Some((VALUE.len(), VERSION))));
+    assert_eq!(&buffer, VALUE);
+    assert_eq!(returns(SHORT_BUFFER, || client.get_into("k", &mut [])), Err(Error::ShortBuffer(VALUE.len())));
+    assert_eq!(
+        returns(SHORT_BUFFER, || client.gets_into("k", &mut [])),
+        Err(Error::ShortBuffer(VALUE.len()))
+    );
+    assert_eq!(returns(1, || client.get_into("k", &mut [])), Ok(None));
+    assert_eq!(returns(1, || client.gets_into("k", &mut [])), Ok(None));
 }
 
 #[test]
@@ -159,8 +215,12 @@ fn each_error_has_its_text() {
         (Error::Busy, "others worked on the key's bucket all the while"),
         (Error::NoRoom, "no segment can be had to store into"),
         (Error::BucketFull, "the key's bucket is full"),
-        (Error::BadKey, "a key has 1 to 24 bytes"),
-        (Error::BadValue, "a value has 32 bytes at most"),
+        (Error::BadKey, if MAX_KEY == 24 { "a key has 1 to 24 bytes" } else { "a key has 1 to 250 bytes" }),
+        (
+            Error::BadValue,
+            if MAX_VALUE == 32 { "a value has 32 bytes at most" } else { "a value has 4064 bytes at most" },
+        ),
+        (Error::ShortBuffer(7), "the buffer is too short for 7 bytes"),
         (Error::BadShape, "such a shape can't be"),
         (Error::OutOfMemory, "out of memory"),
         (Error::AlreadyHolding, "the client holds a value already"),
@@ -219,13 +279,16 @@ fn a_library_of_another_version_opens_nothing() {
 
 #[test]
 fn a_library_of_other_sizes_opens_nothing() {
-    for (key, value) in [(24, 33), (23, 32), (250, 4064)] {
+    assert_eq!((MAX_KEY, MAX_VALUE), if cfg!(feature = "wide") { (250, 4064) } else { (24, 32) });
+    let (key, value) = (MAX_KEY as u32, MAX_VALUE as u32);
+    let other = if cfg!(feature = "wide") { (24, 32) } else { (250, 4064) };
+    for (key, value) in [(key, value + 1), (key - 1, value), other] {
         be_of_sizes(key, value);
         assert_eq!(Cache::builder().build().err(), Some(Error::OtherSizes));
         assert_eq!(Cache::builder().threads(65).build().err(), Some(Error::OtherSizes));
         assert_eq!(calls().len(), 0);
     }
-    be_of_sizes(24, 32);
+    be_of_sizes(key, value);
     open(Cache::builder());
 }
 

@@ -1,6 +1,6 @@
 // SPDX-License-Identifier: MIT
 //! Each call of the crate, and each error that a program can bring about.
-use segcache::{Cache, Cas, Client, Error, Shape, Version};
+use segcache::{Cache, Cas, Client, Error, Shape, Version, MAX_KEY, MAX_VALUE};
 use std::num::NonZeroU8;
 use std::thread;
 
@@ -78,9 +78,33 @@ fn a_key_reads_what_was_put() {
     assert_eq!(format!("{value:?}"), "b\"value\"");
     assert_eq!(other.delete("k"), Ok(true));
     assert_eq!(one.delete("k"), Ok(false));
-    assert_eq!(one.put([0; 24], [1; 32]), Ok(()));
-    assert_eq!(other.get([0; 24]).unwrap().unwrap().as_slice(), [1; 32]);
-    assert_eq!(other.get([0; 23]), Ok(None));
+    assert_eq!(one.put([0; MAX_KEY], [1; MAX_VALUE]), Ok(()));
+    assert_eq!(other.get([0; MAX_KEY]).unwrap().unwrap().as_slice(), [1; MAX_VALUE]);
+    assert_eq!(other.get([0; MAX_KEY - 1]), Ok(None));
+}
+
+#[test]
+fn a_value_is_copied_into_a_buffer_that_is_long_enough() {
+    let (_cache, one, other) = two();
+    let mut buffer = [b'?'; 6];
+    assert_eq!(other.get_into("k", &mut buffer), Ok(None));
+    one.put("k", "value").unwrap();
+    assert_eq!(other.get_into("k", &mut buffer[..4]), Err(Error::ShortBuffer(5)));
+    assert_eq!(other.gets_into("k", &mut buffer[..4]), Err(Error::ShortBuffer(5)));
+    assert_eq!(&buffer, b"??????");
+    assert_eq!(other.get_into("k", &mut buffer), Ok(Some(5)));
+    assert_eq!(&buffer, b"value?");
+    let (length, version) = other.gets_into("k", &mut buffer[..5]).unwrap().unwrap();
+    assert_eq!((length, version), (5, other.gets("k").unwrap().unwrap().1));
+    assert_eq!(other.get_into("", &mut buffer), Err(Error::BadKey));
+}
+
+#[test]
+fn a_cache_for_items_has_room_for_them() {
+    let (_cache, clients) = Cache::builder().items(5_000, 30).threads(2).build().unwrap();
+    (0_u32..5_000).for_each(|key| clients[key as usize % 2].put(key.to_le_bytes(), [1; 26]).unwrap());
+    assert_eq!(found(&clients[0], 5_000), 5_000);
+    assert_eq!(Cache::builder().items(5_000, 30).threads(0).build().err(), Some(Error::BadShape));
 }
 
 #[test]
@@ -91,7 +115,7 @@ fn many_keys_have_their_answers_in_their_order() {
         client.put(key, [&b"of "[..], key].concat()).unwrap();
     }
     keys[3] = vec![];
-    keys[19] = vec![b'k'; 25];
+    keys[19] = vec![b'k'; MAX_KEY + 1];
     keys[39] = vec![b'k'; 500];
     let answers = other.get_many(&keys);
     assert_eq!(answers.len(), 40);
@@ -100,8 +124,8 @@ fn many_keys_have_their_answers_in_their_order() {
         assert_eq!(*answer, other.get(key));
         assert_eq!(*with_version, other.gets(key));
     }
-    assert_eq!(answers[2].unwrap().unwrap(), b"of k\x02");
-    assert_eq!((answers[1], answers[19]), (Ok(None), Err(Error::BadKey)));
+    assert_eq!(answers[2].as_ref().unwrap().as_deref(), Some(&b"of k\x02"[..]));
+    assert_eq!((&answers[1], &answers[19]), (&Ok(None), &Err(Error::BadKey)));
     assert_eq!(other.stats().hits, 80);
     assert_eq!(other.get_many::<&str>(&[]), []);
 }
@@ -110,8 +134,8 @@ fn many_keys_have_their_answers_in_their_order() {
 fn lengths_are_judged() {
     let (_cache, client, _other) = two();
     assert_eq!(client.get(""), Err(Error::BadKey));
-    assert_eq!(client.put([1; 25], ""), Err(Error::BadKey));
-    assert_eq!(client.put("k", [1; 33]), Err(Error::BadValue));
+    assert_eq!(client.put([1; MAX_KEY + 1], ""), Err(Error::BadKey));
+    assert_eq!(client.put("k", [1; MAX_VALUE + 1]), Err(Error::BadValue));
 }
 
 #[test]
@@ -151,8 +175,10 @@ fn is_read_at(client: &Client, now: u32) -> bool {
     client.set_now(now);
     let found = client.get("k").unwrap().is_some();
     assert_eq!(client.gets("k").unwrap().is_some(), found);
-    assert_eq!(client.get_many(&["k"])[0].unwrap().is_some(), found);
-    assert_eq!(client.gets_many(&["k"])[0].unwrap().is_some(), found);
+    assert_eq!(client.get_into("k", &mut [0; MAX_VALUE]).unwrap().is_some(), found);
+    assert_eq!(client.gets_into("k", &mut [0; MAX_VALUE]).unwrap().is_some(), found);
+    assert_eq!(matches!(client.get_many(&["k"])[0], Ok(Some(_))), found);
+    assert_eq!(matches!(client.gets_many(&["k"])[0], Ok(Some(_))), found);
     assert_eq!(client.hold("k").unwrap().is_some(), found);
     found
 }
@@ -364,8 +390,8 @@ fn a_whole_life() {
     }
     assert!(clients[0].stats().keys_evicted > 0);
     let keys: Vec<_> = (2_900_u32..3_000).map(u32::to_le_bytes).collect();
-    assert!(clients[1].get_many(&keys).iter().all(|found| found.unwrap().is_some()));
-    assert!(clients[1].gets_many(&keys).iter().all(|found| found.unwrap().is_some()));
+    assert!(clients[1].get_many(&keys).iter().all(|found| matches!(found, Ok(Some(_)))));
+    assert!(clients[1].gets_many(&keys).iter().all(|found| matches!(found, Ok(Some(_)))));
     let hold = clients[1].hold(keys[0]).unwrap().unwrap();
     clients[1].learn(clients[0].note().unwrap()).unwrap();
     assert_eq!(hold.value().as_slice(), [1; 32]);
