@@ -6,7 +6,7 @@
 #include <stdio.h>
 #include <stdlib.h>
 
-enum { CLIENTS = 3, KEYS = 64, CALLS = 22, GUARD = 0xA5, FRAME = 8, LONGEST = 40 };
+enum { CLIENTS = 3, KEYS = 64, CALLS = 22, GUARD = 0xA5, FRAME = 8, LONGEST = SEGCACHE_MAX_VALUE + 8 };
 
 #define REQUIRE(condition) ((condition) ? (void)0 : (fprintf(stderr, "%d: %s\n", __LINE__, #condition), abort()))
 
@@ -47,7 +47,8 @@ struct buffer {
 static uint32_t draw(struct bytes *bytes, uint32_t below) {
   if (bytes->left == 0) return 0;
   bytes->left--;
-  return *bytes->at++ % below;
+  uint32_t drawn = *bytes->at++;
+  return (below <= 256 ? drawn : drawn << 8 | draw(bytes, 256)) % below;
 }
 
 static struct buffer empty(size_t room) {
@@ -65,7 +66,7 @@ static bool is_clean(const struct buffer *buffer, size_t from) {
 
 /* A key has a length of its number, so that short and long ones are among them. */
 static size_t key_of(uint32_t number, uint8_t *key) {
-  size_t length = 1 + number % SEGCACHE_MAX_KEY;
+  size_t length = 1 + number * (1 + SEGCACHE_MAX_KEY / KEYS) % SEGCACHE_MAX_KEY;
   memset(key, (int)number, length);
   return length;
 }
@@ -331,7 +332,7 @@ int LLVMFuzzerTestOneInput(const uint8_t *data, size_t size) {
                           .overflow = draw(&bytes, 4),
                           .passes = CLIENTS,
                           .segments_each = 1 + draw(&bytes, 12),
-                          .rows = 1 + draw(&bytes, 5),
+                          .rows = 1 + draw(&bytes, SEGCACHE_MAX_VALUE > 32 ? 80 : 5),
                           .first_version = draw(&bytes, 2) ? UINT32_MAX >> 8 : 0};
   uint32_t status = segcache_open_shape(&shape, &model.cache, model.clients);
   if (status != SEGCACHE_OK) {

@@ -1,84 +1,6 @@
 // SPDX-License-Identifier: MIT
-/* Tests of the library through segcache.h: each call and its answers, and allocations that fail.
- * Link with -Wl,--wrap=malloc,--wrap=realloc,--wrap=free: so the tests refuse memory and count what is out. */
+/* Tests of the library through segcache.h: each call and its answers, and allocations that fail. */
 #include "test.h"
-
-#include <malloc.h>
-
-int checks, faults;
-
-/* --- Memory: how many blocks and bytes are out, and after how many more allocations one is refused --- */
-
-atomic_long requests, out, bytes_out, most_bytes_out;
-long until_refused = -1;
-
-/* A block takes 16 bytes more than can be used of it, at most. */
-static void count_bytes(void *at, long sign) {
-  if (at == NULL) return;
-  bytes_out += sign * (long)(malloc_usable_size(at) + 16);
-  if (bytes_out > most_bytes_out) most_bytes_out = bytes_out;
-}
-
-void *__real_malloc(size_t);
-void *__real_realloc(void *, size_t);
-void __real_free(void *);
-void *__wrap_malloc(size_t);
-void *__wrap_realloc(void *, size_t);
-void __wrap_free(void *);
-
-static int refuses(void) {
-  requests++;
-  return until_refused >= 0 && until_refused-- == 0;
-}
-
-/* The blocks that were freed and not used again, the first one first, while blocks are reused. */
-enum { SPARES = 64 };
-static void *spares[SPARES];
-static int spare_count, reuses;
-
-void reuse_blocks(void) { reuses = 1; }
-
-void free_blocks(void) {
-  reuses = 0;
-  while (spare_count > 0) __real_free(spares[--spare_count]);
-}
-
-/* The first spare block that is as large as this one, in its place. */
-static void *reused(void *at) {
-  for (int i = 0; at != NULL && i < spare_count; i++) {
-    void *spare = spares[i];
-    if (malloc_usable_size(spare) != malloc_usable_size(at)) continue;
-    memmove(&spares[i], &spares[i + 1], sizeof(void *) * (size_t)(--spare_count - i));
-    __real_free(at);
-    return spare;
-  }
-  return at;
-}
-
-void *__wrap_malloc(size_t size) {
-  void *at = refuses() ? NULL : reused(__real_malloc(size));
-  if (at != NULL) out++;
-  count_bytes(at, 1);
-  return at;
-}
-
-void *__wrap_realloc(void *old, size_t size) {
-  if (refuses()) return NULL;
-  count_bytes(old, -1);
-  void *at = __real_realloc(old, size);
-  count_bytes(at != NULL ? at : old, 1);
-  if (at != NULL && old == NULL) out++;
-  return at;
-}
-
-void __wrap_free(void *at) {
-  if (at != NULL) out--;
-  count_bytes(at, -1);
-  if (at != NULL && reuses && spare_count < SPARES) spares[spare_count++] = at;
-  else __real_free(at);
-}
-
-/* --- Each call --- */
 
 uint32_t put(segcache_client *client, const char *key, const char *value, uint32_t now) {
   return segcache_put(client, key, strlen(key), value, strlen(value), now);
@@ -219,6 +141,37 @@ static void test_many(segcache_client *one, segcache_client *other) {
   }
 }
 
+/* The same keys into buffers, some of which are too short. */
+static void test_many_into(segcache_client *client) {
+  char keys[40][SEGCACHE_MAX_KEY + 1] = {""}, values[40][3], value[3];
+  segcache_lookup_into lookups[40];
+  size_t length;
+  for (int versioned = 0; versioned < 2; versioned++) {
+    for (uint8_t i = 0; i < 40; i++) {
+      keys[i][0] = 'm', keys[i][1] = (char)i;
+      memset(values[i], '?', sizeof values[i]);
+      lookups[i] = (segcache_lookup_into){keys[i], 2, values[i], i % 8 == 4 ? 1 : 3, 99, 99, 99};
+    }
+    lookups[3].key_len = 0, lookups[5].key_len = SEGCACHE_MAX_KEY + 1;
+    EXPECT(versioned ? segcache_gets_many_into(client, lookups, 40, 0) : segcache_get_many_into(client, lookups, 40, 0),
+           SEGCACHE_OK);
+    for (int i = 0; i < 40; i++) {
+      const segcache_lookup_into *it = &lookups[i];
+      int is_bad = i == 3 || i == 5, is_there = i % 2 == 0, is_short = is_there && i % 8 == 4;
+      uint32_t version = 99;
+      EXPECT(segcache_gets(client, keys[i], 2, 0, value, sizeof value, &length, &version),
+             is_there ? SEGCACHE_OK : SEGCACHE_MISS);
+      EXPECT(it->status, is_bad     ? SEGCACHE_BAD_KEY
+                         : is_short ? SEGCACHE_SHORT_BUFFER
+                         : is_there ? SEGCACHE_OK
+                                    : SEGCACHE_MISS);
+      CHECK(it->value_len == (is_there ? 2 : 99) && it->version == (versioned ? version : 99));
+      CHECK(memcmp(values[i], it->status == SEGCACHE_OK ? (char[]){'v', (char)i, '?'} : "???", 3) == 0);
+    }
+  }
+  EXPECT(segcache_get_many_into(client, NULL, 0, 0), SEGCACHE_OK);
+}
+
 static void test_bad_arguments(segcache_client *client) {
   char key[SEGCACHE_MAX_KEY + 1] = "k", value[SEGCACHE_MAX_VALUE + 1] = "v";
   size_t length = 7;
@@ -336,6 +289,7 @@ static void test_no_handles(void) {
   segcache_stats_t stats;
   segcache_index_stats_t table;
   segcache_lookup lookup = {.key_len = 1};
+  segcache_lookup_into into = {"k", 1, NULL, 0, 0, 0, 0};
   char key[SEGCACHE_MAX_KEY] = "k", value[SEGCACHE_MAX_VALUE] = "v";
   size_t length, key_length;
   uint32_t version;
@@ -347,6 +301,9 @@ static void test_no_handles(void) {
     EXPECT(segcache_gets(no, key, 1, 0, value, 32, &length, &version), SEGCACHE_NO_HANDLE);
     EXPECT(segcache_get_many(no, key, 1, 0, &lookup, 1), SEGCACHE_NO_HANDLE);
     EXPECT(segcache_gets_many(no, key, 1, 0, &lookup, 1), SEGCACHE_NO_HANDLE);
+    EXPECT(segcache_get_many_into(no, &into, 1, 0), SEGCACHE_NO_HANDLE);
+    EXPECT(segcache_gets_many_into(no, &into, 1, 0), SEGCACHE_NO_HANDLE);
+    EXPECT(segcache_get_many_into(no, NULL, 0, 0), SEGCACHE_NO_HANDLE);
     EXPECT(segcache_put(no, key, 1, value, 1, 0), SEGCACHE_NO_HANDLE);
     EXPECT(segcache_put_for(no, key, 1, value, 1, 1, 0), SEGCACHE_NO_HANDLE);
     EXPECT(segcache_set(no, key, 1, value, 1, 0), SEGCACHE_NO_HANDLE);
@@ -489,6 +446,7 @@ int main(void) {
   EXPECT(segcache_open(1000, 2, &cache, clients), SEGCACHE_OK);
   test_reading_and_writing(&clients[0], &clients[1]);
   test_many(&clients[0], &clients[1]);
+  test_many_into(&clients[1]);
   test_bad_arguments(&clients[0]);
   for (int i = 0; i < 2; i++) EXPECT(segcache_give_back(&cache, &clients[i]), SEGCACHE_OK);
   EXPECT(segcache_free(&cache), SEGCACHE_OK);

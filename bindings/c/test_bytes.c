@@ -3,7 +3,11 @@
  * and what caches by a number of bytes take and keep. */
 #include "test.h"
 
-enum { MOST_THREADS = 4 };
+enum {
+  MOST_THREADS = 4,
+  /* So many bytes for each key are enough. In the wide build they are planned for items of four rows. */
+  KEY_BYTES = SEGCACHE_MAX_VALUE > 32 ? 1200 : 270,
+};
 
 static void give_back(segcache *cache, segcache_client *clients, uint32_t threads) {
   for (uint32_t i = 0; i < threads; i++) EXPECT(segcache_give_back(cache, &clients[i]), SEGCACHE_OK);
@@ -74,6 +78,7 @@ static void test_requests(void) {
     size_t length;
     uint32_t version = 0;
     segcache_lookup lookup = {.key_len = sizeof key};
+    segcache_lookup_into into = {&key, sizeof key, value, sizeof value, 0, 0, 0};
     segcache_put(&clients[key % 2], &key, sizeof key, "put", 3, key);
     segcache_get(other, &key, sizeof key, key, value, sizeof value, &length);
     segcache_gets(one, &key, sizeof key, key, value, sizeof value, &length, &version);
@@ -85,6 +90,7 @@ static void test_requests(void) {
     }
     segcache_get_many(other, &key, sizeof key, key, &lookup, 1);
     segcache_gets_many(other, &key, sizeof key, key, &lookup, 1);
+    segcache_gets_many_into(other, &into, 1, key);
     if (key % 3 == 0) segcache_delete(other, &key, sizeof key, key);
     segcache_add(other, &key, sizeof key, "added", 5, key);
     segcache_set(one, &key, sizeof key, "set", 3, key);
@@ -123,11 +129,11 @@ void test_bytes(void) {
   test_close();
   test_smallest(1);
   test_smallest(4);
-  test_budget(1 << 20, 1, (1 << 20) / 270, 40);
-  test_budget(4 << 20, 4, (4 << 20) / 270, 40);
-  test_budget(12 << 20, 2, (12 << 20) / 270, 60);
-  test_budget(64 << 20, 4, (64 << 20) / 270, 70);
-  test_budget(300l << 20, 4, (300l << 20) / 270, 70);
+  test_budget(1 << 20, 1, (1 << 20) / KEY_BYTES, 40);
+  test_budget(4 << 20, 4, (4 << 20) / KEY_BYTES, 40);
+  test_budget(12 << 20, 2, (12 << 20) / KEY_BYTES, 60);
+  test_budget(64 << 20, 4, (64 << 20) / KEY_BYTES, 70);
+  test_budget(300l << 20, 4, (300l << 20) / KEY_BYTES, 70);
   EXPECT(segcache_open_bytes(0, 1, &cache, clients), SEGCACHE_BAD_SHAPE);
   EXPECT(segcache_open_bytes(1 << 30, 0, &cache, clients), SEGCACHE_BAD_SHAPE);
   EXPECT(segcache_open_bytes(1 << 30, 65, &cache, clients), SEGCACHE_BAD_SHAPE);

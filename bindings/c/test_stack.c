@@ -36,9 +36,12 @@ static void get(void) {
 
 static void get_many(void) {
   static segcache_lookup lookups[100];
+  static segcache_lookup_into into[100];
   for (size_t i = 0; i < 100; i++) lookups[i].key_len = 1 + i % 24;
   expect(segcache_get_many(&clients[1], "a key of 24 bytes, all..", 24, 0, lookups, 100), SEGCACHE_OK);
   expect(segcache_gets_many(&clients[1], "a key of 24 bytes, all..", 24, 0, lookups, 100), SEGCACHE_OK);
+  for (size_t i = 0; i < 100; i++) into[i].key = "a key of 24 bytes, all..", into[i].key_len = 1 + i % 24;
+  expect(segcache_gets_many_into(&clients[1], into, 100, 0), SEGCACHE_OK);
 }
 
 /* More than there is room for, so segments are recycled, with items that are kept. */

@@ -89,6 +89,20 @@ static void test_fill(void) {
   give_back(&cache, clients);
 }
 
+/* A cache for items of one row has room for them, whichever client stores them, as one for keys. */
+static void test_items(void) {
+  segcache cache;
+  segcache_client clients[64];
+  EXPECT(segcache_open_items(KEYS, 56, THREADS, &cache, clients), SEGCACHE_OK);
+  put_all(&clients[1], KEYS);
+  CHECK(found(&clients[2], KEYS) == KEYS && evicted_by(&clients[1]) == 0);
+  give_back(&cache, clients);
+  EXPECT(segcache_open_items(KEYS, 56, 0, &cache, clients), SEGCACHE_BAD_SHAPE);
+  EXPECT(segcache_open_items(KEYS, 56, 65, &cache, clients), SEGCACHE_BAD_SHAPE);
+  if (SEGCACHE_MAX_VALUE > 32) EXPECT(segcache_open_items(1u << 27, 4000, 4, &cache, clients), SEGCACHE_BAD_SHAPE);
+  EXPECT(segcache_free(&cache), SEGCACHE_NO_HANDLE);
+}
+
 static void test_refusals(void) {
   segcache cache;
   segcache_client clients[64];
@@ -110,6 +124,7 @@ void test_writers(void) {
   test_small();
   test_updates();
   test_fill();
+  test_items();
   test_refusals();
   CHECK(out == before);
 }
