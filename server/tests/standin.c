@@ -1,7 +1,7 @@
 // SPDX-License-Identifier: MIT
 /* A stand-in for the library: a map behind one lock, for tests of the server at sizes that the library's default build
- * hasn't: keys of 250 bytes and values of 4,064. It isn't the library, and nothing of it is proved. Its statuses
- * are the library's for the calls that the server makes; it has no other calls.
+ * hasn't: keys of 250 bytes and values of 4,064. It isn't the library, and nothing of it is proved. Its statuses are
+ * the library's for the calls that the server and the tests of the wide build make; it has no other calls.
  *
  * It has few buckets, so that keys often share one: a cas then finds the bucket's version changed by others. It
  * evicts the oldest item once there are as many as it was opened for.
@@ -45,6 +45,10 @@ struct client {
   uint32_t time_to_live;
   uint32_t open[OPEN], begun; /* the deadlines of the last segments, and how many were begun */
   segcache_stats_t counts;
+  struct held {
+    size_t length;
+    uint8_t bytes[SEGCACHE_MAX_VALUE];
+  } * held; /* a copy of what is held, or NULL */
 };
 
 static size_t bucket_of(const uint8_t *key, size_t length) {
@@ -117,8 +121,9 @@ uint32_t segcache_raw_sizes(void) { return SEGCACHE_SIZES; }
 
 uint32_t segcache_raw_open(uint32_t keys, uint32_t threads, segcache_handle *cache, segcache_handle *clients,
                            size_t clients_len) {
+  if (threads == 0 || threads != clients_len) return SEGCACHE_BAD_SHAPE;
   struct map *map = calloc(1, sizeof *map);
-  if (map == NULL || threads == 0 || threads > clients_len) return free(map), (uint32_t)SEGCACHE_OUT_OF_MEMORY;
+  if (map == NULL) return SEGCACHE_OUT_OF_MEMORY;
   pthread_mutex_init(&map->lock, NULL);
   map->most = keys > 0 ? keys : 1;
   for (uint32_t i = 0; i < threads; i++) {
@@ -132,6 +137,26 @@ uint32_t segcache_raw_open(uint32_t keys, uint32_t threads, segcache_handle *cac
   map->clients = threads;
   *cache = (segcache_handle){map, 1};
   return SEGCACHE_OK;
+}
+
+/* There is room for so many items, however long they are. */
+uint32_t segcache_raw_open_items(uint32_t items, uint32_t mean_bytes, segcache_handle *cache, segcache_handle *clients,
+                                 size_t clients_len) {
+  (void)mean_bytes;
+  return segcache_raw_open(items, (uint32_t)clients_len, cache, clients, clients_len);
+}
+
+uint32_t segcache_raw_open_for_writers(uint32_t keys, uint32_t writers, segcache_handle *cache,
+                                       segcache_handle *clients, size_t clients_len) {
+  if (writers < 1 || writers > clients_len) return SEGCACHE_BAD_SHAPE;
+  return segcache_raw_open(keys, (uint32_t)clients_len, cache, clients, clients_len);
+}
+
+/* Only the number of rows counts. */
+uint32_t segcache_raw_open_shape(const segcache_shape *shape, segcache_handle *cache, segcache_handle *clients,
+                                 size_t clients_len) {
+  uint32_t rows = shape->passes * shape->segments_each * shape->rows;
+  return segcache_raw_open(rows, shape->passes, cache, clients, clients_len);
 }
 
 /* With a number of bytes there is room for about as many keys as the library has room for. */
@@ -163,6 +188,49 @@ uint32_t segcache_raw_gets(segcache_handle *handle, const uint8_t *key, size_t k
   else client->counts.hits++;
   pthread_mutex_unlock(&map->lock);
   return status;
+}
+
+uint32_t segcache_raw_get(segcache_handle *client, const uint8_t *key, size_t key_len, uint8_t *value, size_t room,
+                          size_t *value_len, uint32_t now) {
+  uint32_t version;
+  return segcache_raw_gets(client, key, key_len, value, room, value_len, &version, now);
+}
+
+/* Loads nothing. Each place has to be among the bytes. */
+uint32_t segcache_raw_look_ahead(segcache_handle *client, const uint8_t *keys, size_t keys_len,
+                                 const segcache_key_place *places, size_t places_len) {
+  (void)keys;
+  for (size_t i = 0; i < places_len; i++)
+    if (places[i].key_at > keys_len || places[i].key_len > keys_len - places[i].key_at) abort();
+  return client->full ? SEGCACHE_OK : SEGCACHE_NO_HANDLE;
+}
+
+uint32_t segcache_raw_hold(segcache_handle *handle, const uint8_t *key, size_t key_len, uint32_t now) {
+  struct client *client = handle->at;
+  if (client->held != NULL) return SEGCACHE_ALREADY_HOLDING;
+  struct held *held = malloc(sizeof *held);
+  if (held == NULL) abort();
+  uint32_t status = segcache_raw_get(handle, key, key_len, held->bytes, sizeof held->bytes, &held->length, now);
+  if (status == SEGCACHE_OK) client->held = held;
+  else free(held);
+  return status;
+}
+
+uint32_t segcache_raw_held_value(segcache_handle *handle, uint8_t *value, size_t room, size_t *value_len) {
+  const struct held *held = ((struct client *)handle->at)->held;
+  if (held == NULL) return SEGCACHE_NOT_HOLDING;
+  *value_len = held->length;
+  if (held->length > room) return SEGCACHE_SHORT_BUFFER;
+  memcpy(value, held->bytes, held->length);
+  return SEGCACHE_OK;
+}
+
+uint32_t segcache_raw_release(segcache_handle *handle) {
+  struct client *client = handle->at;
+  if (client->held == NULL) return SEGCACHE_NOT_HOLDING;
+  free(client->held);
+  client->held = NULL;
+  return SEGCACHE_OK;
 }
 
 /* The sum of a moment and a time, or the largest moment. */
@@ -257,6 +325,12 @@ uint32_t segcache_raw_put_for(segcache_handle *handle, const uint8_t *key, size_
   return status;
 }
 
+uint32_t segcache_raw_put(segcache_handle *handle, const uint8_t *key, size_t key_len, const uint8_t *value,
+                          size_t value_len, uint32_t now) {
+  uint32_t time = ((struct client *)handle->at)->time_to_live;
+  return segcache_raw_put_for(handle, key, key_len, value, value_len, time, now);
+}
+
 uint32_t segcache_raw_add(segcache_handle *client, const uint8_t *key, size_t key_len, const uint8_t *value,
                           size_t value_len, uint32_t now) {
   return store_if(client, key, key_len, value, value_len, 0, if_absent, now);
@@ -324,6 +398,7 @@ uint32_t segcache_raw_make_room(segcache_handle *handle, uint32_t now) {
 uint32_t segcache_raw_give_back(segcache_handle *cache, segcache_handle *client) {
   struct map *map = cache->at;
   map->clients--;
+  free(((struct client *)client->at)->held);
   free(client->at);
   *client = (segcache_handle){0};
   return SEGCACHE_OK;
@@ -331,6 +406,7 @@ uint32_t segcache_raw_give_back(segcache_handle *cache, segcache_handle *client)
 
 uint32_t segcache_raw_free(segcache_handle *cache) {
   struct map *map = cache->at;
+  if (!cache->full) return SEGCACHE_NO_HANDLE;
   if (map->clients > 0) return SEGCACHE_CLIENT_OUT;
   while (map->oldest != NULL) drop(map, map->oldest);
   pthread_mutex_destroy(&map->lock);
@@ -338,3 +414,26 @@ uint32_t segcache_raw_free(segcache_handle *cache) {
   *cache = (segcache_handle){0};
   return SEGCACHE_OK;
 }
+
+/* The cursor is the map, which each pair leaves, the oldest first. */
+uint32_t segcache_raw_close(segcache_handle *cache, segcache_handle *cursor) {
+  if (((struct map *)cache->at)->clients > 0) return SEGCACHE_CLIENT_OUT;
+  *cursor = *cache;
+  *cache = (segcache_handle){0};
+  return SEGCACHE_OK;
+}
+
+uint32_t segcache_raw_next(segcache_handle *cursor, uint8_t *key, size_t key_room, size_t *key_len, uint8_t *value,
+                           size_t value_room, size_t *value_len) {
+  struct map *map = cursor->at;
+  struct entry *entry = map->oldest;
+  if (entry == NULL) return SEGCACHE_END;
+  if (entry->key_len > key_room || entry->value_len > value_room) abort();
+  *key_len = entry->key_len, *value_len = entry->value_len;
+  memcpy(key, entry->bytes, entry->key_len);
+  memcpy(value, entry->bytes + entry->key_len, entry->value_len);
+  drop(map, entry);
+  return SEGCACHE_OK;
+}
+
+uint32_t segcache_raw_cursor_free(segcache_handle *cursor) { return segcache_raw_free(cursor); }
