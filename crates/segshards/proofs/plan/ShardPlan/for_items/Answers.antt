@@ -1,7 +1,7 @@
-use Rattle.std.proofs.Common.{rules, arith, ◌≡◌, ◌*◌, ◌<◌, ◌≤◌, max, refl, subst}
+use Rattle.std.proofs.Common.{rules, arith, ◌≡◌, ◌*◌, ◌<◌, max, subst}
 use Rattle.std.specs.Int.{div_ceil}
 use Rattle.segshards.specs.declared.plan.ShardPlan.{ShardPlan}
-use Rattle.segshards.specs.Items.{IsFaultOfItems, IsPlanForItems}
+use Rattle.segshards.specs.Items.{IsPlanForItems}
 use Rattle.segshards.specs.Writers.{AreWriters}
 use Rattle.segshards.proofs.Writers.{as_needed, counted, each_fits, each_times, some, spread, too_many}
 use Rattle.segshards.proofs.plan.ShardPlan.for_items.Goals as goal
