@@ -6,6 +6,7 @@
 // Times are nanoseconds of the threads' processor time for a key. Keys are drawn uniformly.
 #pragma once
 
+#include "../common/memory.hpp"
 #include "../common/store.hpp"
 
 #include <chrono>
@@ -14,8 +15,6 @@
 #include <cstdlib>
 #include <cstring>
 #include <ctime>
-#include <fstream>
-#include <string>
 #include <thread>
 #include <vector>
 
@@ -28,19 +27,6 @@ inline std::uint64_t thread_ns() {
     timespec now{};
     clock_gettime(CLOCK_THREAD_CPUTIME_ID, &now);
     return static_cast<std::uint64_t>(now.tv_sec) * 1'000'000'000 + static_cast<std::uint64_t>(now.tv_nsec);
-}
-
-// A line of the process's status, in bytes: VmRSS or VmHWM.
-inline double status_bytes(const std::string& name) {
-    std::ifstream file("/proc/self/status");
-    for (std::string word; file >> word;) {
-        if (word == name + ":") {
-            double kilobytes = 0;
-            file >> kilobytes;
-            return kilobytes * 1024;
-        }
-    }
-    return 0;
 }
 
 class Random {
