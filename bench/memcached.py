@@ -6,6 +6,55 @@ import socket
 import subprocess
 import time
 from contextlib import contextmanager
+from pathlib import Path
+
+# memcached is asked for so many keys at a time at most, and never for one key twice at a time.
+PIECE = 32
+
+# The bytes of values, which begin all alike.
+BYTES = b"0123456789abcdef" * 256
+
+
+def resident(pid):
+    """The bytes of memory that a process takes."""
+    text = Path(f"/proc/{pid}/status").read_text()
+    return 1024 * int(text.split("VmRSS:")[1].split()[0])
+
+
+def pieces_of(trace, usual):
+    """The commands, as many at a time as have different keys: by its key whether each is a get, and its value's length.
+
+    A line is `get KEY` or `set KEY`. Behind the key can be a length, in place of the usual one.
+    """
+    piece = {}
+    for line in trace.open("rb"):
+        verb, key, *length = line.split()
+        if key in piece or len(piece) == PIECE:
+            yield piece
+            piece = {}
+        piece[key] = verb == b"get", int(length[0]) if length else usual
+    yield piece
+
+
+def through(connection, trace, warm, usual=16):
+    """The gets and hits behind the first commands. What was missed is set, before the next gets."""
+    gets = hits = place = 0
+    sets = b""
+    for piece in pieces_of(trace, usual):
+        asked = [key for key, (is_get, _) in piece.items() if is_get]
+        found = connection.found(asked, sets) if asked else {}
+        stored = ((key, length) for key, (is_get, length) in piece.items() if not is_get or key not in found)
+        sets = b"" if asked else sets
+        sets += b"".join(b"set %b 0 0 %d noreply\r\n%b\r\n" % (key, length, BYTES[:length]) for key, length in stored)
+        if len(sets) >= 1 << 16:
+            connection.socket.sendall(sets)
+            sets = b""
+        if place >= warm:
+            gets += len(asked)
+            hits += len(found)
+        place += len(piece)
+    connection.socket.sendall(sets)
+    return {"gets": gets, "hits": hits}
 
 
 class Memcached:
@@ -25,8 +74,13 @@ class Memcached:
             reply += more
         return reply
 
-    def stats(self):
-        return dict(re.findall(r"STAT (\S+) (\S+)", self.ask(b"stats\r\n").decode()))
+    def found(self, keys, before=b""):
+        """Those of some keys that are there, with the lengths of their values. Other commands are sent before."""
+        reply = self.ask(before + b"get " + b" ".join(keys) + b"\r\n")
+        return {key: int(length) for key, length in re.findall(rb"VALUE (\S+) \d+ (\d+)\r\n", reply)}
+
+    def stats(self, of=""):
+        return dict(re.findall(r"STAT (\S+) (\S+)", self.ask(f"stats {of}".rstrip().encode() + b"\r\n").decode()))
 
 
 @contextmanager
