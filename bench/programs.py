@@ -136,10 +136,10 @@ def build_crate(crate):
 
 
 class Caffeine(Program):
-    """The programs in Java over Caffeine: the measure, and for `bench/hits` and `bench/lives` the replay of a trace."""
+    """The programs in Java over Caffeine: the measure, and for hit rates the replays of traces."""
 
     JAR = "/usr/share/java/caffeine.jar"
-    MAINS = {"caffeine": "Measure", "caffeine_replay": "Replay", "caffeine_lives": "Lives"}
+    MAINS = {"caffeine": "Measure", "caffeine_replay": "Replay", "caffeine_lives": "Lives", "caffeine_sizes": "Sizes"}
 
     def build(self):
         sources = sorted((BENCH / self.source).glob("*.java"))

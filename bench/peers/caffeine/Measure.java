@@ -46,7 +46,7 @@ final class Measure {
     }
 
     // The bytes of all objects that can be reached.
-    private static long bytesInUse() throws InterruptedException {
+    static long bytesInUse() throws InterruptedException {
         for (int count = 0; count < 3; ++count) {
             System.gc();
             Thread.sleep(20);
