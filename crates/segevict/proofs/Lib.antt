@@ -11,6 +11,7 @@ pub mod EvictedRow
 pub mod Evictions
 pub mod EvictedItems
 pub mod Frequencies
+pub mod Alone
 pub mod Relinking
 pub mod Moving
 pub mod KeptRows

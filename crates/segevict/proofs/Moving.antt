@@ -1,25 +1,27 @@
 -- The item of a row is moved under the bit: it may be, into the pair's copy, and after that no word names the row that it left.
-use Rattle.std.proofs.Common.{◌≡◌, ℕ, ◌+◌, ◌<◌, ◌≤◌, true, false, List, [], ◌∷◌, ◌++◌, Option, Some, None, option_map, refl, sym, ap, ◌∙◌, subst, append-nil, arith}
+use Rattle.std.proofs.Common.{◌≡◌, ℕ, ◌+◌, ◌<◌, ◌≤◌, true, false, eqb, is_some, List, [], ◌∷◌, ◌++◌, Option, Some, None, option_map, refl, sym, ap, ◌∙◌, subst, append-nil, arith}
 use Rattle.std.proofs.lemmas.Bool.{eq-eqb}
 use Rattle.std.proofs.lemmas.Option.{none-some, same_Some}
-use Rattle.segword.specs.Words.{IsSameItem, Item}
+use Rattle.segword.specs.Words.{IsKey, IsSameItem, IsValue, Item, most_span}
 use Rattle.segmodel.specs.Words.{after, bucket_of, IsSameAt}
 use Rattle.segcore.specs.declared.event.Event.TheVariants.{Relinked}
 use Rattle.segcore.specs.Event as event
-use Rattle.segcore.specs.Words.{acts, bucket_after, cached, Content, Event, Fits, Holds, IsLawful, IsOwnRow, item}
-use Rattle.segcore.specs.Words.{HasBit, NoneAt, NoneBy, row_after, RowGone, Slot, slot}
+use Rattle.segcore.specs.Words.{acts, AreOwnRows, bucket_after, cached, Content, Event, Fits, Holds, IsLawful, IsOwnRow, item}
+use Rattle.segcore.specs.Words.{HasBit, NoneAt, NoneBy, Row, row_after, RowGone, Slot, slot, span_in}
 use Rattle.segcore.proofs.Caches.{stands, stands_in}
 use Rattle.segcore.proofs.Coherent.{IsStanding}
 use Rattle.segcore.proofs.Quiet.{quiet_row}
+use Rattle.segcore.proofs.Spans.{header_some, header_span, own_first, own_rows_same}
 use Rattle.segcore.proofs.Standing.{coherent}
 use Rattle.segbase.specs.declared.pass.PlainPart.{PlainPart}
-use Rattle.segbase.specs.Words.{AddsEvents, Board, deadline_of, home_bucket, number, own_segment, OwnSegment}
+use Rattle.segbase.specs.Words.{AddsAtOnce, AddsEvents, Board, deadline_of, home_bucket, number, own_segment, OwnSegment}
 use Rattle.segbase.specs.Words.{Pass, Place, position, state_in, trace, used_in, used_of, deadline_in, with_own, with_used}
 use Rattle.segbase.proofs.Known.{counted, own_alike, owner_counted}
 use Rattle.segbase.proofs.Moves.{moved_then}
 use Rattle.segbase.proofs.Owned.{moved_still}
-use Rattle.segstore.specs.Words.{fills, HasCleanBit, Idles, IsReadable, KeepsSegments, memo}
-use Rattle.segstore.proofs.Keeping.{AreCalmIn, calm_in, in_table, keeps_named_in, keeps_plain, next_is_own}
+use Rattle.segstore.specs.Rows.{HoldsAlso}
+use Rattle.segstore.specs.Words.{AreRows, fills, HasCleanBit, Idles, IsReadable, KeepsSegments, memo, ReadsRow}
+use Rattle.segstore.proofs.Keeping.{AreCalmIn, calm_in, in_table, keeps_named_in, keeps_plain, next_are_own}
 use Rattle.segstore.proofs.Keeping.{own_linked, same_used}
 use Rattle.segstore.proofs.Words.{at_place}
 use Rattle.segstore.proofs.UnderBit.{did_acts, moved_at, moved_bucket}
@@ -28,9 +30,11 @@ use Rattle.segwrite.proofs.Filling.{fills_calm, fills_nowhere}
 use Rattle.segwrite.proofs.Places.{chain_later, same_position}
 use Rattle.segwrite.proofs.Rising.{earlier_later}
 use Rattle.segevict.specs.Moving.{moves, MovesRow}
-use Rattle.segevict.specs.Target.{IsMoveTarget, IsNextIn}
+use Rattle.segevict.specs.Target.{AreNextIn, IsMoveTarget}
 use Rattle.segevict.specs.Relinking.{HasRelinked, relinked, Relinks}
 use Rattle.segevict.specs.Rows.{IsNamedAt, IsStoredIn}
+use Rattle.segevict.proofs.IfNamed.{from_either}
+use Rattle.segevict.proofs.Items.{span_over}
 use Rattle.segevict.proofs.Relinking.{relinked_gone}
 use Rattle.segevict.proofs.StoredRows.{may_read_own}
 use Rattle.segevict.proofs.Seeking.{stored_over}
@@ -59,6 +63,14 @@ known_deadline : (o : Option OwnSegment) (used : ℕ) → used_in o ≡ Some use
 known_deadline None used is = absurd (none-some used is)
 known_deadline (Some own) used is = (own.deadline, refl)
 
+-- a pair that is held is held where pairs are held also
+holds_also : (row other : Row) (key value : List ℕ) → IsKey key → IsValue value → HoldsAlso row other → Holds row key value → Holds other key value
+holds_also row other key value is_key is_value = from_either (eqb most_span 1)
+    ((k v : List ℕ) → Holds row k v → Holds other k v)
+    ((k v : List ℕ) → IsKey k → IsValue v → Holds row k v → Holds other k v)
+    (Holds row key value → Holds other key value)
+    (λ all. all key value) (λ all. all key value is_key is_value)
+
 -- two own segments whose deadlines the pass knows as equal have equal ones
 same_deadlines : (b : Board) (p : Pass) (s t used : ℕ) → KeepsSegments b p → used_of p t ≡ Some used → deadline_of p s ≡ deadline_of p t
     → (after b.shape (event.seen (trace p))).deadline s ≡ (after b.shape (event.seen (trace p))).deadline t
@@ -68,7 +80,7 @@ same_deadlines b p s t used k is same =
 
 -- with f the pass after the search under the bit
 module _ (b : Board) (bucket : ℕ) (sought : Item) (into to : ℕ) (p f : Pass) (segments : KeepsSegments b p) (stored : IsStoredIn b bucket sought p) (clean : HasCleanBit b p bucket)
-    (target : IsMoveTarget sought.seg into p) (next : IsNextIn b into to p) (i : Idles b p f) where
+    (target : IsMoveTarget sought.seg into p) (next : AreNextIn b into to (span_in (trace p) sought.seg sought.row) p) (i : Idles b p f) where
   pub stored_f : IsStoredIn b bucket sought f
   stored_f = stored_over b bucket sought [] p f i.moved tt stored
 
@@ -84,8 +96,18 @@ module _ (b : Board) (bucket : ℕ) (sought : Item) (into to : ℕ) (p f : Pass)
   pub moves_none : RowGone b.shape sought.seg sought.row (trace f) → MovesRow b bucket sought into to false p f
   moves_none gone = record { moves = (i.moved, i.plain); gone = gone; bit = clean_f; segments = segments_f; memo = i.memo }
 
-  pub own_row : IsOwnRow b.shape (trace f) (number f) into to
-  own_row = next_is_own b f into to i.moved.pass segments_f used_f next.fits
+  -- how many rows the item takes
+  abbrev rows : ℕ
+  rows = span_in (trace f) sought.seg sought.row
+
+  rows_f : rows ≡ span_in (trace p) sought.seg sought.row
+  rows_f = span_over b [] p f sought.seg sought.row i.moved tt stored.own (ap is_some stored.linked)
+
+  fits_f : AreRows b.shape to rows
+  fits_f = subst (AreRows b.shape to) (sym rows_f) next.fits
+
+  pub own_rows : AreOwnRows b.shape (trace f) (number f) into to rows
+  own_rows = next_are_own b f into to rows i.moved.pass segments_f used_f fits_f
 
   module _ (t : Target) (n : IsNamedAt b bucket sought t f) where
     abbrev a : Slot
@@ -108,9 +130,8 @@ module _ (b : Board) (bucket : ℕ) (sought : Item) (into to : ℕ) (p f : Pass)
     )
 
     -- with c the pass after the copy
-    module _ (c : Pass) (words places : List ℕ) (m : AddsEvents b (fills (number f) into to words places) f c) (own : IsOwnRow b.shape (trace c) (number c) into to)
-        (holds : (key value : List ℕ) → Holds (row_after (trace f) sought.seg sought.row) key value
-        → Holds (row_after (trace c) into to) key value) (plain : c.plain ≡ f.plain) (same : memo c ≡ memo f)
+    module _ (c : Pass) (words places : List ℕ) (m : AddsEvents b (fills (number f) into to words places) f c) (own : AreOwnRows b.shape (trace c) (number c) into to rows)
+        (holds : HoldsAlso (row_after (trace f) sought.seg sought.row) (row_after (trace c) into to)) (plain : c.plain ≡ f.plain) (same : memo c ≡ memo f)
       where
         abbrev written : List Event
         written = fills (number f) into to words places
@@ -178,9 +199,23 @@ module _ (b : Board) (bucket : ℕ) (sought : Item) (into to : ℕ) (p f : Pass)
         standing_c : stands b.shape (event.seen (trace c)) key ≡ Some (cached st.value sought.seg)
         standing_c = still.stands ∙ standing_f
 
+        is_key : IsKey key
+        is_key = subst IsKey of_key st.valid.0
+
+        held : Holds (row_after (trace f) sought.seg sought.row) key st.value
+        held = subst (λ s. Holds (row_after (trace f) s sought.row) key st.value) n.named.2.0
+            (subst (λ r. Holds (row_after (trace f) a.segment r) key st.value) n.named.2.1 (subst (λ k. Holds (row_after (trace f) a.segment a.row) k st.value) of_key st.holds))
+
         copied : Holds (row_after (trace c) into to) key st.value
-        copied = holds key st.value (subst (λ s. Holds (row_after (trace f) s sought.row) key st.value) n.named.2.0
-            (subst (λ r. Holds (row_after (trace f) a.segment r) key st.value) n.named.2.1 (subst (λ k. Holds (row_after (trace f) a.segment a.row) k st.value) of_key st.holds)))
+        copied = holds_also (row_after (trace f) sought.seg sought.row) (row_after (trace c) into to) key st.value is_key st.valid.1 holds held
+
+        -- the copy takes as many rows
+        pub rows_c : span_in (trace c) into to ≡ rows
+        rows_c = header_span (row_after (trace c) into to) key st.value is_key st.valid.1 copied
+            ∙ sym (header_span (row_after (trace f) sought.seg sought.row) key st.value is_key st.valid.1 held)
+
+        own_first_c : IsOwnRow b.shape (trace c) (number c) into to
+        own_first_c = own_first b.shape (trace c) (number c) into to rows (header_some ((row_after (trace f) sought.seg sought.row).words 0)) own
 
         fits : Fits b.shape (trace c) (relinked named into to at_c (number c))
         fits = record {
@@ -188,14 +223,18 @@ module _ (b : Board) (bucket : ℕ) (sought : Item) (into to : ℕ) (p f : Pass)
           follows = (
             stands_in b.shape (event.seen (trace c)) key sought.seg (st.value, standing_c),
             stored_c.own,
-            own.2,
+            own_first_c.2,
             target.other,
             same_deadlines b c sought.seg into to segments_c used_c
                 (ap (λ (x : PlainPart). deadline_in (own_segment x sought.seg)) (plain ∙ i.plain)
                 ∙ (target.deadlines ∙ sym (ap (λ (x : PlainPart). deadline_in (own_segment x into)) (plain
                 ∙ i.plain)))),
           );
-          suits = (own, (st.value, standing_c, copied), subst (λ k. (bucket_after b.shape (trace c) k).items at_c ≡ item named) home here);
+          suits = (
+            subst (AreOwnRows b.shape (trace c) (number c) into to) (sym rows_c) own,
+            (st.value, standing_c, copied),
+            subst (λ k. (bucket_after b.shape (trace c) k).items at_c ≡ item named) home here,
+          );
         }
 
         pub may_move : Relinks b named into to t.place t.word c
@@ -206,13 +245,16 @@ module _ (b : Board) (bucket : ℕ) (sought : Item) (into to : ℕ) (p f : Pass)
           earlier = earlier_c;
         }
 
-        -- with r the pass after the exchange, and its new row counted as used
-        module _ (r : Pass) (done : HasRelinked b named into to t.place c r) where
+        -- with r the pass after the exchange, and its new rows counted as used
+        module _ (r : Pass) (done : HasRelinked b named into to t.place c r) (count : ℕ) (takes : count ≡ span_in (trace c) into to) where
           abbrev e : Event
           e = relinked named into to at_c (number c)
 
           abbrev final : Pass
-          final = record r { plain = with_used into (to + 1) r.plain }
+          final = record r { plain = with_used into (to + count) r.plain }
+
+          count_f : count ≡ rows
+          count_f = takes ∙ rows_c
 
           abbrev old : List Event
           old = done.did.others ++ trace c
@@ -244,8 +286,9 @@ module _ (b : Board) (bucket : ℕ) (sought : Item) (into to : ℕ) (p f : Pass)
               home,
               sym (ap (λ h. (row_after h sought.seg sought.row).linked) i.moved.goes_on ∙ own_linked b.shape i.moved.more (trace p) (number p) sought.seg sought.row
                   (subst (IsLawful b.shape) i.moved.goes_on i.moved.pass.lawful) (subst (AreCalmIn sought.seg) (sym i.moved.adds) tt) stored.own) ∙ stored_f.linked,
-              moved_still b (moves (number p) key sought.seg sought.row into to at_c (words, places)) p r final.plain events (owner_counted r.plain into (to + 1)),
-              rows_used into to 1 r.plain (same_used c r into done.plain ∙ used_c) ∙ ap (with_own into (more 1)) (done.plain ∙ (plain ∙ i.plain)),
+              moved_still b (moves (number p) key sought.seg sought.row into to at_c (words, places)) p r final.plain events (owner_counted r.plain into (to + count)),
+              rows_used into to count r.plain (same_used c r into done.plain ∙ used_c)
+                  ∙ (λ t. with_own into (more ((count_f ∙ rows_f) t)) ((done.plain ∙ (plain ∙ i.plain)) t)),
             );
             gone = gone_now;
             bit = record {
@@ -253,8 +296,34 @@ module _ (b : Board) (bucket : ℕ) (sought : Item) (into to : ℕ) (p f : Pass)
               unwritten = ap (λ u. u.written) bucket_now ∙ clean_c.unwritten;
               undrawn = ap (λ u. u.spare) bucket_now ∙ clean_c.undrawn;
             };
-            segments = keeps_named_in b e c r into to 1 (refl, refl) done.did done.plain
+            segments = keeps_named_in b e c r into to count (refl, refl) done.did done.plain
                 (ap (λ (x : PlainPart). state_in (own_segment x into)) (plain ∙ i.plain)
-                ∙ target.in_use) used_c next.fits refl m.pass segments_c;
+                ∙ target.in_use) used_c (subst (AreRows b.shape to) (sym count_f) fits_f) (sym takes) m.pass segments_c;
             memo = done.memo ∙ (same ∙ i.memo);
           }
+
+-- ---- a load between the copy and the exchange
+
+module _ (b : Board) (f c l : Pass) (into to rows : ℕ) (some : 1 ≤ rows) (own : AreOwnRows b.shape (trace c) (number c) into to rows) where
+  own_there : IsOwnRow b.shape (trace c) (number c) into to
+  own_there = own_first b.shape (trace c) (number c) into to rows some own
+
+  pub readable_there : IsReadable b c into to
+  readable_there = (own_there.0, own_there.1, may_read_own b.shape (trace c) (number c) into to own_there.2)
+
+  module _ (reads : ReadsRow b c l into to) where
+    abbrev d : AddsAtOnce b [] c l
+    d = reads.looked.did
+
+    pub own_loaded : AreOwnRows b.shape (trace l) (number l) into to rows
+    own_loaded = subst (λ n. AreOwnRows b.shape (trace l) n into to rows) (sym d.moved.same)
+        (own_rows_same b.shape (trace c) (trace l) (number c) into to rows
+        (λ i. ap (λ h. (row_after h into i).linked) d.moved.goes_on ∙ own_linked b.shape d.moved.more (trace c) (number c) into i
+        (subst (IsLawful b.shape) d.moved.goes_on d.moved.pass.lawful) (subst (AreCalmIn into) (sym d.moved.adds) tt) own_there.2)
+        own)
+
+    pub copy_loaded : (words places : List ℕ) → AddsEvents b (fills (number f) into to words places) f c → AddsEvents b (fills (number f) into to words places) f l
+    copy_loaded words places m = moved_then b (fills (number f) into to words places) [] f c l m d.moved
+
+    pub holds_loaded : (row : Row) → HoldsAlso row (row_after (trace c) into to) → HoldsAlso row (row_after (trace l) into to)
+    holds_loaded row holds = subst (HoldsAlso row) (sym reads.same) holds

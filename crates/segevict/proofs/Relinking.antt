@@ -1,23 +1,25 @@
 -- The exchange of a move: the word that it expects is one of the item's, it comes about at the first try or after the frequency rose, and then no word names the row that the item left.
-use Rattle.std.proofs.Common.{◌≡◌, ◌≢◌, ℕ, ◌+◌, ◌*◌, ◌/◌, ◌%◌, ◌^◌, ◌<◌, ◌&&◌, eqb, cond, List, [], ◌∷◌, Option, Some, None, option_map, Result, Ok, Err, refl, sym, ap, ◌∙◌, arith}
+use Rattle.std.proofs.Common.{◌≡◌, ◌≢◌, ℕ, ◌+◌, ◌*◌, ◌/◌, ◌%◌, ◌^◌, ◌<◌, eqb, List, [], ◌∷◌, Option, Some, None, option_map, Result, Ok, Err, refl, sym, ap, ◌∙◌, subst, arith}
 use Rattle.std.specs.Prelude.{OnOk, IfErr}
-use Rattle.std.proofs.lemmas.Bool.{cond-true, ne_eqb}
+use Rattle.std.proofs.lemmas.Bool.{cond-true, eq-eqb}
 use Rattle.std.proofs.lemmas.Option.{none-some, same_Some}
 use Rattle.segword.specs.Words.{Item, item_word, Shape}
 use Rattle.segmodel.specs.Words.{bucket_of, Cached, tag_of, with_segment}
 use Rattle.segcore.specs.Event as event
-use Rattle.segcore.specs.Words.{cached, content_word, Event, frequency_of, IsLawful}
-use Rattle.segcore.specs.Words.{May, packed, relink, row_after, RowGone, same_key, Slot, word, writes_row}
+use Rattle.segcore.specs.Words.{cached, content_word, Event, frequency_of, IsLawful, IsOwnRow}
+use Rattle.segcore.specs.Words.{May, packed, relink, row_after, RowGone, same_key, Slot, span_in, word}
 use Rattle.segcore.proofs.Caches.{stands, stands_moved}
 use Rattle.segcore.proofs.Coherent.{IsStanding}
 use Rattle.segcore.proofs.Exact.{content_at}
 use Rattle.segcore.proofs.Keys.{same_true}
 use Rattle.segcore.proofs.Limits.{low_frequency, low_row, low_segment}
+use Rattle.segcore.proofs.Spans.{header_some, own_first}
 use Rattle.segcore.proofs.Standing.{coherent}
 use Rattle.segbase.specs.Words.{AddsAtOnce, Board, cell_at, IsPassOf, Missed, number, Pass, Place}
 use Rattle.segbase.specs.Words.{position, position_at, trace}
 use Rattle.segbase.proofs.Standing.{tag_of_word, place_of_word}
 use Rattle.segstore.specs.Words.{memo}
+use Rattle.segstore.proofs.Keeping.{AreCalmIn, own_linked}
 use Rattle.segwrite.specs.Words.{IsEarlier}
 use Rattle.segwrite.proofs.Linking.{IsExchange, retry_first, Retrying}
 use Rattle.segevict.specs.Relinking.{relinked, Relinks, TriesToRelink}
@@ -57,8 +59,14 @@ module _ (b : Board) (named : Slot) (into to : ℕ) (place : Place) (w : ℕ) (p
       let row : x.row ≡ named.row = omega (arith, at, lr, low) in
       (tag, sym e ∙ (λ i. packed x.tag x.freq (segment i) (row i)))
 
+  own_there : IsOwnRow z (trace p) (number p) into to
+  own_there = own_first z (trace p) (number p) into to (span_in (trace p) into to) (header_some ((row_after (trace p) into to).words 0)) r.fits.suits.0
+
   pub in_segments : into < 2 ^ 24
-  in_segments = low_segment z into is.valid r.fits.suits.0.0
+  in_segments = low_segment z into is.valid own_there.0
+
+  pub in_rows : to < 2 ^ 20
+  in_rows = low_row z to is.valid own_there.1
 
   pub may_relink : (read : ℕ) → May z (trace p) (number p) (relink named.key named.segment named.row read into to there (cell_at z place))
   may_relink read = (r.fits, r.chain.at)
@@ -100,7 +108,8 @@ relinked_gone z h p named into to n l on b m x here es er =
     let i = (coherent z (e ∷ h) l).items b m x here in
     let apart : named.segment ≢ into = l.1.follows.3 in
     let linked : (row_after (e ∷ h) named.segment named.row).linked ≡ Some named.key =
-    ap (λ a. (cond (a && eqb to named.row) (writes_row e (row_after h named.segment named.row)) (row_after h named.segment named.row)).linked) (ne_eqb into named.segment (λ s. apart (sym s))) ∙ on in
+    own_linked z (e ∷ []) h p named.segment named.row l
+    (subst (AreCalmIn named.segment) (sym (cond-true (eqb p p) (e ∷ []) [] (eq-eqb p p refl))) ((λ same. apart (sym same)), tt)) l.1.follows.1 ∙ on in
     let same : x.key ≡ named.key = same_Some x.key named.key (sym i.linked ∙ ((λ t. (row_after (e ∷ h) (es t) (er t)).linked) ∙ linked)) in
     let now = stands_moved z p named.key named.segment into (event.seen h) named.key
     ∙ cond-true (same_key named.key named.key) (option_map (with_segment into) (stands z (event.seen h) named.key)) (stands z (event.seen h) named.key) (same_true named.key named.key refl) in

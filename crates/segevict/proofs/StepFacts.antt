@@ -18,11 +18,14 @@ evicted_in_steps p q before after = omega (arith, before, after)
 evicted_in_no_more : (p q : Pass) → step_count p ≡ 5 → step_count q ≡ 6 + steps_of_evict → ¬ (TakesAtMost (most_steps_of_evict_row evict_row.Evicted) p q)
 evicted_in_no_more p q before after took = absurd (omega (arith, before, after, took))
 
--- a keep of a row takes 405 at most, and no more
-moved_in_steps : (p q : Pass) → step_count p ≡ 5 → step_count q ≡ 410 → TakesAtMost (most_steps_of_keep_row kept.Moved) p q
+-- a keep of a row takes 405 at most, and no more; where items take several rows it takes 2046
+abbrev steps_of_move : ℕ
+steps_of_move = if most_span == 1 then 405 else 2046
+
+moved_in_steps : (p q : Pass) → step_count p ≡ 5 → step_count q ≡ 5 + steps_of_move → TakesAtMost (most_steps_of_keep_row kept.Moved) p q
 moved_in_steps p q before after = omega (arith, before, after)
 
-moved_in_no_more : (p q : Pass) → step_count p ≡ 5 → step_count q ≡ 411 → ¬ (TakesAtMost (most_steps_of_keep_row kept.Moved) p q)
+moved_in_no_more : (p q : Pass) → step_count p ≡ 5 → step_count q ≡ 6 + steps_of_move → ¬ (TakesAtMost (most_steps_of_keep_row kept.Moved) p q)
 moved_in_no_more p q before after took = absurd (omega (arith, before, after, took))
 
 -- a row that is left costs no exchange

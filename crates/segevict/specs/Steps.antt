@@ -33,9 +33,11 @@ abbrev pub most_steps_to_clear : Bool → ℕ
 most_steps_to_clear true = most_looks + most_tries_to_exchange
 most_steps_to_clear false = most_looks
 
--- and before it the loads of the item's rows and the writing of others
+-- And before it the loads of the item's rows and the writing of others; where items take several,
+-- a load tells how many were written.
 abbrev pub most_steps_to_move : Bool → ℕ
-most_steps_to_move true = most_looks + item_width + most_steps_of_row + most_tries_to_exchange
+most_steps_to_move true =
+    most_looks + item_width + most_steps_of_row + most_tries_to_exchange + loads_of_span 1
 most_steps_to_move false = most_looks
 
 -- An evict of one row takes at most 381 steps if it is Evicted, 125 if Left, and 96 if Busy,
@@ -51,7 +53,7 @@ most_steps_of_evict_row evict_row.NotUsed = 0
 -- and 32 if there is no room, where each item takes one row.
 abbrev pub most_steps_of_keep_row : KeepRowAnswer → ℕ
 most_steps_of_keep_row kept.Moved =
-    most_steps_to_leave + item_width + most_steps_of_row + most_tries_to_exchange
+    most_steps_to_leave + item_width + most_steps_of_row + most_tries_to_exchange + loads_of_span 1
 most_steps_of_keep_row kept.Left = most_steps_to_leave
 most_steps_of_keep_row kept.NoRoom = most_steps_to_look
 most_steps_of_keep_row kept.Busy = most_steps_to_try

@@ -19,7 +19,6 @@ ghost use Rattle.segevict.specs.Steps.{loads_of_span, most_steps_of_evict_row};
 ghost use Rattle.segevict.specs.Steps.{most_steps_of_keep_row};
 ghost use Rattle.segevict.specs.Steps.{most_steps_to_move};
 ghost use Rattle.segevict.specs.Target.{AreNextIn, has_rows_in, IsKeepTarget, IsMoveTarget};
-ghost use Rattle.segevict.specs.Target.{IsNextIn};
 ghost use Rattle.segevict.specs.Unlinking.{EvictsRow};
 
 use crate::eviction::{EvictRowAnswer, clear_row, evict_each_row, evict_first_row};
@@ -29,7 +28,7 @@ use crate::row::{find_row, has_row, item_of_row};
 use segbase::{Board, Pass};
 use segmodel::{EvictAnswer, KeepAnswer, SegState};
 use segstore::{RowRef, copy_row, key_of_row, span_of_row, take_to_write};
-use segword::{Item, MOST_SPAN, hash, span_of_header, tag_of};
+use segword::{Item, MOST_SPAN, hash, tag_of};
 
 // How many rows the item takes whose first row this is.
 fn rows_from(board: &Board, pass: &mut Pass, segment: u32, row: u32) -> u32
@@ -263,7 +262,8 @@ fn move_rows(board: &Board, pass: &mut Pass, bucket: u32, item: Item, to: RowRef
     requires stored { IsStoredIn board.now bucket item pass.old }
     requires bit { HasCleanBit board.now pass.old bucket }
     requires target { IsMoveTarget item.seg to.segment pass.old }
-    requires next { IsNextIn board.now to.segment to.row pass.old }
+    requires next { AreNextIn board.now to.segment to.row
+        (span_in (trace pass.old) item.seg item.row) pass.old }
     ensures moves { MovesRow board.now bucket item to.segment to.row result pass.old pass.new }
     ensures steps { TakesAtMost (most_steps_to_move result) pass.old pass.new }
 {
@@ -278,9 +278,9 @@ fn move_rows(board: &Board, pass: &mut Pass, bucket: u32, item: Item, to: RowRef
         row: item.row,
     };
     copy_row(board, pass, from, to);
+    let rows = span_of_row(board, pass, to);
     relink(board, pass, target, to);
-    let header = board.row_load(pass, to.segment, to.row, 0);
-    pass.set_used(to.segment, to.row + span_of_header(header));
+    pass.set_used(to.segment, to.row + rows);
     true
 }
 

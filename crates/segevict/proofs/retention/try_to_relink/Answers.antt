@@ -1,8 +1,17 @@
 use Rattle.std.proofs.Common.{arith}
 use Rattle.segstore.proofs.Looks.{one_step}
 use Rattle.segstore.proofs.Seconds.{unpacked}
-use Rattle.segevict.proofs.Relinking.{may_relink, parts_of, tried}
+use Rattle.segevict.proofs.Relinking.{in_rows, in_segments, may_relink, parts_of, tried}
 use Rattle.segevict.proofs.retention.try_to_relink.Goals as goal
+
+pub invariant_of-item : goal.invariant_of-item
+invariant_of-item g c = let b = c.args.board.now in let r = c.requires in let x = c.unwrap-seen.result in let into = c.args.to.segment in let to = c.args.to.row in record {
+  tag_above_zero = x.tag_above_zero;
+  tag_in_range = x.tag_in_range;
+  freq_in_range = x.freq_in_range;
+  seg_in_range = in_segments b g.named into to c.args.target.place c.args.target.word c.args.pass.now r.0 r.1;
+  row_in_range = in_rows b g.named into to c.args.target.place c.args.target.word c.args.pass.now r.0 r.1;
+}
 
 pub move_item-requires : goal.move_item-requires
 move_item-requires g c = let b = c.args.board.now in let p = c.args.pass.now in let r = c.requires in let x = c.unwrap-seen.result in
