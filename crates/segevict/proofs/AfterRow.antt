@@ -1,11 +1,11 @@
 -- What a row leaves that a keep went over: the rows that are used, what was gone, and what the pass keeps.
-use Rattle.std.proofs.Common.{◌≡◌, ◌≢◌, ℕ, option_map, ◌+◌, List, [], ◌∷◌, ◌++◌, Option, Some, None, refl, sym, ap, ◌∙◌, ⊎_elim, arith}
+use Rattle.std.proofs.Common.{◌≡◌, ◌≢◌, ℕ, option_map, ◌+◌, is_some, List, [], ◌∷◌, ◌++◌, Option, Some, None, refl, sym, ap, ◌∙◌, ⊎_elim, arith}
 use Rattle.std.proofs.lemmas.Option.{none-some, same_Some}
 use Rattle.segmodel.specs.Words.{bucket_of, owner}
-use Rattle.segcore.specs.Words.{Event}
+use Rattle.segcore.specs.Words.{Event, span_in}
 use Rattle.segbase.specs.declared.pass.PlainPart.{PlainPart}
 use Rattle.segbase.specs.Words.{AddsEvents, Board, deadline_in, number}
-use Rattle.segbase.specs.Words.{own_segment, OwnSegment, Pass, state_in, used_in}
+use Rattle.segbase.specs.Words.{own_segment, OwnSegment, Pass, state_in, trace, used_in}
 use Rattle.segbase.specs.Words.{with_own}
 use Rattle.segbase.proofs.Known.{own_apart, own_here, own_kept}
 use Rattle.segstore.specs.Words.{bounces, ChangesNothing, fills}
@@ -13,27 +13,28 @@ use Rattle.segstore.specs.Words.{Idles, IsQuiet, memo}
 use Rattle.segstore.proofs.Keeping.{AreCalmIn, calm_in}
 use Rattle.segstore.proofs.Bounces.{bounces_calm}
 use Rattle.segstore.proofs.Idling.{does_nothing}
-use Rattle.segwrite.specs.Words.{one_more}
+use Rattle.segwrite.specs.Words.{more, one_more}
 use Rattle.segwrite.proofs.Filling.{fills_calm}
+use Rattle.segwrite.proofs.Places.{idles_then}
 use Rattle.segevict.specs.declared.retention.KeepRowAnswer.TheVariants as kept
-use Rattle.segevict.specs.Moving.{KeepsRow, moves, under_bit}
+use Rattle.segevict.specs.Moving.{KeepsRow, moves, SeesRow, under_bit}
 use Rattle.segevict.specs.Rows.{KeepsGone}
 use Rattle.segevict.specs.Target.{UsesRows}
 use Rattle.segevict.proofs.RowsOut.{calm_keeps_gone, keeps_gone_then}
 
 -- ---- rows that are used
 
-used_more : (o : Option OwnSegment) (used : ℕ) → used_in o ≡ Some used → used_in (option_map one_more o) ≡ Some (used + 1)
-used_more None used is = absurd (none-some used is)
-used_more (Some own) used is = ap (λ n. Some (n + 1)) (same_Some own.used used is)
+used_more : (rows : ℕ) (o : Option OwnSegment) (used : ℕ) → used_in o ≡ Some used → used_in (option_map (more rows) o) ≡ Some (used + rows)
+used_more rows None used is = absurd (none-some used is)
+used_more rows (Some own) used is = ap (λ n. Some (n + rows)) (same_Some own.used used is)
 
-same_state : (o : Option OwnSegment) → state_in (option_map one_more o) ≡ state_in o
-same_state None = refl
-same_state (Some own) = refl
+same_state : (rows : ℕ) (o : Option OwnSegment) → state_in (option_map (more rows) o) ≡ state_in o
+same_state rows None = refl
+same_state rows (Some own) = refl
 
-same_deadline : (o : Option OwnSegment) → deadline_in (option_map one_more o) ≡ deadline_in o
-same_deadline None = refl
-same_deadline (Some own) = refl
+same_deadline : (rows : ℕ) (o : Option OwnSegment) → deadline_in (option_map (more rows) o) ≡ deadline_in o
+same_deadline rows None = refl
+same_deadline rows (Some own) = refl
 
 module _ (into : ℕ) (p q : Pass) where
   pub uses_none : q.plain ≡ p.plain → memo q ≡ memo p → UsesRows into 0 p q
@@ -48,17 +49,20 @@ module _ (into : ℕ) (p q : Pass) where
     memo = same;
   }
 
-  pub uses_one : q.plain ≡ with_own into one_more p.plain → memo q ≡ memo p → UsesRows into 1 p q
-  uses_one plain same = record {
-    used = λ used is. ap (λ (x : PlainPart). used_in (own_segment x into)) plain ∙ (ap used_in (own_here p.plain into one_more) ∙ used_more (own_segment p.plain into) used is);
-    others = λ other apart. ap (λ (x : PlainPart). used_in (own_segment x other)) plain ∙ ap used_in (own_apart p.plain into one_more other apart);
-    states = λ segment. ap (λ (x : PlainPart). state_in (own_segment x segment)) plain ∙ own_kept p.plain into one_more state_in same_state segment;
-    deadlines = λ segment. ap (λ (x : PlainPart). deadline_in (own_segment x segment)) plain ∙ own_kept p.plain into one_more deadline_in same_deadline segment;
+  pub uses_more : (rows : ℕ) → q.plain ≡ with_own into (more rows) p.plain → memo q ≡ memo p → UsesRows into rows p q
+  uses_more rows plain same = record {
+    used = λ used is. ap (λ (x : PlainPart). used_in (own_segment x into)) plain ∙ (ap used_in (own_here p.plain into (more rows)) ∙ used_more rows (own_segment p.plain into) used is);
+    others = λ other apart. ap (λ (x : PlainPart). used_in (own_segment x other)) plain ∙ ap used_in (own_apart p.plain into (more rows) other apart);
+    states = λ segment. ap (λ (x : PlainPart). state_in (own_segment x segment)) plain ∙ own_kept p.plain into (more rows) state_in (same_state rows) segment;
+    deadlines = λ segment. ap (λ (x : PlainPart). deadline_in (own_segment x segment)) plain ∙ own_kept p.plain into (more rows) deadline_in (same_deadline rows) segment;
     current = ap (λ (x : PlainPart). x.current) plain;
     locked = ap (λ (x : PlainPart). x.locked) plain;
     holds = ap (λ (x : PlainPart). x.is_holding) plain;
     memo = same;
   }
+
+  pub uses_one : q.plain ≡ with_own into one_more p.plain → memo q ≡ memo p → UsesRows into 1 p q
+  uses_one = uses_more 1
 
 pub uses_then : (into m n all : ℕ) (p q r : Pass) → m + n ≡ all → UsesRows into m p q → UsesRows into n q r → UsesRows into all p r
 uses_then into m n all p q r sum i j = record {
@@ -83,7 +87,7 @@ taking_calm s pass bucket times own calm = (tt, calm_both s own _ calm (tt, calm
 
 module _ (b : Board) (segment row into cutoff : ℕ) (q r : Pass) (own : owner b.shape segment ≡ number q) where
   -- by looks alone
-  idle_gone : (f : Pass) → Idles b q f → KeepsGone b segment q f
+  pub idle_gone : (f : Pass) → Idles b q f → KeepsGone b segment q f
   idle_gone f i = calm_keeps_gone b segment [] q f i.moved tt own
 
   under_gone : (f : Pass) (bucket times : ℕ) (did : List Event) → Idles b q f → AreCalmIn segment did → AddsEvents b (under_bit (number f) bucket times did) f r → KeepsGone b segment q r
@@ -101,10 +105,16 @@ module _ (b : Board) (segment row into cutoff : ℕ) (q r : Pass) (own : owner b
   left_gone k = ⊎_elim
       (λ none. idle_gone r none.0)
       (λ some. ⊎_elim
-      (λ seldom. idle_gone r seldom.idles)
+      (λ seldom. idle_gone r (idles_then b q seldom.0 r seldom.1.idles seldom.2))
       (λ went. under_gone went.0 (bucket_of b.shape went.1.key) went.2 [] went.1.idles tt went.3)
       some)
       k.answer
+
+-- the row's item takes as many rows as it took, by looks alone
+pub seen_span : (b : Board) (segment row : ℕ) (IsSo : ℕ → Type 0) (p f : Pass) → owner b.shape segment ≡ number p → SeesRow b segment row IsSo p f
+    → span_in (trace f) segment row ≡ span_in (trace p) segment row
+seen_span b segment row IsSo p f own s = let keeps = idle_gone b segment row 0 0 p f own f s.idles in
+    keeps.spans row (ap is_some (sym (keeps.linked row) ∙ s.linked))
 
 -- nothing but looks
 pub idle_changes : (b : Board) (q f : Pass) → IsQuiet b q → Idles b q f → ChangesNothing q f
@@ -113,5 +123,5 @@ idle_changes b q f quiet i = does_nothing b q f quiet i.moved i.plain i.memo
 pub left_changes : (b : Board) (segment row into cutoff : ℕ) (q r : Pass) → IsQuiet b q → KeepsRow b segment row into cutoff kept.Left q r → ChangesNothing q r
 left_changes b segment row into cutoff q r quiet k = ⊎_elim
     (λ none. idle_changes b q r quiet none.0)
-    (λ some. ⊎_elim (λ seldom. idle_changes b q r quiet seldom.idles) (λ went. went.4) some)
+    (λ some. ⊎_elim (λ seldom. idle_changes b q r quiet (idles_then b q seldom.0 r seldom.1.idles seldom.2)) (λ went. went.4) some)
     k.answer

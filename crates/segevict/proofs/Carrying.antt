@@ -1,16 +1,16 @@
 -- A row's item that a keep moved: what the marks say just before the move, and of the move itself.
-use Rattle.std.proofs.Common.{◌≡◌, ℕ, ◌<◌, ◌≤◌, cond, eqb, Bool, true, false, List, [], ◌∷◌, ◌++◌, Some, refl, sym, ap, ◌∙◌, subst, append_assoc}
+use Rattle.std.proofs.Common.{◌≡◌, ℕ, ◌≤◌, cond, eqb, Bool, true, false, List, [], ◌∷◌, ◌++◌, Some, refl, sym, ap, ◌∙◌, subst, append_assoc}
 use Rattle.segmodel.specs.declared.entry.Entry.TheVariants.{Moved}
 use Rattle.segmodel.specs.Words.{Begins, bucket_of}
 use Rattle.segcore.specs.declared.event.Event.TheVariants.{Freed, Relinked, Took}
 use Rattle.segcore.specs.Mark.{at, enters}
 use Rattle.segcore.specs.Mark as mark
-use Rattle.segcore.specs.Words.{by, Event, frequency_in, Mark, RowGone}
+use Rattle.segcore.specs.Words.{by, Event, frequency_in, Mark, RowGone, span_in}
 use Rattle.segcore.proofs.Moments.{begins_on, marked_begins}
 use Rattle.segbase.specs.Traces.{own_of}
 use Rattle.segbase.specs.Words.{AddsEvents, Board, marked, number, Pass, TakesSteps, trace, used_of}
 use Rattle.segbase.proofs.Starting.{starts_on}
-use Rattle.segstore.specs.Words.{AddsEntry, bounces, fills}
+use Rattle.segstore.specs.Words.{AddsEntry, AreRows, bounces, fills}
 use Rattle.segevict.specs.Moving.{moves, SeesRow, under_bit}
 use Rattle.segevict.specs.OneRow.{CarriesItem}
 use Rattle.segevict.proofs.Frequencies.{had_at}
@@ -77,7 +77,7 @@ module _ (b : Board) (segment row into cutoff : ℕ) (p f q : Pass) (s : SeesRow
       (free ∷ [], refl)
       (subst (Begins (free ∷ (freed.older ++ trace f))) (sym adds.goes_on) (begins_there (number f) free (move ∷ earlier) adds.more (trace f) freed)))
 
-  pub carried : TakesSteps f q → used_of p into ≡ Some to → to < b.shape.rows
+  pub carried : TakesSteps f q → used_of p into ≡ Some to → AreRows b.shape to (span_in (trace p) segment row)
       → AddsEntry (Moved (number p) s.key segment into) p q → RowGone b.shape segment row (trace q)
       → CarriesItem b.shape segment row cutoff into p q s.key
   carried steps next fits entries gone = record {

@@ -1,7 +1,7 @@
 -- What becomes of the item of a row in a keep: it is left, since no word names it or it was read too seldom; or
 -- it is moved, or no word named it any more under the bit; or there is no row or no bit for it.
-use Rattle.std.proofs.Common.{◌≡◌, ◌≢◌, Bool, ℕ, ◌+◌, ◌*◌, ◌/◌, ◌%◌, ◌^◌, ◌<◌, ◌≤◌, true, false, eqb, List, [], ◌∷◌, ◌++◌, None, refl, sym, ap, ◌∙◌, subst, inl, inr, ⊎_elim, arith}
-use Rattle.std.proofs.lemmas.Bool.{cond-true, eq-eqb, lt-ltb, ne_eqb}
+use Rattle.std.proofs.Common.{◌≡◌, ◌≢◌, Bool, ℕ, ◌+◌, ◌*◌, ◌/◌, ◌%◌, ◌^◌, ◌<◌, ◌≤◌, true, false, eqb, is_some, List, [], ◌∷◌, ◌++◌, None, refl, sym, ap, ◌∙◌, subst, inl, inr, ⊎_elim, arith}
+use Rattle.std.proofs.lemmas.Bool.{cond-true, eq-eqb, ne_eqb}
 use Rattle.std.proofs.lemmas.Option.{same_Some}
 use Rattle.segword.specs.Words.{Item, item_word}
 use Rattle.segmodel.specs.declared.entry.Entry.TheVariants.{Moved}
@@ -9,7 +9,7 @@ use Rattle.segmodel.specs.Words.{bucket_of, Entry, tag_of}
 use Rattle.segcore.specs.declared.event.Event.TheVariants.{Freed}
 use Rattle.segcore.specs.Event as event
 use Rattle.segcore.specs.Words.{bounced, bucket_after, content_word, Event, frequency_of, item}
-use Rattle.segcore.specs.Words.{NoneAt, packed, RowGone, Slot, slot, taken}
+use Rattle.segcore.specs.Words.{NoneAt, packed, RowGone, Slot, slot, span_in, taken}
 use Rattle.segcore.proofs.Coherent.{IsStanding}
 use Rattle.segcore.proofs.Exact.{content_at}
 use Rattle.segcore.proofs.Limits.{low_frequency, low_row, low_segment}
@@ -20,7 +20,7 @@ use Rattle.segbase.specs.Words.{deadline_in, HasStep, IsPassOf, mine, number, ow
 use Rattle.segbase.specs.Words.{position, state_in, TakesSteps, trace, with_own}
 use Rattle.segbase.proofs.Moves.{moved_count, moved_then}
 use Rattle.segbase.proofs.Standing.{place_of_word, tag_of_word}
-use Rattle.segstore.specs.Words.{ChangesNothing, DrawsNothing, GoesOn, Idles, is_below, IsBusy}
+use Rattle.segstore.specs.Words.{AreRows, ChangesNothing, DrawsNothing, GoesOn, Idles, IsBusy}
 use Rattle.segstore.specs.Words.{IsQuiet, KeepsSegments, memo, ReadsNothing, TakesNoBit, TakesOneBit}
 use Rattle.segstore.specs.Words.{TookToWrite}
 use Rattle.segstore.proofs.Keeping.{calm_in, keeps_plain, same_used}
@@ -28,11 +28,12 @@ use Rattle.segstore.proofs.Bounces.{bounces_calm}
 use Rattle.segstore.proofs.Draws.{AreUndrawn, draws_none_then, moved_undrawn}
 use Rattle.segstore.proofs.Idling.{does_nothing, goes_nowhere}
 use Rattle.segstore.proofs.Peeking.{unread}
+use Rattle.segstore.proofs.Refills.{idles}
 use Rattle.segstore.proofs.Still.{AreStill, no_reader}
 use Rattle.segstore.proofs.TakenBits.{AreNoTries}
 use Rattle.segstore.proofs.UnderWrite.{begun, HasBegun, took_keeps, took_moved, tries, write_adds, write_goes_on}
 use Rattle.segstore.proofs.UnderWrite.{write_peeking, write_takes, write_undrawn}
-use Rattle.segwrite.specs.Words.{one_more, Target}
+use Rattle.segwrite.specs.Words.{more, Target}
 use Rattle.segwrite.proofs.Filling.{fills_nowhere, fills_seen, fills_still, fills_undrawn, fills_untried}
 use Rattle.segevict.specs.declared.retention.KeepRowAnswer.{KeepRowAnswer}
 use Rattle.segevict.specs.declared.retention.KeepRowAnswer.TheVariants as kept
@@ -40,9 +41,10 @@ use Rattle.segevict.specs.Frequencies.{WasOften}
 use Rattle.segevict.specs.Moving.{IsKeptRow, KeepsRow, moves, MovesRow, SeesRow, under_bit}
 use Rattle.segevict.specs.OneRow.{AfterLooks, TriesForRow}
 use Rattle.segevict.specs.Rows.{IsNamedAt, IsStoredIn, KeepsGone}
-use Rattle.segevict.specs.Target.{has_room_in, IsMoveTarget, IsNextIn}
+use Rattle.segevict.specs.Target.{AreNextIn, has_rows_in, IsMoveTarget, IsNextIn}
 use Rattle.segevict.specs.Tries.{TriesFor}
 use Rattle.segevict.proofs.Frequencies.{had_seen}
+use Rattle.segevict.proofs.Items.{span_over}
 use Rattle.segevict.proofs.KeyTries.{no_tries, one_try, tries_after}
 use Rattle.segevict.proofs.Naming.{unnamed}
 use Rattle.segevict.proofs.RowsOut.{calm_keeps_gone, goes_then}
@@ -57,9 +59,17 @@ frequency_parts t f s r t' f' s' r' lf ls lr lf' ls' lr' e =
     let places : s * 2 ^ 20 + r ≡ s' * 2 ^ 20 + r' = sym (place_of_word t f s r ls lr) ∙ (ap (λ n. n % 2 ^ 44) e ∙ place_of_word t' f' s' r' ls' lr') in
     omega (arith, tags, places, e)
 
--- a segment whose next row is known has a row left
-pub room_there : (b : Board) (segment row : ℕ) (p : Pass) → IsNextIn b segment row p → has_room_in b.shape segment p ≡ true
-room_there b segment row p next = ap (is_below b.shape.rows) next.used ∙ lt-ltb row b.shape.rows next.fits
+-- by looks alone the pass saw that no word names the row
+pub row_passed : (b : Board) (segment row into cutoff : ℕ) (p f : Pass) → IsQuiet b p → Idles b p f → RowGone b.shape segment row (trace f) → KeepsRow b segment row into cutoff kept.Left p f
+row_passed b segment row into cutoff p f quiet i gone = record {
+  on = goes_nowhere b p f quiet i.moved i.plain i.memo;
+  memo = i.memo;
+  draws_nothing = moved_undrawn b [] p f i.moved tt;
+  reads_nothing = no_reader b [] p f i.moved tt;
+  tries = no_tries b (WasOften b.shape segment cutoff p f) 1 p f i.moved;
+  tried = inl (record { taken = moved_count b [] p f taken i.moved; bounced = λ other. moved_count b [] p f (bounced other) i.moved });
+  answer = inl (i, gone);
+}
 
 -- with f the pass after the search without the bit
 module _ (b : Board) (bucket : ℕ) (sought : Item) (into cutoff : ℕ) (p f : Pass) (quiet : IsQuiet b p) (i : Idles b p f) (first : HasStep p f) (stored : IsStoredIn b bucket sought f) where
@@ -75,12 +85,26 @@ module _ (b : Board) (bucket : ℕ) (sought : Item) (into cutoff : ℕ) (p f : P
   no_bit : TakesNoBit p f
   no_bit = record { taken = moved_count b [] p f taken i.moved; bounced = λ other. moved_count b [] p f (bounced other) i.moved }
 
+  abbrev rows : ℕ
+  rows = span_in (trace f) sought.seg sought.row
+
+  -- the item takes as many rows as it took
+  rows_f : rows ≡ span_in (trace p) sought.seg sought.row
+  rows_f = kept_f.spans sought.row (ap is_some (sym (kept_f.linked sought.row) ∙ stored.linked))
+    where
+      kept_f : KeepsGone b sought.seg p f
+      kept_f = calm_keeps_gone b sought.seg [] p f i.moved tt (stored.own ∙ i.moved.same)
+
+  -- the room that is found then was there before
+  room_p : (has : Bool) → has_rows_in b.shape into rows f ≡ has → has_rows_in b.shape into rows p ≡ has
+  room_p has = subst (λ (y : PlainPart). has_rows_in b.shape into rows (record f { plain = y }) ≡ has) i.plain
+
   abbrev Kept : KeepRowAnswer → Pass → Type 0
   Kept told q = KeepsRow b sought.seg sought.row into cutoff told p q
 
   -- looks were enough
   only_looked : (told : KeepRowAnswer) → (TakesNoBit p f
-      → TriesForRow b sought.seg sought.row cutoff (has_room_in b.shape into p) told p f)
+      → TriesForRow b sought.seg sought.row cutoff (has_rows_in b.shape into (span_in (trace p) sought.seg sought.row) p) told p f)
       → IsKeptRow b sought.seg sought.row into cutoff told p f → Kept told f
   only_looked told tried answer = record {
     on = goes_f;
@@ -93,7 +117,7 @@ module _ (b : Board) (bucket : ℕ) (sought : Item) (into cutoff : ℕ) (p f : P
   }
 
   pub row_gone : RowGone b.shape sought.seg sought.row (trace f) → Kept kept.Left f
-  row_gone gone = only_looked kept.Left (λ none. inl none) (inl (i, gone))
+  row_gone gone = row_passed b sought.seg sought.row into cutoff p f quiet i gone
 
   -- ---- a word names it
 
@@ -131,7 +155,7 @@ module _ (b : Board) (bucket : ℕ) (sought : Item) (into cutoff : ℕ) (p f : P
     sees IsSo so = record { idles = i; looks = first; key = stored.key; linked = stored.linked; position = at; named = here; is = subst IsSo frequency so }
 
     pub row_seldom : x.freq < cutoff → Kept kept.Left f
-    row_seldom lt = only_looked kept.Left (λ none. inl none) (inr (inl (sees (λ n. n < cutoff) lt)))
+    row_seldom lt = only_looked kept.Left (λ none. inl none) (inr (inl (f, sees (λ n. n < cutoff) lt, idles b f i.moved.pass)))
 
     -- ---- it was read often enough
 
@@ -139,8 +163,8 @@ module _ (b : Board) (bucket : ℕ) (sought : Item) (into cutoff : ℕ) (p f : P
       abbrev seen_often : SeesRow b sought.seg sought.row (λ n. cutoff ≤ n) p f
       seen_often = sees (λ n. cutoff ≤ n) often
 
-      pub row_no_room : has_room_in b.shape into f ≡ false → Kept kept.NoRoom f
-      row_no_room full = only_looked kept.NoRoom (λ none. none) (seen_often, subst (λ (y : PlainPart). has_room_in b.shape into (record f { plain = y }) ≡ false) i.plain full)
+      pub row_no_room : has_rows_in b.shape into rows f ≡ false → Kept kept.NoRoom f
+      row_no_room full = only_looked kept.NoRoom (λ none. none) (seen_often, room_p false full)
 
       had : (q : Pass) → TakesSteps f q → WasOften b.shape sought.seg cutoff p q stored.key
       had q steps = (sought.row, had_seen b sought.seg sought.row (λ n. cutoff ≤ n) p f q seen_often steps)
@@ -166,7 +190,7 @@ module _ (b : Board) (bucket : ℕ) (sought : Item) (into cutoff : ℕ) (p f : P
           (one_try b.shape (WasOften b.shape sought.seg cutoff p q) stored.key f q (had q steps) took (subst (λ k. count (bounced k) q ≤ count (bounced k) f + 64) home met)
           (λ other apart. others other (λ same. apart (same ∙ home))))
 
-      pub row_busy : (q : Pass) → has_room_in b.shape into f ≡ true → GoesOn b f q × ChangesNothing f q × IsBusy bucket f q × DrawsNothing f q × ReadsNothing f q → Kept kept.Busy q
+      pub row_busy : (q : Pass) → has_rows_in b.shape into rows f ≡ true → GoesOn b f q × ChangesNothing f q × IsBusy bucket f q × DrawsNothing f q × ReadsNothing f q → Kept kept.Busy q
       row_busy q room busy = record {
         on = goes_then b p f q goes_f busy.0;
         memo = busy.1.memo ∙ i.memo;
@@ -177,7 +201,7 @@ module _ (b : Board) (bucket : ℕ) (sought : Item) (into cutoff : ℕ) (p f : P
             (λ tried. let same = tried.taken in let met = tried.tries in tries_one q busy.0.steps (omega arith) (omega arith) tried.others)
             busy.2;
         tried = looked IsBusy q busy.0 busy.2;
-        answer = (f, seen_often, busy.0, subst (λ (y : PlainPart). has_room_in b.shape into (record f { plain = y }) ≡ true) i.plain room, busy.1, subst (λ k. IsBusy k f q) home busy.2);
+        answer = (f, seen_often, busy.0, room_p true room, busy.1, subst (λ k. IsBusy k f q) home busy.2);
       }
 
       -- ---- under the bit
@@ -205,8 +229,18 @@ module _ (b : Board) (bucket : ℕ) (sought : Item) (into cutoff : ℕ) (p f : P
           deadlines = ap (λ (y : PlainPart). deadline_in (own_segment y sought.seg)) plain ∙ (t.deadlines ∙ sym (ap (λ (y : PlainPart). deadline_in (own_segment y into)) plain));
         }
 
-        pub next_q : (to : ℕ) → IsNextIn b into to f → IsNextIn b into to q
+        rows_q : span_in (trace q) sought.seg sought.row ≡ rows
+        rows_q = span_over b took_by f q sought.seg sought.row taking (calm_in sought.seg took_by (tt, bounces_calm (number f) bucket begins.tries)) stored.own (ap is_some stored.linked)
+
+        pub next_q : (to : ℕ) → AreNextIn b into to rows f → AreNextIn b into to (span_in (trace q) sought.seg sought.row) q
         next_q to next = record {
+          used = same_used f q into took.plain ∙ next.used;
+          fits = subst (AreRows b.shape to) (sym rows_q) next.fits;
+        }
+
+        -- the same of one row
+        pub next_row_q : (to : ℕ) → IsNextIn b into to f → IsNextIn b into to q
+        next_row_q to next = record {
           used = same_used f q into took.plain ∙ next.used;
           fits = next.fits;
         }
@@ -229,7 +263,8 @@ module _ (b : Board) (bucket : ℕ) (sought : Item) (into cutoff : ℕ) (p f : P
           events_f = moved_then b took_by (Freed (number f) bucket false ∷ own) f q s taking
               (subst (λ k. AddsEvents b (Freed k bucket false ∷ own) q s) (m.same ∙ taking.same) (moved_then b own (Freed (number r) bucket false ∷ []) q r s m freed.moved))
 
-          done : (told : KeepRowAnswer) → (AfterLooks b sought.seg sought.row cutoff TakesOneBit p s → TriesForRow b sought.seg sought.row cutoff (has_room_in b.shape into p) told p s)
+          done : (told : KeepRowAnswer) → (AfterLooks b sought.seg sought.row cutoff TakesOneBit p s
+              → TriesForRow b sought.seg sought.row cutoff (has_rows_in b.shape into (span_in (trace p) sought.seg sought.row) p) told p s)
               → IsKeptRow b sought.seg sought.row into cutoff told p s → Kept told s
           done told tried answer =
               let takes = write_takes b bucket f q goes_f.quiet begins r s own added false m elsewhere still adds freed free none in
@@ -244,18 +279,18 @@ module _ (b : Board) (bucket : ℕ) (sought : Item) (into cutoff : ℕ) (p f : P
               }
 
         -- no word named it any more
-        pub row_went : has_room_in b.shape into f ≡ true → (to : ℕ) (r s : Pass)
+        pub row_went : has_rows_in b.shape into rows f ≡ true → (to : ℕ) (r s : Pass)
             → MovesRow b bucket sought into to false q r → AddsAtOnce b (Freed (number r) bucket false ∷ []) r s
             → (bucket_after b.shape (trace s) bucket).holder ≡ None → s.plain ≡ r.plain → memo s ≡ memo r
             → Kept kept.Left s
         row_went room to r s t freed free plain' same' =
             let m = t.moves.0 in let plain = t.moves.1 in
             let gone = gone_over b (Freed (number r) bucket false ∷ []) r s sought.seg sought.row freed.moved (tt, tt) (stored_q.own ∙ sym m.same) t.gone in
-            let room_p : has_room_in b.shape into p ≡ true = subst (λ (y : PlainPart). has_room_in b.shape into (record f { plain = y }) ≡ true) i.plain room in
+            let there = room_p true room in
             done r s [] [] m (λ other apart. tt) tt (λ h. refl) tt tt t.segments t.memo
             (ap (λ (y : PlainPart). y.locked) plain) (ap (λ (y : PlainPart). y.is_holding) plain) freed free
             plain' same' kept.Left
-            (λ bit. inr (bit, room_p, unnamed b.shape (trace s) sought.seg sought.row freed.moved.pass.lawful gone))
+            (λ bit. inr (bit, subst (λ n. has_rows_in b.shape into n p ≡ true) rows_f there, unnamed b.shape (trace s) sought.seg sought.row freed.moved.pass.lawful gone))
             (inr (inr (
               f,
               seen_often,
@@ -271,11 +306,11 @@ module _ (b : Board) (bucket : ℕ) (sought : Item) (into cutoff : ℕ) (p f : P
               },
               gone,
               begins.few,
-              room_p,
+              there,
             )))
 
         -- it was moved
-        module _ (to : ℕ) (next : IsNextIn b into to f) (r s : Pass) (t : MovesRow b bucket sought into to true q r) where
+        module _ (to : ℕ) (next : AreNextIn b into to rows f) (r s : Pass) (t : MovesRow b bucket sought into to true q r) where
           abbrev position_moved : ℕ
           position_moved = t.moves.1
 
@@ -304,8 +339,8 @@ module _ (b : Board) (bucket : ℕ) (sought : Item) (into cutoff : ℕ) (p f : P
           adds : (h : List Event) → event.seen (own ++ h) ≡ added ++ event.seen h
           adds h = ap (λ e. Moved (number f) stored.key sought.seg into ∷ e) (fills_seen (number f) into to written.0 written.1 h)
 
-          abbrev plain : r.plain ≡ with_own into one_more q.plain
-          plain = t.moves.6
+          plain : r.plain ≡ with_own into (more rows) q.plain
+          plain = t.moves.6 ∙ ap (λ n. with_own into (more n) q.plain) rows_q
 
           pub row_moved : AddsAtOnce b (Freed (number r) bucket false ∷ []) r s → (bucket_after b.shape (trace s) bucket).holder ≡ None → s.plain ≡ r.plain → memo s ≡ memo r → Kept kept.Moved s
           row_moved freed free plain' same' =
@@ -331,7 +366,7 @@ module _ (b : Board) (bucket : ℕ) (sought : Item) (into cutoff : ℕ) (p f : P
                 write_adds b bucket f q goes_f.quiet begins r s own added false m elsewhere still adds freed free
                     ∙ (cond-true (eqb (number f) (number f)) (Moved (number f) stored.key sought.seg into ∷ mine f) (mine f) (eq-eqb (number f) (number f) refl)
                     ∙ (λ u. Moved (i.moved.same u) stored.key sought.seg into ∷ old u)),
-                plain' ∙ (plain ∙ ap (with_own into one_more) (took.plain ∙ i.plain)),
+                plain' ∙ (plain ∙ ap (with_own into (more rows)) (took.plain ∙ i.plain)),
                 gone_over b (Freed (number r) bucket false ∷ []) r s sought.seg sought.row freed.moved (tt, tt) (stored_q.own ∙ sym m.same) t.gone,
                 begins.few,
               )

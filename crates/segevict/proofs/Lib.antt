@@ -14,6 +14,7 @@ pub mod Frequencies
 pub mod Alone
 pub mod Relinking
 pub mod Moving
+pub mod LookedFor
 pub mod KeptRows
 pub mod AfterRow
 pub mod Naming
@@ -21,6 +22,7 @@ pub mod NamedItems
 pub mod Carrying
 pub mod OneRow
 pub mod Keeping
+pub mod KeptItems
 pub mod UnnamedRows
 pub mod StoodFacts
 pub mod StepFacts

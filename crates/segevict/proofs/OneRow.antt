@@ -4,13 +4,16 @@ use Rattle.std.proofs.Common.{◌≡◌, ℕ, ◌≤◌, ◌<◌, ◌↔◌, Boo
 use Rattle.std.proofs.lemmas.Bool.{false≢true}
 use Rattle.std.proofs.lemmas.Option.{none-some}
 use Rattle.segmodel.specs.declared.answer.SegState.TheVariants.{InUse}
-use Rattle.segmodel.specs.Words.{bucket_of}
+use Rattle.segmodel.specs.Words.{bucket_of, owner}
 use Rattle.segcore.specs.Words.{bounced, span_in}
 use Rattle.segbase.specs.declared.pass.PlainPart.{PlainPart}
-use Rattle.segbase.specs.Words.{Board, count, current_of, marked, Pass, state_of, trace, used_of}
+use Rattle.segbase.specs.Words.{Board, count, current_of, marked, number, Pass, state_of, trace, used_of}
+use Rattle.segbase.specs.Words.{with_own}
 use Rattle.segbase.proofs.Moves.{moved_count}
-use Rattle.segstore.specs.Words.{are_left, ChangesNothing, has_room_for, is_below, IsQuiet, TakesAtMost, TakesNoBit}
+use Rattle.segstore.specs.Words.{are_left, AreRows, ChangesNothing, has_room_for, is_below, IsQuiet, TakesAtMost, TakesNoBit}
 use Rattle.segstore.proofs.Idling.{goes_same}
+use Rattle.segstore.proofs.Keeping.{owns_used}
+use Rattle.segwrite.specs.Words.{more}
 use Rattle.segevict.specs.declared.retention.KeepRowAnswer.{KeepRowAnswer}
 use Rattle.segevict.specs.declared.retention.KeepRowAnswer.TheVariants as kept
 use Rattle.segevict.specs.Moving.{IsKeptRow, KeepsRow}
@@ -19,7 +22,7 @@ use Rattle.segevict.specs.Rows.{HasRow}
 use Rattle.segevict.specs.Steps.{most_steps_of_keep_row}
 use Rattle.segevict.specs.Target.{has_rows_in, IsKeepTarget, IsMoveTarget}
 use Rattle.segevict.proofs.Frequencies.{had_at, had_seen}
-use Rattle.segevict.proofs.AfterRow.{idle_changes, left_changes, uses_one}
+use Rattle.segevict.proofs.AfterRow.{idle_changes, left_changes, seen_span, uses_more}
 use Rattle.segevict.proofs.Carrying.{carried}
 use Rattle.segevict.proofs.Naming.{unnamed}
 
@@ -41,42 +44,52 @@ has_rows_of b into segment row p = has_rows_in b.shape into (span_in (trace p) s
 -- ---- a used row
 
 module _ (b : Board) (segment row into cutoff : ℕ) (p r : Pass) (quiet : IsQuiet b p) where
+  abbrev rows : ℕ
+  rows = span_in (trace p) segment row
+
   -- with this segment to move into
-  kept_to : (IsTarget : ℕ → Type 0) → IsTarget into → (told : KeepRowAnswer)
+  kept_to : owner b.shape segment ≡ number p → (IsTarget : ℕ → Type 0) → IsTarget into → (told : KeepRowAnswer)
       → KeepsRow b segment row into cutoff told p r
-      → KeepsTo b.shape segment row cutoff IsTarget (has_rows_of b into segment row r) told p r
-  kept_to IsTarget target kept.Moved k = let a = k.answer in
-      (into, target, uses_one into p r a.11 k.memo, (a.1.key, carried b segment row into cutoff p a.0 r a.1 a.3 a.4 a.5 a.6 a.9 a.2.steps a.7 a.8 a.10 a.12))
-  kept_to IsTarget target kept.Left k = (
+      → KeepsTo b.shape segment row cutoff IsTarget (has_rows_in b.shape into rows r) told p r
+  kept_to own IsTarget target kept.Moved k = let a = k.answer in
+      let same : span_in (trace a.0) segment row ≡ rows = seen_span b segment row (λ n. cutoff ≤ n) p a.0 own a.1 in (
+        into,
+        target,
+        uses_more into p r rows (a.11 ∙ ap (λ n. with_own into (more n) p.plain) same) k.memo,
+        (a.1.key, carried b segment row into cutoff p a.0 r a.1 a.3 a.4 a.5 a.6 a.9 a.2.steps a.7 (subst (AreRows b.shape a.3) same a.8) a.10 a.12),
+      )
+  kept_to own IsTarget target kept.Left k = (
     into,
     target,
     left_changes b segment row into cutoff p r quiet k,
     ⊎_elim
         (λ none. inl (unnamed b.shape (trace r) segment row k.on.quiet.pass.lawful none.1))
         (λ some. ⊎_elim
-        (λ seldom. inr (seldom.key, had_seen b segment row (λ n. n < cutoff) p r r seldom (inr (refl, refl))))
+        (λ seldom. inr (seldom.1.key, had_seen b segment row (λ n. n < cutoff) p seldom.0 r seldom.1 seldom.2.moved.steps))
         (λ went. inl (unnamed b.shape (trace r) segment row k.on.quiet.pass.lawful went.5))
         some)
         k.answer,
   )
-  kept_to IsTarget target kept.NoRoom k =
+  kept_to own IsTarget target kept.NoRoom k =
       let s = k.answer.0 in
       let none = idle_changes b p r quiet s.idles in inr (
         into,
         target,
         none,
-        subst (λ (x : PlainPart). has_rows_in b.shape into (span_in (trace r) segment row) (record p { plain = x }) ≡ false) (sym none.plain) k.answer.1,
+        subst (λ (x : PlainPart). has_rows_in b.shape into rows (record p { plain = x }) ≡ false) (sym none.plain)
+            (subst (λ n. has_rows_in b.shape into n p ≡ false) (seen_span b segment row (λ n. cutoff ≤ n) p r own s) k.answer.1),
         (s.key, had_at b segment row (λ n. cutoff ≤ n) p r s (marked r) (marked r) ([], refl) ([], refl)),
         s.looks,
       )
-  kept_to IsTarget target kept.Busy k =
+  kept_to own IsTarget target kept.Busy k =
       let a = k.answer in let f = a.0 in let s = a.1 in let bucket = bucket_of b.shape s.key in
       let looked = idle_changes b p f quiet s.idles in
       let none : ChangesNothing p r = record { entries = a.4.entries ∙ looked.entries; plain = a.4.plain ∙ looked.plain; memo = a.4.memo ∙ looked.memo } in (
         into,
         target,
         none,
-        subst (λ (x : PlainPart). has_rows_in b.shape into (span_in (trace r) segment row) (record p { plain = x }) ≡ true) (sym none.plain) a.3,
+        subst (λ (x : PlainPart). has_rows_in b.shape into rows (record p { plain = x }) ≡ true) (sym none.plain)
+            (subst (λ n. has_rows_in b.shape into n p ≡ true) (seen_span b segment row (λ n. cutoff ≤ n) p f own s) a.3),
         (
           s.key,
           had_seen b segment row (λ n. cutoff ≤ n) p f r s a.2.steps,
@@ -86,8 +99,11 @@ module _ (b : Board) (segment row into cutoff : ℕ) (p r : Pass) (quiet : IsQui
               a.5,
         ),
       )
-  kept_to IsTarget target kept.NotYours k = absurd k.answer
-  kept_to IsTarget target kept.NotUsed k = absurd k.answer
+  kept_to own IsTarget target kept.NotYours k = absurd k.answer
+  kept_to own IsTarget target kept.NotUsed k = absurd k.answer
+
+  own_row : HasRow segment row p → owner b.shape segment ≡ number p
+  own_row has = owns_used b p segment has.1.0 quiet.pass has.1.1
 
   module _ (has : HasRow segment row p) (told : KeepRowAnswer) (k : KeepsRow b segment row into cutoff told p r) where
     none_not_yours : (told ≡ kept.NotYours) ↔ (state_of p segment ≡ None)
@@ -109,16 +125,16 @@ module _ (b : Board) (segment row into cutoff : ℕ) (p r : Pass) (quiet : IsQui
 
     -- the room of the segment is what the pass has
     with_room : (told : KeepRowAnswer) → r.plain ≡ p.plain
-        → KeepsTo b.shape segment row cutoff IsHere (has_rows_of b into segment row r) told p r
-        → KeepsTo b.shape segment row cutoff IsHere (has_room_of b segment row r) told p r
+        → KeepsTo b.shape segment row cutoff IsHere (has_rows_in b.shape into rows r) told p r
+        → KeepsTo b.shape segment row cutoff IsHere (has_room_for b.shape rows r) told p r
     with_room told same = subst (λ room. KeepsTo b.shape segment row cutoff IsHere room told p r)
-        (room_now b into (span_in (trace r) segment row) r (ap (λ (x : PlainPart). x.current) same ∙ target.current))
+        (room_now b into rows r (ap (λ (x : PlainPart). x.current) same ∙ target.current))
 
     answers : (told : KeepRowAnswer) → KeepsRow b segment row into cutoff told p r → IsKeepRowAnswer b.shape segment row cutoff told p r
-    answers kept.Moved k = kept_to IsHere target kept.Moved k
-    answers kept.Left k = kept_to IsHere target kept.Left k
-    answers kept.NoRoom k = with_room kept.NoRoom (idle_changes b p r quiet k.answer.0.idles).plain (kept_to IsHere target kept.NoRoom k)
-    answers kept.Busy k = let is = kept_to IsHere target kept.Busy k in with_room kept.Busy is.2.plain is
+    answers kept.Moved k = kept_to (own_row has) IsHere target kept.Moved k
+    answers kept.Left k = kept_to (own_row has) IsHere target kept.Left k
+    answers kept.NoRoom k = with_room kept.NoRoom (idle_changes b p r quiet k.answer.0.idles).plain (kept_to (own_row has) IsHere target kept.NoRoom k)
+    answers kept.Busy k = let is = kept_to (own_row has) IsHere target kept.Busy k in with_room kept.Busy is.2.plain is
     answers kept.NotYours k = absurd k.answer
     answers kept.NotUsed k = absurd k.answer
 
@@ -129,7 +145,7 @@ module _ (b : Board) (segment row into cutoff : ℕ) (p r : Pass) (quiet : IsQui
       not_yours = none_not_yours has told k;
       not_used = none_not_used has told k;
       costs = record {
-        tries = subst (λ room. TriesForRow b segment row cutoff room told p r) (room_now b into (span_in (trace p) segment row) p target.current) k.tried;
+        tries = subst (λ room. TriesForRow b segment row cutoff room told p r) (room_now b into rows p target.current) k.tried;
         steps = steps;
         draws_nothing = k.draws_nothing;
         reads_nothing = k.reads_nothing;
@@ -141,7 +157,7 @@ module _ (b : Board) (segment row into cutoff : ℕ) (p r : Pass) (quiet : IsQui
     pub row_answered_into : (told : KeepRowAnswer) → KeepsRow b segment row into cutoff told p r → TakesAtMost (most_steps_of_keep_row told) p r → KeepsItemInto b segment row cutoff into told p r
     row_answered_into told k steps = record {
       on = k.on;
-      answer = kept_to (λ other. (other ≡ into) × IsMoveTarget segment into p) (refl, target) told k;
+      answer = kept_to (own_row has) (λ other. (other ≡ into) × IsMoveTarget segment into p) (refl, target) told k;
       not_yours = none_not_yours has told k;
       not_used = none_not_used has told k;
       costs = record {

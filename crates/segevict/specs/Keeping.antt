@@ -14,6 +14,7 @@ use Rattle.segevict.specs.declared.retention.KeepRowAnswer.{KeepRowAnswer}
 use Rattle.segevict.specs.declared.retention.KeepRowAnswer.TheVariants as kept
 use Rattle.segevict.specs.Frequencies.{IsOften, WasOften, WasSeldom}
 use Rattle.segevict.specs.OneRow.{KeepsItem}
+use Rattle.segevict.specs.Rows.{IsUsedRow}
 use Rattle.segevict.specs.Target.{IsKeepTarget, UsesRows}
 use Rattle.segevict.specs.Tries.{IsInTheWay, TriesFor}
 
@@ -26,18 +27,21 @@ UsesSome into count p q =
     (UsesRows into count p q)
     ((rows : ℕ) × (count ≤ rows) × UsesRows into rows p q)
 
--- the current segment has too few rows left for an item of the segment, or rows enough for one
-abbrev pub LacksRows : Shape → ℕ → Pass → Type 0
-LacksRows shape segment q =
+-- The current segment has too few rows left for an item of the segment, or rows enough for one:
+-- for as many as a used row's item took when the call began.
+abbrev pub LacksRows : Shape → ℕ → Pass → Pass → Type 0
+LacksRows shape segment p q =
     MatchBool (most_span == 1)
     (has_room shape q ≡ false)
-    ((row : ℕ) × (has_room_for shape (span_in (trace q) segment row) q ≡ false))
+    ((row : ℕ) × IsUsedRow segment row p
+    × (has_room_for shape (span_in (trace p) segment row) q ≡ false))
 
-abbrev pub HasRowsForOne : Shape → ℕ → Pass → Type 0
-HasRowsForOne shape segment q =
+abbrev pub HasRowsForOne : Shape → ℕ → Pass → Pass → Type 0
+HasRowsForOne shape segment p q =
     MatchBool (most_span == 1)
     (has_room shape q ≡ true)
-    ((row : ℕ) × (has_room_for shape (span_in (trace q) segment row) q ≡ true))
+    ((row : ℕ) × IsUsedRow segment row p
+    × (has_room_for shape (span_in (trace p) segment row) q ≡ true))
 
 -- ---- what is moved
 
@@ -86,11 +90,11 @@ IsKeepAnswer shape segment cutoff keep.NotYours p q = q ≡ p
 IsKeepAnswer shape segment cutoff (keep.NoRoom count) p q =
     ((state_of p segment ≡ Some InUse) × ((into : ℕ) → ¬ (IsKeepTarget segment into p))
     × (count ≡ 0) × (q ≡ p))
-    ⊎ (MovesAway shape segment cutoff count p q × LacksRows shape segment q
+    ⊎ (MovesAway shape segment cutoff count p q × LacksRows shape segment p q
     × ((key : List ℕ) × IsOften shape segment cutoff q key))
 IsKeepAnswer shape segment cutoff (keep.Busy count) p q =
     MovesAway shape segment cutoff count p q
-    × HasRowsForOne shape segment q
+    × HasRowsForOne shape segment p q
     × IsInTheWay shape (WasOften shape segment cutoff p q) p q
 
 -- ---- rows in their order

@@ -89,7 +89,7 @@ IsKeptRow b segment row into cutoff kept.Moved p q =
     × (times < 64)
 IsKeptRow b segment row into cutoff kept.Left p q =
     (Idles b p q × RowGone b.shape segment row (trace q))
-    ⊎ SeesRow b segment row (λ frequency. frequency < cutoff) p q
+    ⊎ ((f : Pass) × SeesRow b segment row (λ frequency. frequency < cutoff) p f × Idles b f q)
     ⊎ ((f : Pass) × (s : SeesRow b segment row (λ frequency. cutoff ≤ frequency) p f) × (times : ℕ)
     × AddsEvents b (under_bit (number f) (bucket_of b.shape s.key) times []) f q
     × ChangesNothing p q × RowGone b.shape segment row (trace q) × (times < 64)

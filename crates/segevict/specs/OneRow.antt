@@ -73,13 +73,13 @@ KeepsTo shape segment row cutoff IsTarget room kept.NotUsed p q = q ≡ p
 abbrev pub IsKeepRowAnswer : Shape → ℕ → ℕ → ℕ → KeepRowAnswer → Pass → Pass → Type 0
 IsKeepRowAnswer shape segment row cutoff told p q =
     KeepsTo shape segment row cutoff (λ into. IsKeepTarget segment into p)
-    (has_room_for shape (span_in (trace q) segment row) q) told p q
+    (has_room_for shape (span_in (trace p) segment row) q) told p q
 
 -- it moves items into this segment alone
 abbrev pub IsKeepRowIntoAnswer : Shape → ℕ → ℕ → ℕ → ℕ → KeepRowAnswer → Pass → Pass → Type 0
 IsKeepRowIntoAnswer shape segment row cutoff into told p q =
     KeepsTo shape segment row cutoff (λ other. (other ≡ into) × IsMoveTarget segment into p)
-    (has_rows_in shape into (span_in (trace q) segment row) q) told p q
+    (has_rows_in shape into (span_in (trace p) segment row) q) told p q
 
 -- ---- what it costs
 

@@ -210,7 +210,8 @@ pub(crate) fn keep_used_row(
     requires used { IsUsedRow row.segment row.row pass.old }
     requires target { IsMoveTarget row.segment into pass.old }
     ensures keeps { KeepsRow board.now row.segment row.row into cutoff result pass.old pass.new }
-    ensures steps { TakesAtMost (most_steps_of_keep_row result) pass.old pass.new }
+    ensures steps { TakesAtMost (most_steps_of_keep_row result - loads_of_span 1)
+        pass.old pass.new }
 {
     if MOST_SPAN == 1 {
         return keep_first_row(board, pass, row, into, cutoff);
@@ -218,13 +219,14 @@ pub(crate) fn keep_used_row(
     let Some((bucket, item)) = item_at(board, pass, row.segment, row.row) else {
         return KeepRowAnswer::Left;
     };
+    // Nobody writes the item's rows while a word names it: the number stays so up to the move.
+    let rows = rows_from(board, pass, row.segment, row.row);
     let Some(seen) = find_row(board, pass, bucket, item) else {
         return KeepRowAnswer::Left;
     };
     if Item::unpack(seen.word).unwrap().freq < cutoff {
         return KeepRowAnswer::Left;
     }
-    let rows = rows_from(board, pass, row.segment, row.row);
     let Some(next) = next_rows_in(board, pass, into, rows) else {
         return KeepRowAnswer::NoRoom;
     };

@@ -19,24 +19,24 @@ loop-row-preserved c = let b = c.args.board.now in let s = c.args.segment in let
       | in-Moved w ↦ subst (λ n. Keeping b s i c.args.cutoff (l.row + 1) n p c.keep_used_row.new.pass)
           (sym w.kept-is) (keeping_moved b s i c.args.cutoff l.row l.kept p l.pass c.keep_used_row.new.pass own
           l.invariant c.requires.target.other w.in-Moved.ensures.keeps
-          (item kept.Moved w.in-Moved.ensures.keeps w.in-Moved.ensures.steps))
+          (item kept.Moved w.in-Moved.ensures.keeps (let few = w.in-Moved.ensures.steps in omega (arith, few))))
       | in-Left w ↦ subst (λ n. Keeping b s i c.args.cutoff (l.row + 1) n p c.keep_used_row.new.pass)
           (sym w.kept-is) (keeping_left b s i c.args.cutoff l.row l.kept p l.pass c.keep_used_row.new.pass own
-          l.invariant w.in-Left.ensures.keeps (item kept.Left w.in-Left.ensures.keeps w.in-Left.ensures.steps))
+          l.invariant w.in-Left.ensures.keeps (item kept.Left w.in-Left.ensures.keeps (let few = w.in-Left.ensures.steps in omega (arith, few))))
     ]
 
 pub returns-in-NoRoom : goal.returns-in-NoRoom
 returns-in-NoRoom c = let l = c.loop-row in let p = c.args.pass.now in let r = c.requires in record {
   keeps = keep_stopped c.args.board.now c.args.segment c.args.into c.args.cutoff l.row l.kept p l.pass r.quiet
       r.in_use r.target l.invariant c.unwrap-used.result (sym c.used.ensures ∙ c.unwrap-used.ensures)
-      c.keep_used_row.new.pass c.loop-row-test.true c.in-NoRoom.ensures.keeps c.in-NoRoom.ensures.steps;
+      c.keep_used_row.new.pass c.loop-row-test.true c.in-NoRoom.ensures.keeps (let few = c.in-NoRoom.ensures.steps in omega (arith, few));
 }
 
 pub returns-in-Busy : goal.returns-in-Busy
 returns-in-Busy c = let l = c.loop-row in let p = c.args.pass.now in let r = c.requires in record {
   keeps = keep_barred c.args.board.now c.args.segment c.args.into c.args.cutoff l.row l.kept p l.pass r.quiet
       r.in_use r.target l.invariant c.unwrap-used.result (sym c.used.ensures ∙ c.unwrap-used.ensures)
-      c.keep_used_row.new.pass c.loop-row-test.true c.in-Busy.ensures.keeps c.in-Busy.ensures.steps;
+      c.keep_used_row.new.pass c.loop-row-test.true c.in-Busy.ensures.keeps (let few = c.in-Busy.ensures.steps in omega (arith, few));
 }
 
 pub returns : goal.returns

@@ -1,11 +1,14 @@
-use Rattle.std.proofs.Common.{arith}
+use Rattle.std.proofs.Common.{false, arith}
+use Rattle.segcore.specs.Words.{span_in}
+use Rattle.segbase.specs.Words.{trace}
 use Rattle.segstore.proofs.Looks.{one_step}
 use Rattle.segstore.proofs.Seconds.{unpacked}
 use Rattle.segbase.proofs.Starting.{has_later}
 use Rattle.segwrite.proofs.Places.{idles_then}
+use Rattle.segevict.proofs.Alone.{next_alone, room_alone, rows_there}
 use Rattle.segevict.proofs.RowsOut.{quiet_looking}
 use Rattle.segevict.proofs.Seeking.{stored_over}
-use Rattle.segevict.proofs.KeptRows.{kept_place, may_release, next_q, room_there, row_busy, row_gone, row_moved, row_no_room, row_seldom, row_went, segments_q, stored_q, target_place, target_q}
+use Rattle.segevict.proofs.KeptRows.{kept_place, may_release, next_row_q, row_busy, row_gone, row_moved, row_no_room, row_seldom, row_went, segments_q, stored_q, target_place, target_q}
 use Rattle.segevict.proofs.retention.keep_first_row.Goals as goal
 
 pub returns-in_default : goal.returns-in_default
@@ -39,7 +42,7 @@ returns-in_default-next_row_in c = let b = c.args.board.now in let r = c.item_of
       keeps = kept_place b r.result.1 c.args.row.segment c.args.row.row c.args.into c.args.cutoff _ _ _ r.ensures.place
           (row_no_room b r.result.0 r.result.1 c.args.into c.args.cutoff c.args.pass.now f.new.pass c.requires.quiet
           i first stored c.in-Some.seen c.in-Some.ensures.finds c.unwrap.result word c.if-unwrap-cutoff.false
-          c.in_default-next_row_in.ensures.next);
+          (room_alone b.shape (trace f.new.pass) c.args.into r.result.1.seg r.result.1.row f.new.pass false c.requires.alone c.in_default-next_row_in.ensures.next));
       steps = (let read = r.ensures.steps in let looked = f.ensures.steps in omega (arith, read, looked));
     }
 
@@ -59,7 +62,9 @@ returns-then-not-take_to_write c = let b = c.args.board.now in let r = c.item_of
       keeps = kept_place b r.result.1 c.args.row.segment c.args.row.row c.args.into c.args.cutoff _ _ _ r.ensures.place
           (row_busy b r.result.0 r.result.1 c.args.into c.args.cutoff c.args.pass.now f.new.pass c.requires.quiet i
           first stored c.in-Some.seen c.in-Some.ensures.finds c.unwrap.result word c.if-unwrap-cutoff.false
-          c.take_to_write.new.pass (room_there b c.args.into c.in-Some-next_row_in.next f.new.pass c.in-Some-next_row_in.ensures.next) c.if-not-take_to_write.ensures.takes);
+          c.take_to_write.new.pass (rows_there b c.args.into c.in-Some-next_row_in.next (span_in (trace f.new.pass) r.result.1.seg r.result.1.row) f.new.pass
+          (next_alone b (trace f.new.pass) c.args.into c.in-Some-next_row_in.next r.result.1.seg r.result.1.row f.new.pass c.requires.alone c.in-Some-next_row_in.ensures.next))
+          c.if-not-take_to_write.ensures.takes);
       steps = (let read = r.ensures.steps in let looked = f.ensures.steps in let tried = c.take_to_write.ensures.steps in omega (arith, read, looked, tried));
     }
 
@@ -100,7 +105,7 @@ move_row-is_moved-requires-clause-next c = let b = c.args.board.now in let r = c
     let first = has_later c.args.pass.now r.new.pass f.new.pass r.ensures.idles.moved.same r.ensures.idles.moved.steps f.ensures.looks in
     let stored = stored_over b r.result.0 r.result.1 _ r.new.pass f.new.pass f.ensures.idles.moved tt r.ensures.stored in
     let word = unpacked c.unpack.result c.unwrap.result c.in-Some.seen.word c.unpack.ensures.some c.unwrap.ensures in
-    next_q b r.result.0 r.result.1 c.args.into c.args.cutoff c.args.pass.now f.new.pass c.requires.quiet i first
+    next_row_q b r.result.0 r.result.1 c.args.into c.args.cutoff c.args.pass.now f.new.pass c.requires.quiet i first
     stored c.in-Some.seen c.in-Some.ensures.finds c.unwrap.result word c.if-unwrap-cutoff.false
     c.take_to_write.new.pass c.if-not-take_to_write.ensures.takes
     c.in-Some-next_row_in.next c.in-Some-next_row_in.ensures.next
@@ -119,7 +124,7 @@ returns-then-is_moved c = let b = c.args.board.now in let r = c.item_of_row-buck
     let first = has_later c.args.pass.now r.new.pass f.new.pass r.ensures.idles.moved.same r.ensures.idles.moved.steps f.ensures.looks in
     let stored = stored_over b r.result.0 r.result.1 _ r.new.pass f.new.pass f.ensures.idles.moved tt r.ensures.stored in
     let word = unpacked c.unpack.result c.unwrap.result c.in-Some.seen.word c.unpack.ensures.some c.unwrap.ensures in
-    let next = c.in-Some-next_row_in.ensures.next in
+    let next = next_alone b (trace f.new.pass) c.args.into c.in-Some-next_row_in.next r.result.1.seg r.result.1.row f.new.pass c.requires.alone c.in-Some-next_row_in.ensures.next in
     let step = c.release.ensures.step.1 in record {
       keeps = kept_place b r.result.1 c.args.row.segment c.args.row.row c.args.into c.args.cutoff _ _ _ r.ensures.place
           (row_moved b r.result.0 r.result.1 c.args.into c.args.cutoff c.args.pass.now f.new.pass c.requires.quiet i
@@ -142,7 +147,8 @@ returns-else-is_moved c = let b = c.args.board.now in let r = c.item_of_row-buck
           (row_went b r.result.0 r.result.1 c.args.into c.args.cutoff c.args.pass.now f.new.pass c.requires.quiet i
           first stored c.in-Some.seen c.in-Some.ensures.finds c.unwrap.result word c.if-unwrap-cutoff.false
           c.take_to_write.new.pass c.if-not-take_to_write.ensures.takes
-          (room_there b c.args.into c.in-Some-next_row_in.next f.new.pass c.in-Some-next_row_in.ensures.next)
+          (rows_there b c.args.into c.in-Some-next_row_in.next (span_in (trace f.new.pass) r.result.1.seg r.result.1.row) f.new.pass
+          (next_alone b (trace f.new.pass) c.args.into c.in-Some-next_row_in.next r.result.1.seg r.result.1.row f.new.pass c.requires.alone c.in-Some-next_row_in.ensures.next))
           c.in-Some-next_row_in.next c.move_row-is_moved.new.pass c.release.new.pass c.if-is_moved.ensures.moves
           c.release.ensures.did c.release.ensures.free step.plain step.memo);
       steps = (let read = r.ensures.steps in let looked = f.ensures.steps in let tried = c.take_to_write.ensures.steps in let under = c.if-is_moved.ensures.steps in

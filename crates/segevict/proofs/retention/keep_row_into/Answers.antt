@@ -1,4 +1,4 @@
-use Rattle.std.proofs.Common.{rules, refl}
+use Rattle.std.proofs.Common.{rules, refl, arith}
 use Rattle.segevict.proofs.OneRow.{into_no_target, into_not_used, into_not_yours, row_answered_into}
 use Rattle.segevict.proofs.retention.keep_row_into.Goals as goal
 
@@ -20,5 +20,5 @@ returns-then-not-is_move_target c = let r = c.args.row in record {
 pub returns : goal.returns
 returns c = let r = c.args.row in record {
   keeps = row_answered_into c.args.board.now r.segment r.row c.args.into c.args.cutoff c.args.pass.now c.keep_used_row.new.pass c.requires.quiet (c.if-not-has_row.ensures.yes refl)
-      (c.if-not-is_move_target.ensures.yes refl) c.keep_used_row.result c.keep_used_row.ensures.keeps c.keep_used_row.ensures.steps;
+      (c.if-not-is_move_target.ensures.yes refl) c.keep_used_row.result c.keep_used_row.ensures.keeps (let few = c.keep_used_row.ensures.steps in omega (arith, few));
 }
