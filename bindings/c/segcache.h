@@ -14,12 +14,12 @@
  * keys are absent, which milliseconds come to in 49 days. With no time to live set, any smaller number will do. A thread
  * whose `now` lags behind others' can find what has expired for them: read the clock right before each call.
  *
- * ROWS. The room of a cache is rows of 64 bytes. In the default build each item takes one row. In the wide build an item
- * takes as many as hold 8 bytes, its key and its value, where key and value are rounded up to a multiple of 8, and the
- * key to 24 at least. That is one row for a key of 24 and a value of 32, and 68 for the longest. The rows of an item
+ * ROWS. The room of a cache is rows of 64 bytes. In the default build each item takes one row. In the wide build an
+ * item takes as many as hold 8 bytes, its key and its value, where key and value are rounded up to a multiple of 8, and
+ * the key to 24 at least. That is one row for a key of 24 and a value of 32, and 68 for the longest. The rows of an item
  * stand in one segment. Of each table a client has 64 segments or more, unless a shape says otherwise. An item that has
- * more rows than a segment is never stored: each put of it is NO_ROOM. So a client that has 4,352 rows in each table, 64
- * times 68, can store every item.
+ * more rows than a segment is never stored: a put or a set of it is NO_ROOM, whatever room is made. So a client that has
+ * 4,352 rows in each table, 64 times 68, can store every item.
  *
  * ANSWERS. Each call on a handle returns a status, SEGCACHE_OK or another of the list below. A null or freed
  * handle and a key or value of a bad length are answers, and the call did nothing. Only what an open or a close
