@@ -6,7 +6,7 @@
 #include <stdio.h>
 #include <stdlib.h>
 
-enum { CLIENTS = 3, KEYS = 64, CALLS = 22, GUARD = 0xA5, FRAME = 8, LONGEST = SEGCACHE_MAX_VALUE + 8 };
+enum { CLIENTS = 3, KEYS = 64, CALLS = 23, GUARD = 0xA5, FRAME = 8, LONGEST = SEGCACHE_MAX_VALUE + 8 };
 
 #define REQUIRE(condition) ((condition) ? (void)0 : (fprintf(stderr, "%d: %s\n", __LINE__, #condition), abort()))
 
@@ -139,6 +139,24 @@ static void read_many(struct model *model, struct bytes *bytes, segcache_client 
     if (lookups[i].status == SEGCACHE_OK) memcpy(value.at, lookups[i].value, lookups[i].value_len);
     check_read(model, numbers[i], lookups[i].status, &value, lookups[i].value_len);
   }
+}
+
+/* Up to 17 keys into buffers, some of which are too short. */
+static void read_many_into(struct model *model, struct bytes *bytes, segcache_client *client) {
+  uint8_t keys[17][SEGCACHE_MAX_KEY];
+  struct buffer values[17];
+  segcache_lookup_into lookups[17];
+  size_t count = draw(bytes, 18);
+  uint32_t numbers[17];
+  for (size_t i = 0; i < count; i++) {
+    numbers[i] = draw(bytes, KEYS), values[i] = empty(draw(bytes, LONGEST));
+    lookups[i] = (segcache_lookup_into){.key = keys[i], .key_len = key_of(numbers[i], keys[i])};
+    lookups[i].value = values[i].at, lookups[i].room = values[i].room;
+  }
+  uint32_t status = segcache_get_many_into(client, lookups, count, model->now);
+  REQUIRE(status == (client->raw.full ? SEGCACHE_OK : SEGCACHE_NO_HANDLE));
+  for (size_t i = 0; i < count && status == SEGCACHE_OK; i++)
+    check_read(model, numbers[i], lookups[i].status, &values[i], lookups[i].value_len);
 }
 
 static bool is_there(struct model *model, segcache_client *client, const uint8_t *key, size_t length) {
@@ -301,6 +319,7 @@ static void make_call(struct model *model, struct bytes *bytes) {
       REQUIRE(live ? status == SEGCACHE_OK || status == SEGCACHE_NO_ROOM : status == SEGCACHE_NO_HANDLE);
     }
     break;
+  case 21: read_many_into(model, bytes, client); break;
   default:
     if (draw(bytes, 16) == 0) give_back(model, which);
   }
