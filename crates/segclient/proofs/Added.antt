@@ -147,12 +147,12 @@ counted_too calls effort stats is =
 put_memo_open : (b : Board) (plan : Plan) (calls : List PutCall) (p q : Pass) → IsQuiet b p → AreOpen calls → Makes b plan calls p q → memo q ≡ memo p
 put_memo_open b plan calls p q quiet are makes = (calls_come b plan calls p q quiet are makes).memo
 
-pub put_memo : (b : Board) (plan : Plan) (pass : ℕ) (told : PutAnswer) (calls : List PutCall) (p q : Pass)
-    → IsQuiet b p → IsPutAnswer b.shape pass told calls → (told ≢ put.Stored → AreOpen calls)
+pub put_memo : (b : Board) (plan : Plan) (pass rows : ℕ) (told : PutAnswer) (calls : List PutCall) (p q : Pass)
+    → IsQuiet b p → IsPutAnswer b.shape pass rows told calls → (told ≢ put.Stored → AreOpen calls)
     → Makes b plan calls p q → memo q ≡ memo p
-put_memo b plan pass put.Stored calls p q quiet (earlier, is, goes) other makes =
+put_memo b plan pass rows put.Stored calls p q quiet (earlier, is, goes) other makes =
     let last = last_of b plan (sets write.Stored) earlier p q (subst (λ l. Makes b plan l p q) is makes) in
     last.2.6.answer.2.memo ∙ put_memo_open b plan earlier p last.0 quiet goes last.1
-put_memo b plan pass put.NoRoom calls p q quiet answer other makes = put_memo_open b plan calls p q quiet (other no_room_stored) makes
-put_memo b plan pass put.BucketFull calls p q quiet answer other makes = put_memo_open b plan calls p q quiet (other full_stored) makes
-put_memo b plan pass put.Busy calls p q quiet answer other makes = put_memo_open b plan calls p q quiet (other busy_stored) makes
+put_memo b plan pass rows put.NoRoom calls p q quiet answer other makes = put_memo_open b plan calls p q quiet (other no_room_stored) makes
+put_memo b plan pass rows put.BucketFull calls p q quiet answer other makes = put_memo_open b plan calls p q quiet (other full_stored) makes
+put_memo b plan pass rows put.Busy calls p q quiet answer other makes = put_memo_open b plan calls p q quiet (other busy_stored) makes

@@ -46,10 +46,10 @@ write_for b span request p q quiet within writes =
 set_for : (b : Board) (plan : Plan) (p q : Pass) → IsQuiet b p → IsCall b plan (sets write.Stored) p q → StoredFor plan.span q
 set_for b plan p q quiet (key, value, now, is, within, set, writes) = write_for b plan.span (Set key value now) p q quiet within writes
 
-pub put_for : (b : Board) (plan : Plan) (pass : ℕ) (told : PutAnswer) (calls : List PutCall) (p q : Pass)
-    → IsQuiet b p → IsPutAnswer b.shape pass told calls → Makes b plan calls p q → told ≡ put.Stored
+pub put_for : (b : Board) (plan : Plan) (pass rows : ℕ) (told : PutAnswer) (calls : List PutCall) (p q : Pass)
+    → IsQuiet b p → IsPutAnswer b.shape pass rows told calls → Makes b plan calls p q → told ≡ put.Stored
     → StoredFor plan.span q
-put_for b plan pass told calls p q quiet answer makes stored =
-    let last = subst (λ t. IsPutAnswer b.shape pass t calls) stored answer in
+put_for b plan pass rows told calls p q quiet answer makes stored =
+    let last = subst (λ t. IsPutAnswer b.shape pass rows t calls) stored answer in
     let made = last_of b plan (sets write.Stored) last.0 p q (subst (λ l. Makes b plan l p q) last.1 makes) in
     set_for b plan made.0 q (makes_on b plan last.0 p made.0 quiet made.1).quiet made.2

@@ -4,7 +4,9 @@ pub mod Cleared
 pub mod Copied
 pub mod Few
 pub mod InTurn
+pub mod Items
 pub mod Lasting
+pub mod Left
 pub mod OneTurn
 pub mod Order
 pub mod Places

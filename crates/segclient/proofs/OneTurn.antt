@@ -1,30 +1,37 @@
 -- Turns of clearing: what their steps come to, and that the rows that are done stay unnamed.
-use Rattle.std.proofs.Common.{◌≡◌, ◌≢◌, ◌⊎◌, ℕ, ◌+◌, ◌≤◌, List, [], ◌∷◌, ◌++◌, length-append, Option, Some, refl, sym, ap, ◌∙◌, subst, inr, arith}
+use Rattle.std.proofs.Common.{◌≡◌, ◌≢◌, ◌⊎◌, ℕ, ◌+◌, ◌^◌, ◌<◌, ◌≤◌, true, false, eqb, List, [], ◌∷◌, ◌++◌, length-append, Option, Some, refl, sym, ap, ◌∙◌, subst, inr, ⊎_elim, arith}
+use Rattle.std.proofs.lemmas.Bool.{cond-false}
 use Rattle.std.proofs.lemmas.List.Sums.{sum_by-append, sum_by-cons}
 use Rattle.std.proofs.lemmas.Option.{same_Some}
+use Rattle.segword.specs.Words.{most_span}
 use Rattle.segmodel.specs.declared.answer.EvictAnswer.TheVariants as evict
 use Rattle.segmodel.specs.declared.answer.RefillAnswer.TheVariants as refill
-use Rattle.segmodel.specs.declared.entry.Entry.TheVariants.{Refilled}
-use Rattle.segmodel.specs.Words.{EvictAnswer, RefillAnswer}
+use Rattle.segmodel.specs.declared.entry.Entry.TheVariants.{Evicted, Moved, Refilled}
+use Rattle.segmodel.specs.Words.{Entry, EvictAnswer, RefillAnswer}
+use Rattle.segcore.specs.Words.{span_in}
 use Rattle.segbase.specs.declared.pass.PlainPart.{PlainPart}
-use Rattle.segbase.specs.Words.{Board, number, Pass}
-use Rattle.segstore.specs.Words.{IsQuiet}
+use Rattle.segbase.specs.Words.{Board, mine, number, Pass, trace}
+use Rattle.segstore.specs.Words.{ChangesNothing, GoesOn, IsQuiet}
+use Rattle.segwrite.specs.Words.{or_one}
+use Rattle.segread.specs.Holds.{NoneFills}
 use Rattle.segevict.specs.declared.eviction.EvictRowAnswer.{EvictRowAnswer}
 use Rattle.segevict.specs.declared.eviction.EvictRowAnswer.TheVariants as evict_row
 use Rattle.segevict.specs.declared.retention.KeepRowAnswer.{KeepRowAnswer}
 use Rattle.segevict.specs.declared.retention.KeepRowAnswer.TheVariants as kept
-use Rattle.segevict.specs.Words.{EvictsItem, KeepsItemInto}
+use Rattle.segevict.specs.Words.{AreUnnamed, EvictsItem, HasRow, KeepsItemInto, TellsSpan}
 use Rattle.segindex.specs.Refilling.{RefillsAside}
-use Rattle.segindex.proofs.UnnamedRows.{evicted_is_unnamed, moved_is_unnamed}
+use Rattle.segindex.proofs.UnnamedRows.{evicted_is_unnamed, has_row, moved_is_unnamed}
 use Rattle.segclient.specs.declared.segments.Source.{Source}
 use Rattle.segclient.specs.declared.effort.Effort.{Effort}
-use Rattle.segclient.specs.Clearing.{came_to_step, Clears, ClearsAtMost, evicts_rest, evicts_row, IsCleared, IsClearing, IsEffortOf, IsStep, keeps_into, refills_aside, Step}
+use Rattle.segclient.specs.Clearing.{came_to_step, Clears, ClearsAtMost, comes_to, evicts_rest, evicts_row, IsCleared, IsClearing, IsEffortOf, IsStep, keeps_into, looks_at, most_steps_of_turn, refills_aside, Step, TakesRows}
 use Rattle.segclient.specs.PutCalls.{evicted_keys, kept_items, refilled_segments}
 use Rattle.segclient.specs.PutParts.{effort_from}
 use Rattle.segclient.specs.Tallies.{evicted_by, refilled_by}
 use Rattle.segclient.proofs.Calls.{both}
 use Rattle.segclient.proofs.Cleared.{nothing_stays, refilled_in, source_stays, stays_same}
-use Rattle.segclient.proofs.Steps.{none_cleared, one_cleared}
+use Rattle.segclient.proofs.Items.{cleared_behind, last_low, span_kept, way_kept}
+use Rattle.segclient.proofs.Left.{if_several, several_then}
+use Rattle.segclient.proofs.Steps.{IsLook, look_goes, looks, none_cleared, one_cleared, told_look}
 
 -- ---- what steps come to
 
@@ -118,19 +125,106 @@ module _ (b : Board) (cutoff : Option ℕ) where
 
 -- ---- the source
 
+-- the pass had a used row, and added entries that refill another segment or none
+record HadRow (b : Board) (segment row : ℕ) (p q : Pass) : Type 0 where
+  has : HasRow segment row p
+  added : List Entry
+  entries : mine q ≡ added ++ mine p
+  none : NoneFills segment added
+
+module _ (b : Board) (p q : Pass) (segment row : ℕ) where
+  evicted_had : (told : EvictRowAnswer) → EvictsItem b segment row told p q → (told ≡ evict_row.Evicted) ⊎ (told ≡ evict_row.Left) → HadRow b segment row p q
+  evicted_had evict_row.Evicted e which = record {
+    has = has_row segment row p
+        (λ none. let no : evict_row.Evicted ≡ evict_row.NotYours = e.not_yours.1 none in cc)
+        (λ without. let no : evict_row.Evicted ≡ evict_row.NotUsed = e.not_used.1 without in cc);
+    added = Evicted (number p) e.answer.0.key segment ∷ [];
+    entries = e.answer.0.entry;
+    none = ((λ n d is. let no : Evicted (number p) e.answer.0.key segment ≡ Refilled n segment d = is in cc), tt);
+  }
+  evicted_had evict_row.Left e which = record {
+    has = has_row segment row p
+        (λ none. let no : evict_row.Left ≡ evict_row.NotYours = e.not_yours.1 none in cc)
+        (λ without. let no : evict_row.Left ≡ evict_row.NotUsed = e.not_used.1 without in cc);
+    added = [];
+    entries = e.answer.0.entries;
+    none = tt;
+  }
+  evicted_had evict_row.Busy e which = ⊎_elim
+      (λ is. let no : evict_row.Busy ≡ evict_row.Evicted = is in cc)
+      (λ is. let no : evict_row.Busy ≡ evict_row.Left = is in cc)
+      which
+  evicted_had evict_row.NotYours e which = ⊎_elim
+      (λ is. let no : evict_row.NotYours ≡ evict_row.Evicted = is in cc)
+      (λ is. let no : evict_row.NotYours ≡ evict_row.Left = is in cc)
+      which
+  evicted_had evict_row.NotUsed e which = ⊎_elim
+      (λ is. let no : evict_row.NotUsed ≡ evict_row.Evicted = is in cc)
+      (λ is. let no : evict_row.NotUsed ≡ evict_row.Left = is in cc)
+      which
+
+  moved_had : (cutoff into : ℕ) → KeepsItemInto b segment row cutoff into kept.Moved p q → HadRow b segment row p q
+  moved_had cutoff into k = let key = k.answer.3.0 in record {
+    has = has_row segment row p
+        (λ none. let no : kept.Moved ≡ kept.NotYours = k.not_yours.1 none in cc)
+        (λ without. let no : kept.Moved ≡ kept.NotUsed = k.not_used.1 without in cc);
+    added = Moved (number p) key segment k.answer.0 ∷ [];
+    entries = k.answer.3.1.entries;
+    none = ((λ n d is. let no : Moved (number p) key segment k.answer.0 ≡ Refilled n segment d = is in cc), tt);
+  }
+
 module _ (b : Board) (source : Source) (p q : Pass) (quiet : IsQuiet b p) (is : IsClearing b.shape source p) where
-  -- the row is done
-  abbrev IsDone : Type 0
-  IsDone = IsCleared b.shape (Some (record { segment = source.segment; row = source.row + 1 })) q
+  -- the item is done, and the clearing goes on behind its rows
+  abbrev IsDone : ℕ → Type 0
+  IsDone rows = IsCleared b.shape (Some (record { segment = source.segment; row = source.row + or_one rows })) q
 
-  pub evicted_done : (told : EvictRowAnswer) → EvictsItem b source.segment source.row told p q → (told ≡ evict_row.Evicted) ⊎ (told ≡ evict_row.Left) → IsDone
-  evicted_done told evicts which = (is.0.0 ∙ sym evicts.on.same, evicted_is_unnamed b p q source.segment source.row told quiet evicts which is.0.1)
+  done : (rows : ℕ) → TakesRows source rows p → GoesOn b p q → HadRow b source.segment source.row p q → AreUnnamed b.shape source.segment (source.row + 1) q → IsDone rows
+  done rows takes on had are =
+      let s = source.segment in let row = source.row in let own = is.0.0 in
+      let same = span_kept b p q s had.added quiet on had.entries had.none own row had.has.1 in
+      cleared_behind b q source rows on.quiet (own ∙ sym on.same) are
+      (several_then (comes_to (trace p) s row row 0 ≡ true) (comes_to (trace q) s row row 0 ≡ true) (way_kept b p q s had.added quiet on had.entries had.none own row is.0.1) is.0.2)
+      (several_then (HasRow s row p → rows ≡ span_in (trace p) s row) (rows ≡ span_in (trace q) s row) (λ tells. tells had.has ∙ sym same) takes)
 
-  pub moved_done : (told : KeepRowAnswer) (cutoff into : ℕ) → told ≡ kept.Moved → KeepsItemInto b source.segment source.row cutoff into told p q → IsDone
-  moved_done told cutoff into same keeps = (
-    is.0.0 ∙ sym keeps.on.same,
-    moved_is_unnamed b p q source.segment source.row cutoff quiet (inr (into, subst (λ t. KeepsItemInto b source.segment source.row cutoff into t p q) same keeps)) is.0.1,
-  )
+  -- its rows are used, so they are among those of the table
+  ends_low : (rows : ℕ) → TakesRows source rows p → GoesOn b p q → HadRow b source.segment source.row p q → AreUnnamed b.shape source.segment (source.row + 1) q → source.row + or_one rows < 2 ^ 32
+  ends_low rows takes on had are = last_low b q source.segment (source.row + or_one rows) on.quiet (done rows takes on had are).1
+
+  evicted_are : (told : EvictRowAnswer) → EvictsItem b source.segment source.row told p q → (told ≡ evict_row.Evicted) ⊎ (told ≡ evict_row.Left) → AreUnnamed b.shape source.segment (source.row + 1) q
+  evicted_are told evicts which = evicted_is_unnamed b p q source.segment source.row told quiet evicts which is.0.1
+
+  pub evicted_done : (rows : ℕ) → TakesRows source rows p → (told : EvictRowAnswer) → EvictsItem b source.segment source.row told p q
+      → (told ≡ evict_row.Evicted) ⊎ (told ≡ evict_row.Left) → IsDone rows
+  evicted_done rows takes told evicts which = done rows takes evicts.on (evicted_had b p q source.segment source.row told evicts which) (evicted_are told evicts which)
+
+  pub evicted_fits : (rows : ℕ) → TakesRows source rows p → (told : EvictRowAnswer) → EvictsItem b source.segment source.row told p q
+      → (told ≡ evict_row.Evicted) ⊎ (told ≡ evict_row.Left) → source.row + or_one rows < 2 ^ 32
+  evicted_fits rows takes told evicts which = ends_low rows takes evicts.on (evicted_had b p q source.segment source.row told evicts which) (evicted_are told evicts which)
+
+  module _ (told : KeepRowAnswer) (cutoff into : ℕ) (same : told ≡ kept.Moved) (keeps : KeepsItemInto b source.segment source.row cutoff into told p q) where
+    moved : KeepsItemInto b source.segment source.row cutoff into kept.Moved p q
+    moved = subst (λ t. KeepsItemInto b source.segment source.row cutoff into t p q) same keeps
+
+    moved_are : AreUnnamed b.shape source.segment (source.row + 1) q
+    moved_are = moved_is_unnamed b p q source.segment source.row cutoff quiet (inr (into, moved)) is.0.1
+
+    pub moved_done : (rows : ℕ) → TakesRows source rows p → IsDone rows
+    moved_done rows takes = done rows takes keeps.on (moved_had b p q source.segment source.row cutoff into moved) moved_are
+
+    pub moved_fits : (rows : ℕ) → TakesRows source rows p → source.row + or_one rows < 2 ^ 32
+    moved_fits rows takes = ends_low rows takes keeps.on (moved_had b p q source.segment source.row cutoff into moved) moved_are
+
+  -- an item that was left where it is takes as many rows as before
+  pub takes_still : (rows : ℕ) → TakesRows source rows p → (told : KeepRowAnswer) (cutoff into : ℕ) → told ≡ kept.Left
+      → KeepsItemInto b source.segment source.row cutoff into told p q → TakesRows source rows q
+  takes_still rows takes told cutoff into same keeps =
+      let left = subst (λ t. KeepsItemInto b source.segment source.row cutoff into t p q) same keeps in
+      let s = source.segment in let row = source.row in
+      several_then (HasRow s row p → rows ≡ span_in (trace p) s row) (HasRow s row q → rows ≡ span_in (trace q) s row)
+      (λ tells has.
+      let had = subst (λ (x : PlainPart). HasRow s row (record p { plain = x })) left.answer.2.plain has in
+      tells had ∙ sym (span_kept b p q s [] quiet left.on left.answer.2.entries tt is.0.0 row had.1))
+      takes
 
   -- an item was left where it is
   pub left_stays : (told : KeepRowAnswer) (cutoff into : ℕ) → told ≡ kept.Left → KeepsItemInto b source.segment source.row cutoff into told p q → IsClearing b.shape source q
@@ -180,3 +274,35 @@ module _ (b : Board) (source : Source) (p q : Pass) (quiet : IsQuiet b p) (is : 
   left_clears least by into told left enough keeps =
       kept_once least 0 by into told (effort_from 0 0 0) refl
       (sym (ap (λ t. came_to_step kept_items (keeps_into source.segment source.row by into t)) left)) enough keeps
+
+-- ---- a look at how many rows the item takes
+
+module _ (b : Board) (source : Source) (told : ℕ) (p q : Pass) (quiet : IsQuiet b p) (is : IsClearing b.shape source p)
+    (several : eqb most_span 1 ≡ false) (tells : TellsSpan b source.segment source.row told p q) where
+  look : IsLook b source.segment source.row told p q
+  look = told_look b source.segment source.row told p q several tells
+
+  goes : GoesOn b p q × ChangesNothing p q
+  goes = look_goes b source.segment source.row told p q quiet look
+
+  pub looked_on : GoesOn b p q
+  looked_on = goes.0
+
+  pub looked_stays : IsClearing b.shape source q
+  looked_stays = (
+    nothing_stays b p q quiet goes.0 goes.1.entries (Some source) is.0,
+    λ current. is.1 (sym (ap (λ (x : PlainPart). x.current) goes.1.plain) ∙ current),
+  )
+
+  pub looked_takes : TakesRows source told q
+  looked_takes = if_several (HasRow source.segment source.row q → told ≡ span_in (trace q) source.segment source.row)
+      (λ several has. look.2 (subst (λ (x : PlainPart). HasRow source.segment source.row (record p { plain = x })) goes.1.plain has))
+
+  -- and then a turn for the item
+  pub looked_clears : (least : ℕ) (effort : Effort) (r : Pass) → ClearsAtMost b (Some least) 2 effort q r → ClearsAtMost b (Some least) most_steps_of_turn effort p r
+  looked_clears least effort r clears =
+      let most = cond-false (eqb most_span 1) 2 3 several in
+      clears_after b (Some least) 1 2 most_steps_of_turn effort p q r (subst (λ n. 3 ≤ n) (sym most) (omega arith))
+      (some_clears b (Some least) (looks_at source.segment source.row told) (effort_from 0 0 0) p q refl refl refl
+      (looks b source.segment source.row told p q (Some least) several (is.0.0, is.1) tells))
+      clears

@@ -10,12 +10,12 @@ use Rattle.segmodel.specs.declared.answer.WriteAnswer.TheVariants as write
 use Rattle.segmodel.specs.declared.request.Request.TheVariants.{Set}
 use Rattle.segmodel.specs.Words.{EvictAnswer, WriteAnswer}
 use Rattle.segbase.specs.Words.{Board, number, Pass}
-use Rattle.segstore.specs.Words.{has_room}
+use Rattle.segstore.specs.Words.{has_room_for}
 use Rattle.segclient.specs.declared.put.PutAnswer.{PutAnswer}
 use Rattle.segclient.specs.declared.put.PutAnswer.TheVariants as put
 use Rattle.segclient.specs.declared.effort.Effort.{Effort}
-use Rattle.segclient.specs.PutCalls.{PutCall, sets, evicts, keeps, refills, Plan, Makes, room_plan}
-use Rattle.segclient.specs.PutParts.{AreOpen, AreSets, busy_sets, effort_from, Empties, EndsSo, IsEffort, is_outside, MakesPut, MakesRoom, Sets, SetsIfTimely, WasEmptied}
+use Rattle.segclient.specs.PutCalls.{PutCall, sets, evicts, keeps, refills, Plan, Makes, room_plan, rows_asked}
+use Rattle.segclient.specs.PutParts.{AreOpen, AreSets, busy_sets, effort_from, Empties, EndsSo, IsEffort, is_outside, MakesPut, MakesRows, Sets, SetsIfTimely, WasEmptied}
 use Rattle.segclient.specs.Putting.{last_sets, SetsAtMost16, SetsUntilFull}
 use Rattle.segclient.proofs.Calls.{both, effort_more, effort_one, effort_then, no_effort, made_same, makes_same, makes_then, makes_within, one_more, refused_then, room_within, last_of, evicted_came}
 use Rattle.segclient.proofs.Runs.{apart_then, evict_then, few_sets, no_last, room_then, sets_then}
@@ -99,17 +99,20 @@ effort_sets put.NoRoom calls (busy, is) = subst (λ l. IsEffort l (effort_from 0
 effort_sets put.BucketFull calls (busy, is) = subst (λ l. IsEffort l (effort_from 0 0 0)) (sym is) (effort_set write.BucketFull busy)
 effort_sets put.Busy calls is = subst (λ l. IsEffort l (effort_from 0 0 0)) (sym is) (effort_busy 16)
 
-ends_sets : (shape : Shape) (pass : ℕ) (told : PutAnswer) (calls : List PutCall) → told ≢ put.NoRoom → AreSets told calls → EndsSo shape pass told calls
-ends_sets shape pass put.Stored calls other (busy, is) = (busy_sets busy, is, busy_open busy)
-ends_sets shape pass put.NoRoom calls other is = absurd (other refl)
-ends_sets shape pass put.BucketFull calls other is = ((busy_sets is.0, is.1), sets_open put.BucketFull calls full_stored is)
-ends_sets shape pass put.Busy calls other is = (([], is ∙ sym (append-nil (busy_sets 16))), sets_open put.Busy calls busy_stored is)
+ends_sets : (shape : Shape) (pass rows : ℕ) (told : PutAnswer) (calls : List PutCall) → told ≢ put.NoRoom → AreSets told calls → EndsSo shape pass rows told calls
+ends_sets shape pass rows put.Stored calls other (busy, is) = (busy_sets busy, is, busy_open busy)
+ends_sets shape pass rows put.NoRoom calls other is = absurd (other refl)
+ends_sets shape pass rows put.BucketFull calls other is = ((busy_sets is.0, is.1), sets_open put.BucketFull calls full_stored is)
+ends_sets shape pass rows put.Busy calls other is = (([], is ∙ sym (append-nil (busy_sets 16))), sets_open put.Busy calls busy_stored is)
 
-ends_then : (shape : Shape) (from to : ℕ) (told : PutAnswer) (later earlier : List PutCall) → to ≡ from → AreOpen earlier → EndsSo shape to told later → EndsSo shape from told (later ++ earlier)
-ends_then shape from to put.Stored later earlier same are (rest, is, goes) = (rest ++ earlier, ap (λ l. l ++ earlier) is, open_then rest earlier goes are)
-ends_then shape from to put.NoRoom later earlier same are (refused, goes) = ((λ segment own. refused_then segment later earlier (refused segment (own ∙ sym same))), open_then later earlier goes are)
-ends_then shape from to put.BucketFull later earlier same are ((rest, is), goes) = ((rest ++ earlier, ap (λ l. l ++ earlier) is), open_then later earlier goes are)
-ends_then shape from to put.Busy later earlier same are ((rest, is), goes) = ((rest ++ earlier, ap (λ l. l ++ earlier) is ∙ append_assoc (busy_sets 16) rest earlier), open_then later earlier goes are)
+ends_then : (shape : Shape) (from to rows : ℕ) (told : PutAnswer) (later earlier : List PutCall) → to ≡ from → AreOpen earlier
+    → EndsSo shape to rows told later → EndsSo shape from rows told (later ++ earlier)
+ends_then shape from to rows put.Stored later earlier same are (rest, is, goes) = (rest ++ earlier, ap (λ l. l ++ earlier) is, open_then rest earlier goes are)
+ends_then shape from to rows put.NoRoom later earlier same are (refused, goes) =
+    ((λ fits segment own. refused_then segment later earlier (refused fits segment (own ∙ sym same))), open_then later earlier goes are)
+ends_then shape from to rows put.BucketFull later earlier same are ((rest, is), goes) = ((rest ++ earlier, ap (λ l. l ++ earlier) is), open_then later earlier goes are)
+ends_then shape from to rows put.Busy later earlier same are ((rest, is), goes) =
+    ((rest ++ earlier, ap (λ l. l ++ earlier) is ∙ append_assoc (busy_sets 16) rest earlier), open_then later earlier goes are)
 
 -- ---- no room until the bucket was full
 
@@ -175,6 +178,10 @@ unfolding last_sets
 no_sets_last = refl
 
 module _ (b : Board) (plan : Plan) where
+  -- whether there is room for what is stored
+  abbrev pub has_room_to : Pass → Bool
+  has_room_to p = has_room_for b.shape (rows_asked plan.request) p
+
   -- it made calls after which room may be made, since there is none for it
   pub record GoesOnSo (most : ℕ) (effort : Effort) (p q : Pass) : Type 0 where
     pub calls : List PutCall
@@ -182,9 +189,9 @@ module _ (b : Board) (plan : Plan) where
     pub few : length calls ≤ most
     pub all_open : AreOpen calls
     pub comes : IsEffort calls effort
-    pub lacks : is_outside plan.span p ≡ false → has_room b.shape p ≡ true → ⊥
+    pub lacks : is_outside plan.span p ≡ false → has_room_to p ≡ true → ⊥
     pub tries : SetsAtMost16 calls
-    pub apart : (last_sets calls ≡ 0) ⊎ (has_room b.shape q ≡ false)
+    pub apart : (last_sets calls ≡ 0) ⊎ (has_room_to q ≡ false)
 
   -- a set that lacked room
   pub lacked : (p q : Pass) → SetsIfTimely b plan put.NoRoom p q → GoesOnSo 16 (effort_from 0 0 0) p q
@@ -217,19 +224,19 @@ module _ (b : Board) (plan : Plan) where
     makes = one.makes;
     few = let few = one.few in omega (arith, few, enough);
     comes = effort_sets told one.calls one.are;
-    ends = ends_sets b.shape (number p) told one.calls other one.are;
+    ends = ends_sets b.shape (number p) (rows_asked plan.request) told one.calls other one.are;
     tries = few_sets one.calls one.few;
     spares = λ fresh left. until_sets told one.calls one.are;
   }
 
   module _ (most : ℕ) (first : Effort) (p q r : Pass) (one : GoesOnSo most first p q) where
     -- room was made, or not
-    module _ (more : ℕ) (made : Bool) (effort : Effort) (room : MakesRoom b plan.cutoff plan.deadline more made effort q r) where
+    module _ (more : ℕ) (made : Bool) (effort : Effort) (room : MakesRows b plan.cutoff plan.deadline more (rows_asked plan.request) made effort q r) where
       pub wide : Makes b plan room.arranges.calls q r
       wide = makes_within b (room_plan plan.cutoff plan.deadline) plan (room_within plan.deadline plan plan.cutoff refl refl) room.arranges.calls q r room.arranges.makes
 
-      pub apart_by : (left : Bool) → has_room b.shape r ≡ left → (last_sets (room.arranges.calls ++ one.calls) ≡ 0) ⊎ (has_room b.shape r ≡ false)
-      apart_by true left = inl (apart_then b plan.cutoff plan.deadline room.arranges.calls one.calls q r room.arranges.makes one.apart left)
+      pub apart_by : (left : Bool) → has_room_to r ≡ left → (last_sets (room.arranges.calls ++ one.calls) ≡ 0) ⊎ (has_room_to r ≡ false)
+      apart_by true left = inl (apart_then b plan.cutoff plan.deadline (rows_asked plan.request) room.arranges.calls one.calls q r room.arranges.makes one.apart left)
       apart_by false full = inr full
 
       abbrev pub room_on : GoesOnSo (most + more) (both first effort) p r
@@ -241,7 +248,7 @@ module _ (b : Board) (plan : Plan) where
         comes = effort_then room.arranges.calls one.calls first effort one.comes room.arranges.comes;
         lacks = one.lacks;
         tries = room_then b plan.cutoff plan.deadline room.arranges.calls one.calls q r room.arranges.makes one.tries;
-        apart = apart_by (has_room b.shape r) refl;
+        apart = apart_by (has_room_to r) refl;
       }
 
       pub no_room_end : made ≡ false → MakesPut b plan (most + more) put.NoRoom (both first effort) p r
@@ -251,25 +258,26 @@ module _ (b : Board) (plan : Plan) where
         few = room_on.few;
         comes = room_on.comes;
         ends = (
-          λ segment own. refused_then segment room.arranges.calls one.calls (room.refused none segment (own ∙ sym (makes_same b plan one.calls p q one.makes))),
+          λ fits segment own. refused_then segment room.arranges.calls one.calls (room.refused none fits segment (own ∙ sym (makes_same b plan one.calls p q one.makes))),
           room_on.all_open,
         );
         tries = room_on.tries;
         spares = λ fresh left. absurd (one.lacks fresh left);
       }
 
-    apart_of : (last_sets one.calls ≡ 0) ⊎ (has_room b.shape q ≡ false) → has_room b.shape q ≡ true → last_sets one.calls ≡ 0
+    apart_of : (last_sets one.calls ≡ 0) ⊎ (has_room_to q ≡ false) → has_room_to q ≡ true → last_sets one.calls ≡ 0
     apart_of (inl none) left = none
     apart_of (inr full) left = absurd (false≢true (sym full ∙ left))
 
     -- a set, for which room was made
-    pub sets_on : (told : PutAnswer) → told ≢ put.NoRoom → has_room b.shape q ≡ true → Sets b plan told q r → MakesPut b plan (most + 16) told first p r
+    pub sets_on : (told : PutAnswer) → told ≢ put.NoRoom → has_room_to q ≡ true → Sets b plan told q r → MakesPut b plan (most + 16) told first p r
     sets_on told other left last = record {
       calls = last.calls ++ one.calls;
       makes = makes_then b plan last.calls one.calls p q r one.makes last.makes;
       few = let long = length-append last.calls one.calls in let x = one.few in let y = last.few in omega (arith, long, x, y);
       comes = subst (IsEffort (last.calls ++ one.calls)) (more_none first) (effort_then last.calls one.calls first (effort_from 0 0 0) one.comes (effort_sets told last.calls last.are));
-      ends = ends_then b.shape (number p) (number q) told last.calls one.calls (makes_same b plan one.calls p q one.makes) one.all_open (ends_sets b.shape (number q) told last.calls other last.are);
+      ends = ends_then b.shape (number p) (number q) (rows_asked plan.request) told last.calls one.calls (makes_same b plan one.calls p q one.makes) one.all_open
+          (ends_sets b.shape (number q) (rows_asked plan.request) told last.calls other last.are);
       tries = sets_then last.calls one.calls (apart_of one.apart left) (few_sets last.calls last.few) one.tries;
       spares = λ fresh left. absurd (one.lacks fresh left);
     }
@@ -296,7 +304,8 @@ module _ (b : Board) (plan : Plan) where
           few = let long = length-append then.calls (evicts segment answer ∷ full.calls) in let x = full.few in let y = then.few in omega (arith, long, x, y, enough);
           comes = subst (IsEffort (then.calls ++ evicts segment answer ∷ full.calls)) sum
               (effort_then then.calls (evicts segment answer ∷ full.calls) (both first out) last (effort_then (evicts segment answer ∷ []) full.calls first out full.comes alone) then.comes);
-          ends = ends_then b.shape (number p) (number r) told then.calls (evicts segment answer ∷ full.calls) (makes_same b plan (evicts segment answer ∷ full.calls) p r makes)
+          ends = ends_then b.shape (number p) (number r) (rows_asked plan.request) told then.calls (evicts segment answer ∷ full.calls)
+              (makes_same b plan (evicts segment answer ∷ full.calls) p r makes)
               (open_more (evicts segment answer) full.calls (evict_apart segment answer) full.ends.1) then.ends;
           tries = sets_then then.calls (evicts segment answer ∷ full.calls) (no_last segment answer full.calls) then.tries (evict_then segment answer full.calls full.tries);
           spares = λ fresh left. until_then then.calls (evicts segment answer ∷ full.calls)

@@ -1,6 +1,8 @@
 -- What a pass can store once segments were refilled, kept from or given up, and which ones were refused.
-use Rattle.std.proofs.Common.{◌≡◌, ◌≢◌, ℕ, ◌+◌, ◌≤◌, Bool, true, false, ◌∷◌, Option, Some, None, option_and_then, is_some, refl, sym, ap, ◌∙◌, inl, inr, lt-ltb, eqb, arith}
+use Rattle.std.proofs.Common.{◌≡◌, ◌≢◌, ℕ, ◌+◌, ◌<◌, ◌≤◌, Bool, true, false, ◌∷◌, Option, Some, None, option_and_then, is_some, refl, sym, ap, ◌∙◌, inl, inr, eqb, arith}
+use Rattle.std.specs.Int.{IsInRange}
 use Rattle.std.proofs.lemmas.Bool.{false≢true, cond-true, eq-eqb}
+use Rattle.segword.specs.Words.{most_span}
 use Rattle.segmodel.specs.declared.answer.EvictAnswer.TheVariants as evict
 use Rattle.segmodel.specs.declared.answer.RefillAnswer.TheVariants as refill
 use Rattle.segmodel.specs.declared.answer.SegState.TheVariants.{Evicted}
@@ -9,7 +11,7 @@ use Rattle.segbase.specs.declared.pass.PlainPart.{PlainPart}
 use Rattle.segbase.specs.Words.{Board, current_of, deadline_in, deadline_of, number, own_segment, Pass, state_of, used_in, used_of}
 use Rattle.segbase.proofs.Known.{deadline_stated}
 use Rattle.segbase.proofs.Owned.{state_there}
-use Rattle.segstore.specs.Words.{ChangesNothing, has_room, is_below, IsQuiet}
+use Rattle.segstore.specs.Words.{ChangesNothing, has_room, has_room_for, is_below, IsQuiet}
 use Rattle.segstore.proofs.Keeping.{refilled_used, refilled_deadline}
 use Rattle.segevict.specs.Evicting.{ended}
 use Rattle.segevict.specs.declared.retention.KeepRowAnswer.{KeepRowAnswer}
@@ -20,9 +22,10 @@ use Rattle.segindex.specs.Refilling.{RefillsSegment}
 use Rattle.segindex.proofs.QuietPass.{owned}
 use Rattle.segclient.specs.PutCalls.{evicts, refills, IsRefused, StoresUntil, room_plan}
 use Rattle.segclient.specs.declared.effort.Effort.{Effort}
-use Rattle.segclient.specs.PutParts.{Arranges, effort_from, GivesUp, MakesRoom, StoresAsBefore}
+use Rattle.segclient.specs.PutParts.{Arranges, effort_from, GivesUp, MakesRoom, MakesRows, StoresAfresh, StoresAsBefore}
 use Rattle.segclient.specs.Tallies.{refilled_by}
-use Rattle.segclient.proofs.Calls.{arranges_as, arranges_then, arranges_wider, both, effort_more, one_more, refill_arranges, refused_then, same_effort}
+use Rattle.segclient.proofs.Calls.{arranges_as, arranges_then, arranges_wider, both, effort_more, none_arranges, one_more, refill_arranges, refused_then, same_effort}
+use Rattle.segclient.proofs.Left.{if_several, none_for_long, none_for_more, of_several, room_afresh}
 
 -- a pass knows its own segments
 pub own_known : (b : Board) (p : Pass) (segment : ℕ) → IsQuiet b p → owner b.shape segment ≡ number p → state_of p segment ≢ None
@@ -35,14 +38,15 @@ current_own b p segment quiet current = (owned b p segment quiet).0 (ap is_some 
 -- ---- a segment that was refilled
 
 -- has all its rows left
-pub refilled_room : (b : Board) (segment deadline : ℕ) (p q : Pass) → RefillsSegment b segment deadline refill.Refilled p q → has_room b.shape q ≡ true
-refilled_room b segment deadline p q filled =
+pub refilled_afresh : (b : Board) (segment deadline : ℕ) (p q : Pass) → RefillsSegment b segment deadline refill.Refilled p q → StoresAfresh q
+refilled_afresh b segment deadline p q filled =
     let is = filled.answer in
     let there = sym (state_there (own_segment p.plain segment)) ∙ is.own in
-    let current : current_of q ≡ Some segment = ap (λ (x : PlainPart). x.current) is.plain in
-    let one = filled.on.quiet.pass.valid.0.1.0 in
-    let used : used_of q segment ≡ Some 0 = ap (λ (x : PlainPart). used_in (own_segment x segment)) is.plain ∙ refilled_used p.plain segment deadline there in
-    ap (λ (o : Option ℕ). is_below b.shape.rows (option_and_then (used_of q) o)) current ∙ ap (is_below b.shape.rows) used ∙ lt-ltb 0 b.shape.rows (omega (arith, one))
+    (segment, ap (λ (x : PlainPart). x.current) is.plain, ap (λ (x : PlainPart). used_in (own_segment x segment)) is.plain ∙ refilled_used p.plain segment deadline there)
+
+pub refilled_room : (b : Board) (segment deadline : ℕ) (p q : Pass) → RefillsSegment b segment deadline refill.Refilled p q → has_room b.shape q ≡ true
+refilled_room b segment deadline p q filled =
+    room_afresh b.shape 1 q (refilled_afresh b segment deadline p q filled) (let one = filled.on.quiet.pass.valid.0.1.0 in omega (arith, one))
 
 -- and its deadline
 pub refilled_until : (b : Board) (segment deadline : ℕ) (p q : Pass) → RefillsSegment b segment deadline refill.Refilled p q → StoresUntil deadline q
@@ -50,6 +54,10 @@ refilled_until b segment deadline p q filled =
     let is = filled.answer in
     let there = sym (state_there (own_segment p.plain segment)) ∙ is.own in
     (segment, ap (λ (x : PlainPart). x.current) is.plain, ap (λ (x : PlainPart). deadline_in (own_segment x segment)) is.plain ∙ refilled_deadline p.plain segment deadline there)
+
+-- so it is where a segment was given up
+pub given_afresh : (b : Board) (deadline segment keys : ℕ) (p q : Pass) → GivesUp b segment deadline true keys p q → StoresAfresh q
+given_afresh b deadline segment keys p q (between, out, filled) = refilled_afresh b segment deadline between q filled
 
 -- ---- an evict, and a keep
 
@@ -197,55 +205,81 @@ module _ (b : Board) (deadline most keys : ℕ) (p q r : Pass) (over : PassesOve
         };
         room = refilled_room b segment deadline between r filled;
         until = λ made. refilled_until b segment deadline between r filled;
-        refused = λ none. absurd (false≢true (sym none));
+        refused = λ none fits. absurd (false≢true (sym none));
       }
 
 -- ---- room, and what is kept
 
 module _ (b : Board) (cutoff : Option ℕ) (deadline : ℕ) where
   -- room that is made for a client that keeps nothing is room for one that keeps
-  pub room_wider : (most total : ℕ) (made : Bool) (effort : Effort) (p q : Pass) → most ≤ total → MakesRoom b None deadline most made effort p q → MakesRoom b cutoff deadline total made effort p q
+  pub room_wider : {rows : ℕ} (most total : ℕ) (made : Bool) (effort : Effort) (p q : Pass) → most ≤ total
+      → MakesRows b None deadline most rows made effort p q → MakesRows b cutoff deadline total rows made effort p q
   room_wider most total made effort p q enough room =
       let wide = arranges_wider b cutoff deadline most effort p q room.arranges in
       record {
         arranges = arranges_as b cutoff deadline most total effort effort p q enough refl refl refl wide.0;
         room = room.room;
         until = room.until;
-        refused = λ none segment own. room.refused none segment own;
+        refused = λ none fits segment own. room.refused none fits segment own;
       }
 
-  -- calls, after which a row is left in a segment with the deadline
-  pub room_left : (most total : ℕ) (effort : Effort) (p q : Pass) → most ≤ total
-      → Arranges b cutoff deadline most effort p q → has_room b.shape q ≡ true → StoresUntil deadline q
-      → MakesRoom b cutoff deadline total true effort p q
+  -- calls, after which rows are left in a segment with the deadline
+  pub room_left : {rows : ℕ} (most total : ℕ) (effort : Effort) (p q : Pass) → most ≤ total
+      → Arranges b cutoff deadline most effort p q → has_room_for b.shape rows q ≡ true → StoresUntil deadline q
+      → MakesRows b cutoff deadline total rows true effort p q
   room_left most total effort p q enough arranges left stores = record {
     arranges = arranges_as b cutoff deadline most total effort effort p q enough refl refl refl arranges;
     room = left;
     until = λ made. stores;
-    refused = λ none. absurd (false≢true (sym none));
+    refused = λ none fits. absurd (false≢true (sym none));
   }
 
   -- calls, and then room was made, or not, by the same policy
-  pub room_later : (most more total : ℕ) (made : Bool) (first effort all : Effort) (p q r : Pass)
+  pub room_later : {rows : ℕ} (most more total : ℕ) (made : Bool) (first effort all : Effort) (p q r : Pass)
       → most + more ≤ total → all ≡ both first effort → number q ≡ number p
-      → Arranges b cutoff deadline most first p q → MakesRoom b cutoff deadline more made effort q r
-      → MakesRoom b cutoff deadline total made all p r
+      → Arranges b cutoff deadline most first p q → MakesRows b cutoff deadline more rows made effort q r
+      → MakesRows b cutoff deadline total rows made all p r
   room_later most more total made first effort all p q r enough sum same one last = record {
     arranges = arranges_as b cutoff deadline (most + more) total (both first effort) all p r enough
         (ap (λ (e : Effort). e.refilled) sum) (ap (λ (e : Effort). e.kept) sum) (ap (λ (e : Effort). e.keys) sum)
         (arranges_then b cutoff deadline most more first effort p q r one last.arranges);
     room = last.room;
     until = last.until;
-    refused = λ none segment own. refused_then segment last.arranges.calls one.calls (last.refused none segment (own ∙ sym same));
+    refused = λ none fits segment own. refused_then segment last.arranges.calls one.calls (last.refused none fits segment (own ∙ sym same));
   }
 
   -- or by one that keeps nothing
-  pub room_again : (most more total : ℕ) (made : Bool) (first effort all : Effort) (p q r : Pass)
+  pub room_again : {rows : ℕ} (most more total : ℕ) (made : Bool) (first effort all : Effort) (p q r : Pass)
       → most + more ≤ total → all ≡ both first effort → number q ≡ number p
-      → Arranges b cutoff deadline most first p q → MakesRoom b None deadline more made effort q r
-      → MakesRoom b cutoff deadline total made all p r
+      → Arranges b cutoff deadline most first p q → MakesRows b None deadline more rows made effort q r
+      → MakesRows b cutoff deadline total rows made all p r
   room_again most more total made first effort all p q r enough sum same one last =
       room_later most more total made first effort all p q r enough sum same one (room_wider more more made effort q r (omega arith) last)
+
+-- room in a segment that was refilled is room for as many rows as it has
+pub room_whole : (b : Board) (cutoff : Option ℕ) (deadline most rows : ℕ) (made : Bool) (effort : Effort) (p q : Pass)
+    → IsInRange 1 b.shape.rows rows → (made ≡ true → StoresAfresh q) → MakesRoom b cutoff deadline most made effort p q
+    → MakesRows b cutoff deadline most rows made effort p q
+room_whole b cutoff deadline most rows made effort p q range afresh room = record {
+  arranges = room.arranges;
+  room = by made room.room afresh;
+  until = room.until;
+  refused = λ none fits. room.refused none (if_several (1 ≤ b.shape.rows) (λ several. let low = range.0 in let high = range.1 in omega (arith, low, high)));
+}
+  where
+    by : (made : Bool) → has_room b.shape q ≡ made → (made ≡ true → StoresAfresh q) → has_room_for b.shape rows q ≡ made
+    by true left afresh = room_afresh b.shape rows q (afresh refl) range.1
+    by false full afresh = none_for_more b.shape rows q range.0 full
+
+-- no segment has rows enough for the item
+pub room_too_long : (b : Board) (cutoff : Option ℕ) (deadline most rows : ℕ) (effort : Effort) (p : Pass) → eqb most_span 1 ≡ false
+    → b.shape.rows < rows → effort ≡ effort_from 0 0 0 → MakesRows b cutoff deadline most rows false effort p p
+room_too_long b cutoff deadline most rows effort p several long none = record {
+  arranges = none_arranges b cutoff deadline most effort p none;
+  room = none_for_long b.shape rows p long;
+  until = λ made. absurd (false≢true made);
+  refused = λ none fits. absurd (let few = of_several (rows ≤ b.shape.rows) several fits in omega (arith, long, few));
+}
 
 -- a free segment was refilled
 pub took_free : (b : Board) (deadline segment : ℕ) (p q : Pass) → owner b.shape segment ≡ number p
@@ -255,7 +289,7 @@ took_free b deadline segment p q own filled = record {
   arranges = refill_arranges b None deadline segment refill.Refilled (effort_from 1 0 0) p q refl refl refl own filled;
   room = refilled_room b segment deadline p q filled;
   until = λ made. refilled_until b segment deadline p q filled;
-  refused = λ none. absurd (false≢true (sym none));
+  refused = λ none fits. absurd (false≢true (sym none));
 }
 
 none_by : (told : RefillAnswer) → told ≢ refill.Refilled → refilled_by told ≡ 0

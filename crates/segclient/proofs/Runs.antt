@@ -5,7 +5,7 @@ use Rattle.std.proofs.lemmas.Option.{none-some}
 use Rattle.segmodel.specs.declared.request.Request.TheVariants.{Set}
 use Rattle.segmodel.specs.Words.{EvictAnswer, WriteAnswer}
 use Rattle.segbase.specs.Words.{Board, Pass}
-use Rattle.segstore.specs.Words.{has_room}
+use Rattle.segstore.specs.Words.{has_room_for}
 use Rattle.segclient.specs.PutCalls.{PutCall, sets, evicts, keeps, refills, Makes, room_plan}
 use Rattle.segclient.specs.Putting.{last_sets, SetsAtMost16}
 use Rattle.segclient.proofs.Calls.{last_of}
@@ -70,13 +70,13 @@ module _ (b : Board) (cutoff : Option ℕ) (deadline : ℕ) where
   room_then (refills segment told ∷ later) earlier p q makes first = let was = before (refills segment told) later p q makes in (omega arith, room_then later earlier p was.0 was.1 first)
 
   -- that made some where there was none come after the last set
-  pub apart_then : (later earlier : List PutCall) (p q : Pass) → Makes b (room_plan cutoff deadline) later p q
-      → (last_sets earlier ≡ 0) ⊎ (has_room b.shape p ≡ false) → has_room b.shape q ≡ true
+  pub apart_then : (rows : ℕ) (later earlier : List PutCall) (p q : Pass) → Makes b (room_plan cutoff deadline) later p q
+      → (last_sets earlier ≡ 0) ⊎ (has_room_for b.shape rows p ≡ false) → has_room_for b.shape rows q ≡ true
       → last_sets (later ++ earlier) ≡ 0
   unfolding last_sets Makes
-  apart_then [] earlier p q same (inl none) left = none
-  apart_then [] earlier p q same (inr full) left = absurd (false≢true (sym full ∙ ap (has_room b.shape) (sym same) ∙ left))
-  apart_then (sets told ∷ later) earlier p q makes was left = no_set told later p q makes
-  apart_then (evicts segment told ∷ later) earlier p q makes was left = refl
-  apart_then (keeps segment row by told ∷ later) earlier p q makes was left = refl
-  apart_then (refills segment told ∷ later) earlier p q makes was left = refl
+  apart_then rows [] earlier p q same (inl none) left = none
+  apart_then rows [] earlier p q same (inr full) left = absurd (false≢true (sym full ∙ ap (has_room_for b.shape rows) (sym same) ∙ left))
+  apart_then rows (sets told ∷ later) earlier p q makes was left = no_set told later p q makes
+  apart_then rows (evicts segment told ∷ later) earlier p q makes was left = refl
+  apart_then rows (keeps segment row by told ∷ later) earlier p q makes was left = refl
+  apart_then rows (refills segment told ∷ later) earlier p q makes was left = refl

@@ -6,7 +6,7 @@ use Rattle.segmodel.specs.declared.request.Request.TheVariants.{Set}
 use Rattle.segmodel.specs.Words.{WriteAnswer}
 use Rattle.segbase.specs.declared.pass.PlainPart.{PlainPart}
 use Rattle.segbase.specs.Words.{Board, Pass}
-use Rattle.segstore.specs.Words.{has_room}
+use Rattle.segstore.specs.Words.{has_room_for}
 use Rattle.segwrite.specs.Words.{IsSetAnswer, Writes}
 use Rattle.segclient.specs.declared.put.Order.{Order}
 use Rattle.segclient.specs.declared.segments.Span.{Span}
@@ -22,8 +22,8 @@ busy_long (suc busy) = let rest = busy_long busy in omega (arith, rest)
 pub same_until : (p q : Pass) → q.plain ≡ p.plain → current_deadline q ≡ current_deadline p
 same_until p q same = ap (λ (x : PlainPart). current_deadline (record p { plain = x })) same
 
-pub same_room : (b : Board) (p q : Pass) → q.plain ≡ p.plain → has_room b.shape q ≡ has_room b.shape p
-same_room b p q same = ap (λ (x : PlainPart). has_room b.shape (record p { plain = x })) same
+pub same_room : (b : Board) (rows : ℕ) (p q : Pass) → q.plain ≡ p.plain → has_room_for b.shape rows q ≡ has_room_for b.shape rows p
+same_room b rows p q same = ap (λ (x : PlainPart). has_room_for b.shape rows (record p { plain = x })) same
 
 -- what the pass stores expires at the deadline of its current segment
 pub until_is : (until : ℕ) (p : Pass) → StoresUntil until p → current_deadline p ≡ Some until

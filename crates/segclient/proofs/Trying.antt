@@ -71,7 +71,7 @@ module _ (b : Board) (deadline : ℕ) (current : Option ℕ) (ring : Cycle) (p :
       arranges = arranges_as b None deadline most total (effort_from 0 0 keys) (effort_from 0 0 keys) p q enough refl refl refl over.0;
       room = no_room b q (is ∙ none);
       until = λ made. absurd (false≢true made);
-      refused = λ made segment mine. all_refused segment mine (λ e. absurd (none-some segment (sym none ∙ e)));
+      refused = λ made fits segment mine. all_refused segment mine (λ e. absurd (none-some segment (sym none ∙ e)));
     }
 
     -- and then the current one is given up, or not
@@ -87,7 +87,7 @@ module _ (b : Board) (deadline : ℕ) (current : Option ℕ) (ring : Cycle) (p :
             arranges = to.next;
             room = no_room b r (refused_current b last deadline more q r on.quiet (now ∙ is) gives);
             until = λ made. absurd (false≢true made);
-            refused = λ made segment its. elim (cases_eq segment last) [
+            refused = λ made fits segment its. elim (cases_eq segment last) [
               | inl same ↦ subst (λ s. IsRefused s to.next.calls) (sym same) to.here
               | inr apart ↦ to.before segment (all_refused segment its (λ e. apart (sym (same_Some last segment (sym is ∙ e)))))
             ];

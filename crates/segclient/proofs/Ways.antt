@@ -121,7 +121,7 @@ module _ (b : Board) (cutoff : Option ℕ) (Due : ℕ → Type 0) where
   pub same_none : (p q : Pass) → IsQuiet b p → q ≡ p → Comes 0 0 0 p q
   same_none p q quiet same = subst (Comes 0 0 0 p) (sym same) (comes_none p quiet)
 
-  unchanged_none : (p q : Pass) → GoesOn b p q → ChangesNothing p q → Comes 0 0 0 p q
+  pub unchanged_none : (p q : Pass) → GoesOn b p q → ChangesNothing p q → Comes 0 0 0 p q
   unchanged_none p q on nothing = record {
     on = on;
     memo = nothing.memo;

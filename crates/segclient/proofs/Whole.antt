@@ -8,7 +8,7 @@ use Rattle.segbase.specs.Words.{Board, number, Pass}
 use Rattle.segclient.specs.declared.put.PutAnswer.{PutAnswer}
 use Rattle.segclient.specs.declared.put.PutAnswer.TheVariants as put
 use Rattle.segclient.specs.declared.effort.Effort.{Effort}
-use Rattle.segclient.specs.PutCalls.{PutCall, sets, evicts, Plan}
+use Rattle.segclient.specs.PutCalls.{PutCall, sets, evicts, Plan, rows_asked}
 use Rattle.segclient.specs.PutParts.{AreOpen, busy_sets, EndsSo, PutsAtLast, PutsWhole, WasEmptied}
 use Rattle.segclient.specs.Putting.{IsPutAnswer}
 
@@ -35,17 +35,18 @@ full_again calls rest is ([], segment, answer, earlier, was) = absurd (apart (ap
 full_again calls rest is (call ∷ later, segment, answer, earlier, was) =
     (later, segment, answer, earlier, is ∙ ap (λ l. sets write.BucketFull ∷ l) (ap rest_of (sym is ∙ was)))
 
-answer_of : (shape : Shape) (pass : ℕ) (told : PutAnswer) (calls : List PutCall) → EndsSo shape pass told calls → (told ≡ put.BucketFull → WasEmptied calls) → IsPutAnswer shape pass told calls
-answer_of shape pass put.Stored calls ends emptied = ends
-answer_of shape pass put.NoRoom calls ends emptied = ends.0
-answer_of shape pass put.BucketFull calls ends emptied = full_again calls ends.0.0 ends.0.1 (emptied refl)
-answer_of shape pass put.Busy calls ends emptied = (ends.0.0, ends.0.1 ∙ ap (λ l. l ++ ends.0.0) busy_is)
+answer_of : (shape : Shape) (pass rows : ℕ) (told : PutAnswer) (calls : List PutCall) → EndsSo shape pass rows told calls → (told ≡ put.BucketFull → WasEmptied calls)
+    → IsPutAnswer shape pass rows told calls
+answer_of shape pass rows put.Stored calls ends emptied = ends
+answer_of shape pass rows put.NoRoom calls ends emptied = ends.0
+answer_of shape pass rows put.BucketFull calls ends emptied = full_again calls ends.0.0 ends.0.1 (emptied refl)
+answer_of shape pass rows put.Busy calls ends emptied = (ends.0.0, ends.0.1 ∙ ap (λ l. l ++ ends.0.0) busy_is)
 
-open_of : (shape : Shape) (pass : ℕ) (told : PutAnswer) (calls : List PutCall) → told ≢ put.Stored → EndsSo shape pass told calls → AreOpen calls
-open_of shape pass put.Stored calls other ends = absurd (other refl)
-open_of shape pass put.NoRoom calls other ends = ends.1
-open_of shape pass put.BucketFull calls other ends = ends.1
-open_of shape pass put.Busy calls other ends = ends.1
+open_of : (shape : Shape) (pass rows : ℕ) (told : PutAnswer) (calls : List PutCall) → told ≢ put.Stored → EndsSo shape pass rows told calls → AreOpen calls
+open_of shape pass rows put.Stored calls other ends = absurd (other refl)
+open_of shape pass rows put.NoRoom calls other ends = ends.1
+open_of shape pass rows put.BucketFull calls other ends = ends.1
+open_of shape pass rows put.Busy calls other ends = ends.1
 
 pub whole_put : (b : Board) (plan : Plan) (most total : ℕ) (told : PutAnswer) (effort : Effort) (p q : Pass)
     → most ≤ total → PutsAtLast b plan most told effort p q → PutsWhole b plan total told effort p q
@@ -54,8 +55,8 @@ whole_put b plan most total told effort p q enough (puts, emptied) = record {
   makes = puts.makes;
   few = let few = puts.few in omega (arith, few, enough);
   comes = puts.comes;
-  answer = answer_of b.shape (number p) told puts.calls puts.ends emptied;
-  not_stored = λ other. open_of b.shape (number p) told puts.calls other puts.ends;
+  answer = answer_of b.shape (number p) (rows_asked plan.request) told puts.calls puts.ends emptied;
+  not_stored = λ other. open_of b.shape (number p) (rows_asked plan.request) told puts.calls other puts.ends;
   tries = puts.tries;
   spares = puts.spares;
 }

@@ -13,7 +13,7 @@ use Rattle.segindex.specs.Words.{LearnsNote, MakesNote, MeetsPass, Note, Returns
 use Rattle.segindex.specs.declared.table_stats.IndexStats.{IndexStats}
 use Rattle.segclient.specs.declared.member.Member.{Member}
 use Rattle.segclient.specs.declared.effort.Effort.{Effort}
-use Rattle.segclient.specs.Clearing.{Clears, ClearsSome, Step}
+use Rattle.segclient.specs.Clearing.{Clears, ClearsSome, most_steps_of_put, Step}
 use Rattle.segclient.specs.Counting.{cleared_too, counted}
 use Rattle.segclient.specs.Lives.{life_span}
 use Rattle.segclient.specs.declared.segments.Span.{Span}
@@ -70,7 +70,7 @@ pub record ClearsThen (told : WriteAnswer) (b : Board) (effort : Effort) (old ne
 pub record EndsWrite (told : WriteAnswer) (b : Board) (old new : Member) : Type 0 where
   pub steps : List Step
   pub clears : Clears b old.cutoff steps old.pass new.pass
-  pub few_steps : length steps ≤ 16
+  pub few_steps : length steps ≤ most_steps_of_put
   pub unasked : told ≢ write.Stored → ClearsNothing steps old new
   pub unqueued : is_some old.segments.queues ≡ false → ClearsNothing steps old new
   pub stats : new.stats ≡ cleared_too steps (counted (write_tally told) old.stats)
@@ -109,7 +109,7 @@ pub record MakesWrite (request : ℕ → Request) (told : WriteAnswer) (b : Boar
   pub stored : told ≡ write.Stored → StoredFor (life_of old) between
   pub steps : List Step
   pub clears : Clears b old.cutoff steps between new.pass
-  pub few_steps : length steps ≤ 16
+  pub few_steps : length steps ≤ most_steps_of_put
   pub unasked : told ≢ write.Stored → ClearsNothing steps old new
   pub unqueued : is_some old.segments.queues ≡ false → ClearsNothing steps old new
   pub memo : memo new.pass ≡ memo old.pass

@@ -7,7 +7,7 @@ use Rattle.segmodel.specs.declared.answer.RefillAnswer.TheVariants as refill
 use Rattle.segmodel.specs.declared.request.Request.TheVariants.{Set}
 use Rattle.segmodel.specs.Words.{EvictAnswer, owner, RefillAnswer, Request, WriteAnswer}
 use Rattle.segbase.specs.Words.{Board, current_of, deadline_of, number, Pass}
-use Rattle.segwrite.specs.Words.{IsSetAnswer, Writes}
+use Rattle.segwrite.specs.Words.{IsSetAnswer, rows_of, Writes}
 use Rattle.segevict.specs.declared.retention.KeepRowAnswer.{KeepRowAnswer}
 use Rattle.segevict.specs.declared.retention.KeepRowAnswer.TheVariants as kept
 use Rattle.segevict.specs.Words.{EvictsSegment, KeepsItem}
@@ -30,6 +30,11 @@ pub record Plan : Type 0 where
   pub cutoff : Option ℕ
   pub deadline : ℕ
   pub span : Span
+
+-- how many rows the item takes that a request stores, and one without a request
+abbrev pub rows_asked : Option Request → ℕ
+rows_asked None = 1
+rows_asked (Some request) = rows_of request
 
 -- the deadline is one of these
 abbrev pub IsInSpan : Span → ℕ → Type 0

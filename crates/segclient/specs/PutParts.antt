@@ -7,7 +7,8 @@ use Rattle.segmodel.specs.declared.answer.WriteAnswer.TheVariants as write
 use Rattle.segmodel.specs.declared.request.Request.TheVariants.{Set}
 use Rattle.segmodel.specs.Words.{EvictAnswer, owner, Request}
 use Rattle.segbase.specs.Words.{Board, current_of, deadline_of, number, Pass, used_of}
-use Rattle.segstore.specs.Words.{has_room, is_below}
+use Rattle.segstore.specs.Words.{has_room_for, is_below}
+use Rattle.segevict.specs.Rows.{IfSeveral}
 use Rattle.segevict.specs.Words.{EvictsSegment}
 use Rattle.segindex.specs.Refilling.{RefillsSegment}
 use Rattle.segclient.specs.declared.put.Order.{Order}
@@ -19,7 +20,7 @@ use Rattle.segclient.specs.declared.segments.Span.{Span}
 use Rattle.segclient.specs.declared.stats.Stats.{Stats}
 use Rattle.segclient.specs.Clearing.{ClearsSome}
 use Rattle.segclient.specs.Counting.{with_more}
-use Rattle.segclient.specs.PutCalls.{PutCall, sets, evicts, Plan, came_to, refilled_segments, kept_items, evicted_keys, IsRefused, Makes, room_plan, StoresUntil}
+use Rattle.segclient.specs.PutCalls.{PutCall, sets, evicts, Plan, came_to, refilled_segments, kept_items, evicted_keys, IsRefused, Makes, room_plan, rows_asked, StoresUntil}
 use Rattle.segclient.specs.Putting.{IsPutAnswer, SetsAtMost16, SetsUntilFull}
 use Rattle.segclient.specs.Tallies.{evicted_by}
 
@@ -67,14 +68,27 @@ StoresAsBefore p q = (until : ℕ) → StoresUntil until p → StoresUntil until
 abbrev pub AreRefused : Shape → ℕ → List PutCall → Type 0
 AreRefused shape pass calls = (segment : ℕ) → owner shape segment ≡ pass → IsRefused segment calls
 
--- Room was made exactly if a row is left in the end, and then in a segment with the deadline
--- that is asked. It wasn't only if each segment of the pass was refused.
-pub record MakesRoom (b : Board) (cutoff : Option ℕ) (deadline most : ℕ) (made : Bool)
+-- Room was made exactly if so many rows are left in the end, and then in a segment with the
+-- deadline that is asked. It wasn't only if each segment of the pass was refused,
+-- or if that is more than a segment has.
+pub record MakesRows (b : Board) (cutoff : Option ℕ) (deadline most rows : ℕ) (made : Bool)
     (effort : Effort) (p q : Pass) : Type 0 where
   pub arranges : Arranges b cutoff deadline most effort p q
-  pub room : has_room b.shape q ≡ made
+  pub room : has_room_for b.shape rows q ≡ made
   pub until : made ≡ true → StoresUntil deadline q
-  pub refused : made ≡ false → AreRefused b.shape (number p) arranges.calls
+  pub refused : made ≡ false
+      → IfSeveral (rows ≤ b.shape.rows)
+      → AreRefused b.shape (number p) arranges.calls
+
+-- so it is of one row
+abbrev pub MakesRoom : Board → Option ℕ → ℕ → ℕ → Bool → Effort → Pass → Pass → Type 0
+MakesRoom b cutoff deadline most made effort p q =
+    MakesRows b cutoff deadline most 1 made effort p q
+
+-- the segment that the pass stores into has all its rows left
+abbrev pub StoresAfresh : Pass → Type 0
+StoresAfresh p =
+    (segment : ℕ) × (current_of p ≡ Some segment) × (used_of p segment ≡ Some 0)
 
 -- a free segment was refilled, or nothing came about
 abbrev pub TakesFree : Board → ℕ → Bool → Pass → Pass → Type 0
@@ -155,7 +169,8 @@ pub record Sets (b : Board) (plan : Plan) (told : PutAnswer) (p q : Pass) : Type
   pub few : length calls ≤ 16
   pub are : AreSets told calls
   pub no_room : told ≡ put.NoRoom
-      → (has_room b.shape p ≡ false) × (has_room b.shape q ≡ false)
+      → (has_room_for b.shape (rows_asked plan.request) p ≡ false)
+      × (has_room_for b.shape (rows_asked plan.request) q ≡ false)
 
 -- sets, unless what the pass stores into has another deadline than those that are asked
 abbrev pub SetsIfTimely : Board → Plan → PutAnswer → Pass → Pass → Type 0
@@ -169,22 +184,24 @@ SetsIfTimely b plan told p q =
 abbrev pub AreOpen : List PutCall → Type 0
 AreOpen calls = All (λ call. call ≢ sets write.Stored) calls
 
--- Stored by its last call, and only by that. NoRoom if each segment was refused.
--- BucketFull by its last set. Busy if the last 16 sets in a row were.
-abbrev pub EndsSo : Shape → ℕ → PutAnswer → List PutCall → Type 0
-EndsSo shape pass put.Stored calls =
+-- Stored by its last call, and only by that. NoRoom if each segment was refused, of an item that
+-- takes no more rows than a segment has. BucketFull by its last set.
+-- Busy if the last 16 sets in a row were.
+abbrev pub EndsSo : Shape → ℕ → ℕ → PutAnswer → List PutCall → Type 0
+EndsSo shape pass rows put.Stored calls =
     (earlier : List PutCall) × (calls ≡ sets write.Stored ∷ earlier) × AreOpen earlier
-EndsSo shape pass put.NoRoom calls = AreRefused shape pass calls × AreOpen calls
-EndsSo shape pass put.BucketFull calls =
+EndsSo shape pass rows put.NoRoom calls =
+    (IfSeveral (rows ≤ shape.rows) → AreRefused shape pass calls) × AreOpen calls
+EndsSo shape pass rows put.BucketFull calls =
     ((earlier : List PutCall) × (calls ≡ sets write.BucketFull ∷ earlier)) × AreOpen calls
-EndsSo shape pass put.Busy calls =
+EndsSo shape pass rows put.Busy calls =
     ((earlier : List PutCall) × (calls ≡ busy_sets 16 ++ earlier)) × AreOpen calls
 
--- A put with a row left in a segment with a deadline that is asked gives up nothing for it,
+-- A put with rows enough left in a segment with a deadline that is asked gives up nothing for it,
 -- unless its bucket is full.
-abbrev pub Spares : Shape → Span → List PutCall → Pass → Type 0
-Spares shape span calls p =
-    is_outside span p ≡ false → has_room shape p ≡ true → SetsUntilFull calls
+abbrev pub Spares : Shape → Span → ℕ → List PutCall → Pass → Type 0
+Spares shape span rows calls p =
+    is_outside span p ≡ false → has_room_for shape rows p ≡ true → SetsUntilFull calls
 
 -- a put made these calls, at most so many
 pub record MakesPut (b : Board) (plan : Plan) (most : ℕ) (told : PutAnswer)
@@ -193,9 +210,9 @@ pub record MakesPut (b : Board) (plan : Plan) (most : ℕ) (told : PutAnswer)
   pub makes : Makes b plan calls p q
   pub few : length calls ≤ most
   pub comes : IsEffort calls effort
-  pub ends : EndsSo b.shape (number p) told calls
+  pub ends : EndsSo b.shape (number p) (rows_asked plan.request) told calls
   pub tries : SetsAtMost16 calls
-  pub spares : Spares b.shape plan.span calls p
+  pub spares : Spares b.shape plan.span (rows_asked plan.request) calls p
 
 -- after a set that found its bucket full a segment was evicted, before the last set
 abbrev pub WasEmptied : List PutCall → Type 0
@@ -216,10 +233,10 @@ pub record PutsWhole (b : Board) (plan : Plan) (most : ℕ) (told : PutAnswer)
   pub makes : Makes b plan calls p q
   pub few : length calls ≤ most
   pub comes : IsEffort calls effort
-  pub answer : IsPutAnswer b.shape (number p) told calls
+  pub answer : IsPutAnswer b.shape (number p) (rows_asked plan.request) told calls
   pub not_stored : told ≢ put.Stored → AreOpen calls
   pub tries : SetsAtMost16 calls
-  pub spares : Spares b.shape plan.span calls p
+  pub spares : Spares b.shape plan.span (rows_asked plan.request) calls p
 
 -- ---- after a put
 

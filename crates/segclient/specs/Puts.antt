@@ -1,18 +1,19 @@
 -- What a put of a client came to.
-use Rattle.std.specs.Prelude.{◌≡◌, ◌≢◌, ◌⊎◌, ℕ, ◌/◌, ◌≤◌, Bool, true, false, is_some, List, [], length, All, Some}
-use Rattle.segword.specs.Words.{Shape}
+use Rattle.std.specs.Prelude.{◌≡◌, ◌≢◌, ◌⊎◌, ℕ, ◌/◌, ◌≤◌, Bool, true, false, is_some, List, [], length, All, min, Some}
+use Rattle.segword.specs.Words.{most_span, Shape, span_of}
 use Rattle.segmodel.specs.declared.answer.WriteAnswer.TheVariants as write
 use Rattle.segmodel.specs.declared.request.Request.TheVariants.{Set}
 use Rattle.segmodel.specs.Words.{owner}
 use Rattle.segbase.specs.Words.{Board, number, Pass}
-use Rattle.segstore.specs.Words.{has_room, memo}
+use Rattle.segstore.specs.Words.{has_room, has_room_for, memo}
+use Rattle.segwrite.specs.Words.{or_one}
 use Rattle.segindex.specs.declared.current.CurrentAnswer.TheVariants as current_answer
 use Rattle.segindex.specs.Words.{MakesCurrent}
 use Rattle.segclient.specs.declared.member.Member.{Member}
 use Rattle.segclient.specs.declared.put.PutAnswer.{PutAnswer}
 use Rattle.segclient.specs.declared.put.PutAnswer.TheVariants as put
 use Rattle.segclient.specs.declared.segments.Span.{Span}
-use Rattle.segclient.specs.Clearing.{Clears, Step}
+use Rattle.segclient.specs.Clearing.{Clears, most_steps_of_put, Step}
 use Rattle.segclient.specs.Counting.{cleared_too, counted, given_up_too}
 use Rattle.segclient.specs.Lives.{deadline_by, IsDeadlineFor, IsLife}
 use Rattle.segclient.specs.Member.{KeepsSettings}
@@ -53,8 +54,8 @@ StoredFor span p = (until : ℕ) × StoresUntil until p × IsInSpan span until
 -- Where it is Stored, the deadline of the segment it is stored into comes in the put's time,
 -- and not before seven eighths of it: it can be read so long, unless it goes before.
 -- It makes at most 16 sets in a row.
--- With a row left in its segment, and a deadline that it asks for, it makes room only once its
--- bucket was full.
+-- With rows enough left in its segment, and a deadline that it asks for, it makes room only once
+-- its bucket was full.
 -- Once it is Stored, a client with queues clears rows of another segment, by at most 16 steps.
 -- Hold and lock are as they were, and the client counted the put, and what calls and steps came to.
 pub record PutsFor (time : ℕ) (key value : List ℕ) (told : PutAnswer) (b : Board)
@@ -73,18 +74,18 @@ pub record PutsFor (time : ℕ) (key value : List ℕ) (told : PutAnswer) (b : B
     deadline = until;
     span = span;
   }) calls chosen between
-  pub answer : IsPutAnswer b.shape (number old.pass) told calls
+  pub answer : IsPutAnswer b.shape (number old.pass) (span_of key value) told calls
   pub stored : told ≡ put.Stored → StoredFor span between
   pub not_stored : told ≢ put.Stored → All (λ call. call ≢ sets write.Stored) calls
   pub tries : SetsAtMost16 calls
   pub spares : (deadline : ℕ)
       → StoresUntil deadline old.pass
       → IsInSpan span deadline
-      → has_room b.shape old.pass ≡ true
+      → has_room_for b.shape (span_of key value) old.pass ≡ true
       → SetsUntilFull calls
   pub steps : List Step
   pub clears : Clears b old.cutoff steps between new.pass
-  pub few_steps : length steps ≤ 16
+  pub few_steps : length steps ≤ most_steps_of_put
   pub unasked : told ≢ put.Stored → steps ≡ []
   pub unqueued : is_some old.segments.queues ≡ false → steps ≡ []
   pub memo : memo new.pass ≡ memo old.pass
@@ -99,11 +100,12 @@ abbrev pub Puts : List ℕ → List ℕ → PutAnswer → Board → Member → M
 Puts key value told b old new = PutsFor old.time_to_live key value told b old new
 
 -- Room was made by these calls, and then a row is left in a segment with the deadline
--- that is asked. Or it wasn't, and each segment of the pass was refused.
+-- that is asked. Where items take several rows, as many are left as the longest item takes,
+-- or all of a segment that has fewer. Or it wasn't, and each segment of the pass was refused.
 pub record MakesRoomFor (made : Bool) (b : Board) (old new : Member) : Type 0 where
   pub calls : List PutCall
   pub makes : Makes b (room_plan old.cutoff (deadline_of old)) calls old.pass new.pass
-  pub room : has_room b.shape new.pass ≡ made
+  pub room : has_room_for b.shape (or_one (min most_span b.shape.rows)) new.pass ≡ made
   pub deadline : made ≡ true → StoresUntil (deadline_of old) new.pass
   pub refused : made ≡ false
       → (segment : ℕ)

@@ -3,8 +3,10 @@ ghost use Rattle.std.specs.Prelude.{◌≡◌, ◌+◌, ◌<◌, ◌≤◌, ◌^
 ghost use Rattle.segbase.specs.Words.{deadline_of, number};
 ghost use Rattle.segindex.specs.Words.{board_of, shape_of};
 ghost use Rattle.segstore.specs.Words.{GoesOn, IsQuiet};
+ghost use Rattle.segwrite.specs.Words.{or_one};
 ghost use Rattle.segclient.specs.Clearing.{ClearsAtMost, ClearsRow, ClearsSome, IsCleared};
 ghost use Rattle.segclient.specs.Clearing.{AreDone, came_to_step, evicts_row, IsClearing, keeps_into};
+ghost use Rattle.segclient.specs.Clearing.{TakesRows};
 ghost use Rattle.segclient.specs.PutCalls.{evicted_keys, kept_items};
 ghost use Rattle.segclient.specs.Rings.{IsOwnRing};
 
@@ -14,7 +16,7 @@ use crate::queues::{
     was_given_up, was_refilled,
 };
 use crate::segments::{Policy, Segments, Source};
-use crate::spans::{clear_row, last_of};
+use crate::spans::{clear_row, last_of, row_behind};
 use segindex::{EvictRowAnswer, Index, KeepRowAnswer, Pass, RowRef};
 use segqueues::{Queue, Queues};
 
@@ -47,11 +49,11 @@ fn turns_of(queues: &Queues) -> u32
     queues.turns(TURNS).min(TURNS)
 }
 
-// The row of the source is done.
-fn next_row(source: Source, effort: Effort) -> Turn
-    requires fits { source.row + 1 < 2 ^ 32 }
+// The item of the source's row is done, which takes so many rows.
+fn next_row(source: Source, rows: u32, effort: Effort) -> Turn
+    requires fits { source.row + or_one rows < 2 ^ 32 }
     ensures { result ≡ record {
-      source = Some (record { segment = source.segment; row = source.row + 1 });
+      source = Some (record { segment = source.segment; row = source.row + or_one rows });
       is_over = false;
       effort = effort;
     } }
@@ -59,7 +61,7 @@ fn next_row(source: Source, effort: Effort) -> Turn
     Turn {
         source: Some(Source {
             segment: source.segment,
-            row: source.row + 1,
+            row: row_behind(source.row, rows),
         }),
         is_over: false,
         effort,
@@ -124,7 +126,7 @@ fn row_evicted_by(answer: EvictRowAnswer) -> u32
 fn evict_one(index: &Index, pass: &mut Pass, queues: &mut Queues, source: Source, rows: u32) -> Turn
     requires quiet { IsQuiet (board_of index.now) pass.old }
     requires clearing { IsClearing (shape_of index.now) source pass.old }
-    requires fits { source.row + 1 < 2 ^ 32 }
+    requires spans { TakesRows source rows pass.old }
     ensures on { GoesOn (board_of index.now) pass.old pass.new }
     ensures cleared { IsCleared (shape_of index.now) result.source pass.new }
     ensures few { (result.effort.refilled ≤ 1) × (result.effort.kept ≤ 1)
@@ -140,7 +142,7 @@ fn evict_one(index: &Index, pass: &mut Pass, queues: &mut Queues, source: Source
     };
     note_done(index, queues, last, told == EvictRowAnswer::Evicted);
     match told {
-        EvictRowAnswer::Evicted | EvictRowAnswer::Left => next_row(source, effort),
+        EvictRowAnswer::Evicted | EvictRowAnswer::Left => next_row(source, rows, effort),
         EvictRowAnswer::NotYours | EvictRowAnswer::NotUsed | EvictRowAnswer::Busy => {
             leave(index, queues, source, effort)
         }
@@ -175,7 +177,7 @@ fn row_moved_by(answer: KeepRowAnswer) -> u32
 fn move_one(index: &Index, pass: &mut Pass, queues: &mut Queues, source: Source, to: Move) -> Turn
     requires quiet { IsQuiet (board_of index.now) pass.old }
     requires clearing { IsClearing (shape_of index.now) source pass.old }
-    requires fits { source.row + 1 < 2 ^ 32 }
+    requires spans { TakesRows source to.rows pass.old }
     ensures on { GoesOn (board_of index.now) pass.old pass.new }
     ensures cleared { IsCleared (shape_of index.now) result.source pass.new }
     ensures few { (result.effort.refilled ≤ 1) × (result.effort.kept ≤ 1)
@@ -200,7 +202,7 @@ fn move_one(index: &Index, pass: &mut Pass, queues: &mut Queues, source: Source,
         KeepRowAnswer::Moved => {
             let last = RowRef { row: last, ..row };
             note_moved(index, pass, queues, last, to.into);
-            next_row(source, effort)
+            next_row(source, to.rows, effort)
         }
         KeepRowAnswer::Left => evict_one(index, pass, queues, source, to.rows),
         KeepRowAnswer::NoRoom
@@ -282,8 +284,8 @@ fn can_open(index: &Index, pass: &Pass, queues: &Queues, source: Source, turns: 
     queues.can_open(rows, turns, used.saturating_sub(source.row))
 }
 
-// Goes over one row of the source, or opens a main segment for what moves from it.
-// Behind its last row it is free. The row has an item of its own.
+// Goes over one row of the source and the rows of its item, or opens a main segment for what moves
+// from it. Behind its last row it is free.
 pub(crate) fn clear_one_row(
     index: &Index,
     pass: &mut Pass,
@@ -293,6 +295,7 @@ pub(crate) fn clear_one_row(
 ) -> Turn
     requires quiet { IsQuiet (board_of index.now) pass.old }
     requires clearing { IsClearing (shape_of index.now) source pass.old }
+    requires spans { TakesRows source terms.rows pass.old }
     ensures on { GoesOn (board_of index.now) pass.old pass.new }
     ensures cleared { IsCleared (shape_of index.now) result.source pass.new }
     ensures few { (result.effort.refilled ≤ 1) × (result.effort.kept ≤ 1)
@@ -422,7 +425,8 @@ pub(crate) fn is_due(segments: &Segments, moment: u32) -> bool
     }
 }
 
-// Clears some rows of a segment of the pass, by the queues: at most 16 calls of the index.
+// Clears some rows of a segment of the pass, by the queues: at most 16 calls of the index,
+// and where items take several rows, eight looks at how many.
 pub(crate) fn clear_some(
     index: &Index,
     pass: &mut Pass,

@@ -9,7 +9,7 @@ ghost use Rattle.segclient.specs.PutCalls.{came_to, keeps, kept_items, StoresUnt
 ghost use Rattle.segclient.specs.Clearing.{IsCleared};
 ghost use Rattle.segclient.specs.PutParts.{Arranges, effort_from, Empties, GivesUp, MakesRoom};
 ghost use Rattle.segclient.specs.PutParts.{most_at_last, most_for_room, most_in_turn};
-ghost use Rattle.segclient.specs.PutParts.{StoresAsBefore, TakesFree};
+ghost use Rattle.segclient.specs.PutParts.{StoresAfresh, StoresAsBefore, TakesFree};
 ghost use Rattle.segclient.specs.Rings.{IsOwnRing};
 
 use crate::effort::{Effort, evicted_by};
@@ -57,6 +57,7 @@ pub(crate) fn make_room(
     ensures few { (result.1.refilled ≤ 1) × (result.1.kept ≡ 0) × (result.1.keys < 2 ^ 57) }
     ensures room { MakesRoom (board_of index.now) None deadline
         (most_in_turn (shape_of index.now)) result.0 result.1 pass.old pass.new }
+    ensures afresh { result.0 ≡ true → StoresAfresh pass.new }
 {
     let current = pass.current();
     let mut keys = 0;
@@ -238,6 +239,7 @@ pub(crate) fn make_room_in_order(
         (most_in_turn (shape_of index.now)) result.1 pass.old pass.new }
     ensures room { result.0 ≡ true → MakesRoom (board_of index.now) None policy.deadline
         (most_in_turn (shape_of index.now)) true result.1 pass.old pass.new }
+    ensures afresh { result.0 ≡ true → StoresAfresh pass.new }
 {
     let round = round(index, pass, queues);
     let mut keys = 0;
@@ -294,7 +296,7 @@ fn make_room_in_queues(
 }
 
 // Makes room by the client's policy, at this moment, from segments that it gives up for it.
-fn make_room_at_last(
+pub(crate) fn make_room_at_last(
     index: &Index,
     pass: &mut Pass,
     segments: &mut Segments,
@@ -345,6 +347,7 @@ pub(crate) fn take_free(
     ensures queues { is_some segments.new.queues ≡ is_some segments.old.queues }
     ensures cleared { IsCleared (shape_of index.now) segments.new.source pass.new }
     ensures takes { TakesFree (board_of index.now) deadline result pass.old pass.new }
+    ensures afresh { result ≡ true → StoresAfresh pass.new }
 {
     let Some(queues) = segments.queues.as_mut() else {
         return false;

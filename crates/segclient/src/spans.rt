@@ -1,18 +1,24 @@
 //! Items of several rows: how room is made for one, and how a clearing goes from the first row of an
 //! item to that of the next. Where each item has one row, all of it is done row by row.
-ghost use Rattle.std.specs.Prelude.{◌≡◌, ◌<◌, ◌≤◌, ◌^◌, is_some};
+ghost use Rattle.std.specs.Prelude.{◌≡◌, ◌+◌, ◌<◌, ◌≤◌, ◌^◌, ℕ, is_some, min, true};
+ghost use Rattle.std.specs.Int.{IsInRange};
+ghost use Rattle.segword.specs.Words.{most_span};
 ghost use Rattle.segbase.specs.Words.{number};
 ghost use Rattle.segindex.specs.Words.{board_of, shape_of};
-ghost use Rattle.segstore.specs.Words.{GoesOn, IsQuiet};
-ghost use Rattle.segclient.specs.Clearing.{ClearsRow, IsCleared, IsClearing};
-ghost use Rattle.segclient.specs.PutParts.{MakesRoom, most_for_room};
+ghost use Rattle.segstore.specs.Words.{GoesOn, has_room_for, IsQuiet};
+ghost use Rattle.segwrite.specs.Words.{or_one, rows_of};
+ghost use Rattle.segclient.specs.Clearing.{ClearsTurn, IsCleared, IsClearing};
+ghost use Rattle.segclient.specs.PutCalls.{StoresUntil};
+ghost use Rattle.segclient.specs.PutParts.{MakesRows, most_at_last, most_for_room, request_of};
 ghost use Rattle.segclient.specs.Rings.{IsOwnRing};
 
 use crate::clearing::{Terms, Turn, clear_one_row};
 use crate::effort::Effort;
 use crate::put::Order;
 use crate::queues::was_refilled;
-use crate::room::{clear_next, make_room, make_room_in_order, make_row_by, take_free};
+use crate::room::{
+    clear_next, make_room, make_room_at_last, make_room_in_order, make_row_by, take_free,
+};
 use crate::segments::{Policy, Segments, Source};
 use segindex::{Index, Pass};
 use segqueues::Queues;
@@ -36,6 +42,18 @@ pub(crate) fn last_of(first: u32, rows: u32) -> u32 {
     first.saturating_add(rows.saturating_sub(1))
 }
 
+// The row behind an item that takes so many from this one on.
+#[inline(always)]
+pub(crate) fn row_behind(first: u32, rows: u32) -> u32
+    requires fits { first + or_one rows < 2 ^ 32 }
+    ensures { result ≡ first + or_one rows }
+{
+    if MOST_SPAN == 1 {
+        return first + 1;
+    }
+    first + rows
+}
+
 // Goes over one item of the source, or opens a main segment for what moves from it.
 // Behind its last row it is free.
 pub(crate) fn clear_row(
@@ -51,50 +69,40 @@ pub(crate) fn clear_row(
     ensures cleared { IsCleared (shape_of index.now) result.source pass.new }
     ensures few { (result.effort.refilled ≤ 1) × (result.effort.kept ≤ 1)
         × (result.effort.keys < 2 ^ 32) }
-    ensures clears { ClearsRow (board_of index.now) terms.least
+    ensures clears { ClearsTurn (board_of index.now) terms.least
         result.effort pass.old pass.new }
 {
     if MOST_SPAN == 1 {
         return clear_one_row(index, pass, queues, source, terms);
     }
     let rows = index.span_of(pass, source.segment, source.row);
-    let turn = clear_one_row(index, pass, queues, source, terms.of_rows(rows));
-    turn.behind(source, rows)
+    clear_one_row(index, pass, queues, source, terms.of_rows(rows))
 }
 
 impl Terms {
     // The same, where the item whose turn it is takes so many rows.
-    fn of_rows(self, rows: u32) -> Terms {
+    fn of_rows(self, rows: u32) -> Terms
+        ensures { result ≡ record self { rows = rows } }
+    {
         Terms { rows, ..self }
     }
 }
 
-impl Turn {
-    // The same, but a turn that went over the first row of an item goes on behind all its rows.
-    fn behind(self, source: Source, rows: u32) -> Turn {
-        let Some(next) = self.source else {
-            return self;
-        };
-        if next.row == source.row {
-            return self;
-        }
-        let row = source.row.saturating_add(rows);
-        Turn {
-            source: Some(Source { row, ..next }),
-            ..self
-        }
-    }
-}
-
 // How many rows of the segment that the pass stores into are left, if it has this deadline.
-fn rows_until(index: &Index, pass: &Pass, deadline: u32) -> u32 {
+fn rows_until(index: &Index, pass: &Pass, deadline: u32) -> u32
+    ensures left { (rows : ℕ) → IsInRange 1 result rows
+        → has_room_for (shape_of index.now) rows pass.now ≡ true }
+    ensures until { 1 ≤ result → StoresUntil deadline pass.now }
+{
     let Some(segment) = pass.current() else {
         return 0;
     };
     if pass.deadline(segment) != Some(deadline) {
         return 0;
     }
-    let used = pass.used(segment).unwrap_or(0);
+    let Some(used) = pass.used(segment) else {
+        return 0;
+    };
     index.shape().rows.saturating_sub(used)
 }
 
@@ -114,8 +122,9 @@ pub(crate) fn make_room_by(
     ensures cleared { IsCleared (shape_of index.now) segments.new.source pass.new }
     ensures few { (result.1.refilled < 2 ^ 30) × (result.1.kept < 2 ^ 60)
         × (result.1.keys < 2 ^ 59) }
-    ensures room { MakesRoom (board_of index.now) policy.cutoff policy.deadline
-        (most_for_room (shape_of index.now)) result.0 result.1 pass.old pass.new }
+    ensures room { MakesRows (board_of index.now) policy.cutoff policy.deadline
+        (most_for_room (shape_of index.now)) (or_one (min most_span (shape_of index.now).rows))
+        result.0 result.1 pass.old pass.new }
 {
     if MOST_SPAN == 1 {
         return make_row_by(index, pass, segments, policy);
@@ -143,9 +152,9 @@ pub(crate) fn make_room_for(
     ensures cleared { IsCleared (shape_of index.now) segments.new.source pass.new }
     ensures few { (result.1.refilled < 2 ^ 30) × (result.1.kept < 2 ^ 60)
         × (result.1.keys < 2 ^ 59) }
-    ensures room { MakesRoom (board_of index.now) order.entry.policy.cutoff
-        order.entry.policy.deadline (most_for_room (shape_of index.now)) result.0 result.1
-        pass.old pass.new }
+    ensures room { MakesRows (board_of index.now) order.entry.policy.cutoff
+        order.entry.policy.deadline (most_for_room (shape_of index.now))
+        (rows_of (request_of order.entry)) result.0 result.1 pass.old pass.new }
 {
     if MOST_SPAN == 1 {
         return make_row_by(index, pass, segments, order.policy);
@@ -171,14 +180,15 @@ fn make_rows(
     requires quiet { IsQuiet (board_of index.now) pass.old }
     requires own { IsOwnRing (shape_of index.now) (number pass.old) segments.old.ring }
     requires cleared { IsCleared (shape_of index.now) segments.old.source pass.old }
+    requires fits { IsInRange 1 (shape_of index.now).rows rows }
     ensures on { GoesOn (board_of index.now) pass.old pass.new }
     ensures own { IsOwnRing (shape_of index.now) (number pass.new) segments.new.ring }
     ensures queues { is_some segments.new.queues ≡ is_some segments.old.queues }
     ensures cleared { IsCleared (shape_of index.now) segments.new.source pass.new }
     ensures few { (result.1.refilled < 2 ^ 30) × (result.1.kept < 2 ^ 60)
         × (result.1.keys < 2 ^ 59) }
-    ensures room { MakesRoom (board_of index.now) policy.cutoff policy.deadline
-        (most_for_room (shape_of index.now)) result.0 result.1 pass.old pass.new }
+    ensures room { MakesRows (board_of index.now) policy.cutoff policy.deadline
+        (most_for_room (shape_of index.now)) (or_one rows) result.0 result.1 pass.old pass.new }
 {
     if MOST_SPAN == 1 {
         return make_row_by(index, pass, segments, policy);
@@ -208,18 +218,18 @@ fn make_rows_in_queues(
 ) -> (bool, Effort)
     requires quiet { IsQuiet (board_of index.now) pass.old }
     requires own { IsOwnRing (shape_of index.now) (number pass.old) segments.old.ring }
-    requires cleared { IsCleared (shape_of index.now) segments.old.source pass.old }
     ensures on { GoesOn (board_of index.now) pass.old pass.new }
     ensures own { IsOwnRing (shape_of index.now) (number pass.new) segments.new.ring }
     ensures queues { is_some segments.new.queues ≡ is_some segments.old.queues }
-    ensures cleared { IsCleared (shape_of index.now) segments.new.source pass.new }
+    ensures source { segments.new.source ≡ segments.old.source }
     ensures few { (result.1.refilled < 2 ^ 30) × (result.1.kept < 2 ^ 60)
         × (result.1.keys < 2 ^ 59) }
-    ensures room { MakesRoom (board_of index.now) policy.cutoff policy.deadline
-        (most_for_room (shape_of index.now)) result.0 result.1 pass.old pass.new }
+    ensures room { (rows : ℕ) → IsInRange 1 (shape_of index.now).rows rows
+        → MakesRows (board_of index.now) policy.cutoff policy.deadline
+        (most_at_last (shape_of index.now)) (or_one rows) result.0 result.1 pass.old pass.new }
 {
     if MOST_SPAN == 1 {
-        return make_row_by(index, pass, segments, policy);
+        return make_room_at_last(index, pass, segments, policy);
     }
     let Some(queues) = segments.queues.as_mut() else {
         return make_room(index, pass, &mut segments.ring, policy.deadline);
@@ -246,18 +256,18 @@ fn make_rows_in_turn(
 ) -> (bool, Effort)
     requires quiet { IsQuiet (board_of index.now) pass.old }
     requires own { IsOwnRing (shape_of index.now) (number pass.old) segments.old.ring }
-    requires cleared { IsCleared (shape_of index.now) segments.old.source pass.old }
+    requires fits { IsInRange 1 (shape_of index.now).rows rows }
     ensures on { GoesOn (board_of index.now) pass.old pass.new }
     ensures own { IsOwnRing (shape_of index.now) (number pass.new) segments.new.ring }
     ensures queues { is_some segments.new.queues ≡ is_some segments.old.queues }
-    ensures cleared { IsCleared (shape_of index.now) segments.new.source pass.new }
+    ensures source { segments.new.source ≡ segments.old.source }
     ensures few { (result.1.refilled < 2 ^ 30) × (result.1.kept < 2 ^ 60)
         × (result.1.keys < 2 ^ 59) }
-    ensures room { MakesRoom (board_of index.now) policy.cutoff policy.deadline
-        (most_for_room (shape_of index.now)) result.0 result.1 pass.old pass.new }
+    ensures room { MakesRows (board_of index.now) policy.cutoff policy.deadline
+        (most_at_last (shape_of index.now)) (or_one rows) result.0 result.1 pass.old pass.new }
 {
     if MOST_SPAN == 1 {
-        return make_row_by(index, pass, segments, policy);
+        return make_room_at_last(index, pass, segments, policy);
     }
     let (is_made, first) = make_room(index, pass, &mut segments.ring, policy.deadline);
     let Some(least) = policy.cutoff else {

@@ -60,7 +60,7 @@ none_refilled z pass s (e ∷ more) h l own none = (other, none_refilled z pass 
         first.0 p d refl
 
 -- what the pass added tells what it saw of its own
-own_events : (b : Board) (p q : Pass) (segment : ℕ) (added : List Entry) (on : GoesOn b p q)
+pub own_events : (b : Board) (p q : Pass) (segment : ℕ) (added : List Entry) (on : GoesOn b p q)
     → mine q ≡ added ++ mine p → NoneFills segment added → owner b.shape segment ≡ number p
     → NoneRefills segment (steps_grew p q on.steps).0
 own_events b p q segment added on entries none own =
@@ -105,7 +105,7 @@ is_there : (o : Option SegState) → o ≢ None → IsSome o
 is_there None other = absurd (other refl)
 is_there (Some state) other = refl
 
-has_row : (segment row : ℕ) (p : Pass) → state_of p segment ≢ None → ¬ (IsSome (state_of p segment) × ¬ (HasRow segment row p)) → HasRow segment row p
+pub has_row : (segment row : ℕ) (p : Pass) → state_of p segment ≢ None → ¬ (IsSome (state_of p segment) × ¬ (HasRow segment row p)) → HasRow segment row p
 has_row segment row p known used = ⊎_elim (λ has. has) (λ none. absurd (used (is_there (state_of p segment) known, none))) (has_or_not segment row p)
 
 -- the pass added no refilling of the segment, and no item names the row any more

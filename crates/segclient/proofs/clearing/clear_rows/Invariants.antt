@@ -1,7 +1,7 @@
 use Rattle.std.proofs.Common.{◌*◌, ◌≤◌, Some}
 use Rattle.segindex.specs.Words.{board_of, shape_of}
 use Rattle.segstore.specs.Words.{GoesOn}
-use Rattle.segclient.specs.Clearing.{ClearsAtMost, IsCleared}
+use Rattle.segclient.specs.Clearing.{ClearsAtMost, IsCleared, most_steps_of_turn}
 use Rattle.segclient.proofs.clearing.clear_rows.Given as goal
 
 abbrev pub invariant-loop-tried : goal.invariant-loop-tried
@@ -11,5 +11,5 @@ invariant-loop-tried l = record {
   refilled : l.effort.refilled ≤ l.tried;
   kept : l.effort.kept ≤ l.tried;
   keys : l.effort.keys ≤ 4294967295 * l.tried;
-  clears : ClearsAtMost (board_of l.index) (Some l.terms.least) (2 * l.tried) l.effort l.fn.pass l.pass;
+  clears : ClearsAtMost (board_of l.index) (Some l.terms.least) (most_steps_of_turn * l.tried) l.effort l.fn.pass l.pass;
 }

@@ -2,15 +2,23 @@ use Rattle.std.proofs.Common.{ap, sym, subst, ◌∙◌}
 use Rattle.segindex.specs.Words.{board_of}
 use Rattle.segclient.specs.declared.clearing.Turn.{Turn}
 use Rattle.segclient.specs.Clearing.{IsCleared}
-use Rattle.segclient.proofs.OneTurn.{evicted_clears, evicted_done}
+use Rattle.segclient.proofs.OneTurn.{evicted_clears, evicted_done, evicted_fits}
 use Rattle.segclient.proofs.clearing.evict_one.Goals as goal
+
+pub next_row-requires : goal.next_row-requires
+next_row-requires c =
+    let told = c.evict_row-told in
+    record {
+      fits = evicted_fits (board_of c.args.index.now) c.args.source c.args.pass.now told.new.pass c.requires.quiet c.requires.clearing c.args.rows
+          c.requires.spans told.result told.ensures.evicts c.in-Evicted.is;
+    }
 
 pub returns-in-Evicted-clause-cleared : goal.returns-in-Evicted-clause-cleared
 returns-in-Evicted-clause-cleared c =
     let b = board_of c.args.index.now in
     let told = c.evict_row-told in
     subst (λ (t : Turn). IsCleared b.shape t.source told.new.pass) (sym c.next_row.ensures)
-    (evicted_done b c.args.source c.args.pass.now told.new.pass c.requires.quiet c.requires.clearing told.result told.ensures.evicts c.in-Evicted.is)
+    (evicted_done b c.args.source c.args.pass.now told.new.pass c.requires.quiet c.requires.clearing c.args.rows c.requires.spans told.result told.ensures.evicts c.in-Evicted.is)
 
 pub returns-in-Evicted-clause-clears : goal.returns-in-Evicted-clause-clears
 returns-in-Evicted-clause-clears c = λ cutoff.

@@ -3,7 +3,7 @@ use Rattle.segindex.specs.Words.{board_of}
 use Rattle.segevict.proofs.RowsOut.{goes_then}
 use Rattle.segclient.specs.declared.clearing.Turn.{Turn}
 use Rattle.segclient.specs.Clearing.{IsCleared}
-use Rattle.segclient.proofs.OneTurn.{clears_after, kept_clears, left_clears, left_stays, moved_done}
+use Rattle.segclient.proofs.OneTurn.{clears_after, kept_clears, left_clears, left_stays, moved_done, moved_fits, takes_still}
 use Rattle.segclient.proofs.clearing.move_one.Goals as goal
 
 pub evict_one-requires-clause-clearing : goal.evict_one-requires-clause-clearing
@@ -12,12 +12,27 @@ evict_one-requires-clause-clearing c =
     left_stays (board_of c.args.index.now) c.args.source c.args.pass.now told.new.pass c.requires.quiet
     c.requires.clearing told.result c.cutoff_of-cutoff.result c.args.to.into c.in-Left.is told.ensures.keeps
 
+pub evict_one-requires-clause-spans : goal.evict_one-requires-clause-spans
+evict_one-requires-clause-spans c =
+    let told = c.keep_row_into-told in
+    takes_still (board_of c.args.index.now) c.args.source c.args.pass.now told.new.pass c.requires.quiet
+    c.requires.clearing c.args.to.rows c.requires.spans told.result c.cutoff_of-cutoff.result c.args.to.into c.in-Left.is told.ensures.keeps
+
+pub next_row-requires : goal.next_row-requires
+next_row-requires c =
+    let told = c.keep_row_into-told in
+    record {
+      fits = moved_fits (board_of c.args.index.now) c.args.source c.args.pass.now told.new.pass c.requires.quiet c.requires.clearing
+          told.result c.cutoff_of-cutoff.result c.args.to.into c.in-Moved.is told.ensures.keeps c.args.to.rows c.requires.spans;
+    }
+
 pub returns-in-Moved-clause-cleared : goal.returns-in-Moved-clause-cleared
 returns-in-Moved-clause-cleared c =
     let b = board_of c.args.index.now in
     let told = c.keep_row_into-told in
     subst (λ (t : Turn). IsCleared b.shape t.source told.new.pass) (sym c.next_row.ensures)
-    (moved_done b c.args.source c.args.pass.now told.new.pass c.requires.quiet c.requires.clearing told.result c.cutoff_of-cutoff.result c.args.to.into c.in-Moved.is told.ensures.keeps)
+    (moved_done b c.args.source c.args.pass.now told.new.pass c.requires.quiet c.requires.clearing told.result c.cutoff_of-cutoff.result c.args.to.into c.in-Moved.is told.ensures.keeps
+    c.args.to.rows c.requires.spans)
 
 pub returns-in-Moved-clause-clears : goal.returns-in-Moved-clause-clears
 returns-in-Moved-clause-clears c =

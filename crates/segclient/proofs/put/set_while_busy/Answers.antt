@@ -2,10 +2,11 @@ use Rattle.std.proofs.Common.{◌≡◌, ◌≢◌, ◌∷◌, refl, sym, ◌∙
 use Rattle.segmodel.specs.declared.answer.WriteAnswer.TheVariants as write
 use Rattle.segindex.specs.Words.{board_of}
 use Rattle.segstore.proofs.Idling.{goes_same, unchanged}
+use Rattle.segwrite.specs.Words.{rows_of}
 use Rattle.segevict.proofs.RowsOut.{goes_then}
 use Rattle.segclient.specs.declared.put.PutAnswer.TheVariants as put
 use Rattle.segclient.specs.PutCalls.{sets, Makes}
-use Rattle.segclient.specs.PutParts.{busy_sets, plan_of}
+use Rattle.segclient.specs.PutParts.{busy_sets, plan_of, request_of}
 use Rattle.segclient.proofs.Setting.{busy_long, busy_more, no_sets, same_room, set_more}
 use Rattle.segclient.proofs.put.set_while_busy.Goals as goal
 
@@ -61,9 +62,9 @@ returns-in-NoRoom-clause-sets c =
       makes = set_more b c.args.order write.NoRoom c.loop-tries.tries c.args.pass.now c.loop-tries.pass c.set_once.new.pass c.requires.timely was.busy was.plain tt writes;
       few = let long = busy_long c.loop-tries.tries in omega (arith, long);
       are = (c.loop-tries.tries, refl);
-      no_room = λ e. let full = writes.no_room.0 refl in (
-        sym (same_room b c.args.pass.now c.loop-tries.pass was.plain) ∙ full,
-        same_room b c.loop-tries.pass c.set_once.new.pass (unchanged c.loop-tries.pass c.set_once.new.pass writes.answer).plain ∙ full,
+      no_room = λ e. let full = writes.no_room.0 refl in let rows = rows_of (request_of c.args.order) in (
+        sym (same_room b rows c.args.pass.now c.loop-tries.pass was.plain) ∙ full,
+        same_room b rows c.loop-tries.pass c.set_once.new.pass (unchanged c.loop-tries.pass c.set_once.new.pass writes.answer).plain ∙ full,
       );
     }
 

@@ -9,7 +9,7 @@ use Rattle.segevict.proofs.RowsOut.{goes_then}
 use Rattle.segpolicy.specs.Words.{turned}
 use Rattle.segclient.specs.PutParts.{GivesUp}
 use Rattle.segclient.specs.Rings.{IsOwnRing}
-use Rattle.segclient.proofs.Rooms.{current_own, gives_up, refused_apart}
+use Rattle.segclient.proofs.Rooms.{current_own, given_afresh, gives_up, refused_apart}
 use Rattle.segclient.proofs.Trying.{Tried, none_left, none_tried, skipped, refused_next, at_last}
 use Rattle.segclient.proofs.Turns.{own_in_ring, own_turned}
 use Rattle.segclient.proofs.room.make_room.Goals as goal
@@ -48,6 +48,13 @@ returns-then-is_refilled-clause-room c =
     let gives = subst (λ made. GivesUp b segment c.args.deadline made more q r) c.if-is_refilled.true c.give_up-is_refilled.ensures.gives_up in
     gives_up b c.args.deadline (2 * c.loop-tried.tried) c.loop-tried.keys c.args.pass.now q r was.over.0 segment more mine
     (2 * b.shape.segments_each + 2) sum (omega arith) (ap (λ n. c.loop-tried.keys + n) c.from-keys.ensures) gives
+
+pub returns-then-is_refilled-clause-afresh : goal.returns-then-is_refilled-clause-afresh
+returns-then-is_refilled-clause-afresh c = λ made.
+    let b = board_of c.args.index.now in
+    let gives = c.give_up-is_refilled in
+    given_afresh b c.args.deadline c.next-segment.result gives.result.1 c.loop-tried.pass gives.new.pass
+    (subst (λ made. GivesUp b c.next-segment.result c.args.deadline made gives.result.1 c.loop-tried.pass gives.new.pass) c.if-is_refilled.true gives.ensures.gives_up)
 
 pub loop-tried-preserved : goal.loop-tried-preserved
 loop-tried-preserved c =
@@ -147,6 +154,13 @@ returns-clause-room c =
     (2 * b.shape.segments_each + 2) c.from.result (c.loop-tried.keys + c.from-2.result)
     (current_own b q c.in-Some.last was.on.quiet (was.current ∙ c.in-Some.is)) (omega (arith, ends))
     (ap (λ n. c.loop-tried.keys + n) c.from-2.ensures) c.from.ensures c.give_up-is_made.ensures.gives_up
+
+pub returns-clause-afresh : goal.returns-clause-afresh
+returns-clause-afresh c = λ made.
+    let b = board_of c.args.index.now in
+    let gives = c.give_up-is_made in
+    given_afresh b c.args.deadline c.in-Some.last gives.result.1 c.loop-tried.pass gives.new.pass
+    (subst (λ made. GivesUp b c.in-Some.last c.args.deadline made gives.result.1 c.loop-tried.pass gives.new.pass) made gives.ensures.gives_up)
 
 pub returns-in_default-clause-room : goal.returns-in_default-clause-room
 returns-in_default-clause-room c =

@@ -6,7 +6,7 @@ use Rattle.segevict.proofs.RowsOut.{goes_then}
 use Rattle.segclient.specs.declared.effort.Effort.{Effort}
 use Rattle.segclient.specs.PutParts.{Arranges, effort_from, GivesUp, MakesRoom, most_in_turn}
 use Rattle.segclient.proofs.Calls.{arranges_as, arranges_none}
-use Rattle.segclient.proofs.Rooms.{gives_up, PassesOver, passes_on}
+use Rattle.segclient.proofs.Rooms.{given_afresh, gives_up, PassesOver, passes_on}
 use Rattle.segclient.proofs.room.make_room_in_order.Goals as goal
 
 -- the segment was given up
@@ -70,6 +70,14 @@ returns-then-is_refilled-clause-on c = goes_then (board_of c.args.index.now) c.a
 
 pub returns-then-is_refilled-clause-room : goal.returns-then-is_refilled-clause-room
 returns-then-is_refilled-clause-room c = λ made. room_made c
+
+pub returns-then-is_refilled-clause-afresh : goal.returns-then-is_refilled-clause-afresh
+returns-then-is_refilled-clause-afresh c = λ made.
+    let b = board_of c.args.index.now in
+    let q = c.loop-tried.pass in
+    let gives = c.give_up-is_refilled in
+    given_afresh b c.args.policy.deadline c.in-Some.segment gives.result.1 q gives.new.pass
+    (subst (λ made. GivesUp b c.in-Some.segment c.args.policy.deadline made gives.result.1 q gives.new.pass) c.if-is_refilled.true gives.ensures.gives_up)
 
 pub returns-then-is_refilled-clause-arranges : goal.returns-then-is_refilled-clause-arranges
 returns-then-is_refilled-clause-arranges c = (room_made c).arranges

@@ -1,9 +1,13 @@
-use Rattle.std.proofs.Common.{refl, ◌∙◌, subst, arith}
+use Rattle.std.proofs.Common.{◌≤◌, refl, ◌∙◌, subst, arith}
+use Rattle.std.specs.Prelude.{min}
+use Rattle.segword.specs.Words.{most_span}
 use Rattle.segindex.specs.Words.{board_of}
-use Rattle.segclient.specs.PutParts.{MakesRoom, most_for_room}
+use Rattle.segwrite.specs.Words.{or_one}
+use Rattle.segclient.specs.PutParts.{MakesRows, most_for_room}
 use Rattle.segclient.specs.Puts.{deadline_of}
 use Rattle.segclient.proofs.Added.{counted_too, room_memo}
 use Rattle.segclient.proofs.Few.{room_few}
+use Rattle.segclient.proofs.Left.{if_several, most_few}
 use Rattle.segclient.proofs.member.Member.make_room.Goals as goal
 
 pub returns-clause-makes : goal.returns-clause-makes
@@ -11,13 +15,14 @@ returns-clause-makes c =
     let old = c.args.self.now in
     let b = board_of c.args.index.now in
     let room = c.make_room_by-is_made in
-    let made = subst (λ policy. MakesRoom b policy.cutoff policy.deadline (most_for_room b.shape) room.result.0 room.result.1 old.pass room.new.pass) c.policy-policy.ensures room.ensures.room in
+    let rows = or_one (min most_span b.shape.rows) in
+    let made = subst (λ policy. MakesRows b policy.cutoff policy.deadline (most_for_room b.shape) rows room.result.0 room.result.1 old.pass room.new.pass) c.policy-policy.ensures room.ensures.room in
     record {
       calls = made.arranges.calls;
       makes = made.arranges.makes;
       room = made.room;
       deadline = made.until;
-      refused = made.refused;
+      refused = λ none. made.refused none (if_several (rows ≤ b.shape.rows) (λ several. most_few b.shape.rows c.requires.member.0.pass.valid.0.1.0));
       memo = room_memo b old.cutoff (deadline_of old) made.arranges.calls old.pass room.new.pass c.requires.member.0 made.arranges.makes;
       stats = c.count_effort.ensures ∙ counted_too made.arranges.calls room.result.1 old.stats made.arranges.comes;
       draws = refl;

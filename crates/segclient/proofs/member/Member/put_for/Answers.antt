@@ -2,7 +2,8 @@ use Rattle.std.proofs.Common.{◌≡◌, Some, true, false, refl, sym, ap, ◌�
 use Rattle.segmodel.specs.declared.request.Request.TheVariants.{Set}
 use Rattle.segbase.specs.Words.{number}
 use Rattle.segindex.specs.Words.{board_of}
-use Rattle.segstore.specs.Words.{has_room}
+use Rattle.segstore.specs.Words.{has_room_for}
+use Rattle.segwrite.specs.Words.{rows_of}
 use Rattle.segclient.specs.Clearing.{Clears}
 use Rattle.segclient.specs.Counting.{cleared_too, counted}
 use Rattle.segclient.specs.PutCalls.{Plan}
@@ -12,6 +13,7 @@ use Rattle.segclient.specs.Tallies.{put_tally}
 use Rattle.segclient.proofs.Added.{chosen_on, counted_too, put_memo}
 use Rattle.segclient.proofs.Cleared.{member_goes, nothing_stays}
 use Rattle.segclient.proofs.Lasting.{put_for}
+use Rattle.segclient.proofs.Left.{asked_some, room_for_one}
 use Rattle.segclient.proofs.Setting.{not_outside}
 use Rattle.segclient.proofs.Steps.{clears_come, steps_counted}
 use Rattle.segclient.proofs.member.Member.put_for.Goals as goal
@@ -38,7 +40,9 @@ returns-clause-puts c =
     let effort = put.result.1 in
     let q = put.new.pass in
     let after = c.clear_after-cleared in
-    let plan : Plan = record { request = Some (Set c.args.key.now c.args.value.now old.clock); cutoff = old.cutoff; deadline = policy.deadline; span = policy.span } in
+    let request = Set c.args.key.now c.args.value.now old.clock in
+    let rows = rows_of request in
+    let plan : Plan = record { request = Some request; cutoff = old.cutoff; deadline = policy.deadline; span = policy.span } in
     let whole : PutsWhole b plan (most_calls b.shape) told effort chosen q =
     subst (λ cutoff. PutsWhole b (record {
       request = Some (Set c.args.key.now c.args.value.now old.clock);
@@ -67,21 +71,21 @@ returns-clause-puts c =
       between = q;
       chooses = c.choose.ensures.chooses;
       makes = whole.makes;
-      answer = subst (λ n. IsPutAnswer b.shape n told whole.calls) from.on.same whole.answer;
-      stored = put_for b plan (number chosen) told whole.calls chosen q from.on.quiet whole.answer whole.makes;
+      answer = subst (λ n. IsPutAnswer b.shape n rows told whole.calls) from.on.same whole.answer;
+      stored = put_for b plan (number chosen) rows told whole.calls chosen q from.on.quiet whole.answer whole.makes;
       not_stored = whole.not_stored;
       tries = whole.tries;
       spares = λ deadline stores within left.
           let inside = not_outside policy.span deadline old.pass stores within in
-          let same = c.choose.ensures.stays inside left in
-          whole.spares (subst (λ r. is_outside policy.span r ≡ false) (sym same) inside) (subst (λ r. has_room b.shape r ≡ true) (sym same) left);
+          let same = c.choose.ensures.stays inside (room_for_one b.shape rows old.pass (asked_some (Some request)) left) in
+          whole.spares (subst (λ r. is_outside policy.span r ≡ false) (sym same) inside) (subst (λ r. has_room_for b.shape rows r ≡ true) (sym same) left);
       steps = some.steps;
       clears = clears;
       few_steps = some.few;
       unasked = cleared.unasked;
       unqueued = λ none. cleared.unqueued (put.ensures.queues ∙ none);
       memo = (clears_come b old.cutoff some.steps q after.new.pass put.ensures.on.quiet clears).memo
-          ∙ put_memo b plan (number chosen) told whole.calls chosen q from.on.quiet whole.answer whole.not_stored whole.makes ∙ from.memo;
+          ∙ put_memo b plan (number chosen) rows told whole.calls chosen q from.on.quiet whole.answer whole.not_stored whole.makes ∙ from.memo;
       stats = c.count.ensures ∙ ap (λ tally. counted tally c.count_effort-2.new.self) c.of_put.ensures
           ∙ ap (counted (put_tally told)) (c.count_effort-2.ensures ∙ steps_counted some.steps after.result c.count_effort.new.self some.comes
           ∙ ap (cleared_too some.steps) (c.count_effort.ensures ∙ counted_too whole.calls effort old.stats whole.comes));
