@@ -54,6 +54,9 @@
 #include <stddef.h>
 #include <stdint.h>
 #include <string.h>
+#ifdef __GLIBC__
+#include <malloc.h>
+#endif
 
 #ifdef __cplusplus
 extern "C" {
@@ -91,14 +94,15 @@ enum {
 #ifdef SEGCACHE_WIDE
 #define SEGCACHE_MAX_KEY 250u
 #define SEGCACHE_MAX_VALUE 4064u
+#define SEGCACHE_STACK 131072u /* bytes of stack that are enough for each call: measured, with a call of malloc */
 #else
 #define SEGCACHE_MAX_KEY 24u
 #define SEGCACHE_MAX_VALUE 32u
+#define SEGCACHE_STACK 16384u
 #endif
 #define SEGCACHE_SIZES (SEGCACHE_MAX_KEY << 16 | SEGCACHE_MAX_VALUE) /* of this header: both numbers in one */
 #define SEGCACHE_MAX_THREADS 64u
-#define SEGCACHE_AHEAD 16u    /* keys that a look ahead takes at a time */
-#define SEGCACHE_STACK 16384u /* bytes of stack that are enough for each call: measured, with a call of malloc */
+#define SEGCACHE_AHEAD 16u /* keys that a look ahead takes at a time */
 
 /* What a handle is to the library. Its content is the library's own. */
 typedef struct segcache_handle {
@@ -272,6 +276,9 @@ static inline uint32_t segcache_hand_out(uint32_t status, segcache_handle made, 
   memset(cache, 0, sizeof *cache);
   for (i = 0; i < count; i++) memset(&clients[i], 0, sizeof clients[i]);
   if (status != SEGCACHE_OK) return status;
+#ifdef __GLIBC__
+  malloc_trim(0); /* The table that only the opening needed can lie between others, and would stay resident. */
+#endif
   cache->raw = made;
   cache->number = __atomic_add_fetch(&segcache_opened, 1, __ATOMIC_RELAXED);
   SEGCACHE_LIVES(cache);
@@ -342,6 +349,7 @@ static inline uint32_t segcache_open_items(uint32_t items, uint32_t mean_bytes, 
 
 /* The same for a number of bytes: a cache for so many threads that takes no more, also while it is opened. What the
    opening needs for a moment, one table, is free afterwards: half of a budget up to 8 MiB, a ninth of 64 to 256 MiB.
+   Under glibc an opening gives it back to the system by malloc_trim, as it does with what else is free.
    Notes and a close take more. All threads are to store about as much each. In the wide build an item is taken to have
    four rows on the mean, about 230 bytes of key and value. Shorter ones run out of buckets first, and longer ones out of
    rows; the cache takes no more than its bytes in either case. BAD_SHAPE comes also if even the smallest cache takes

@@ -152,9 +152,22 @@ impl Builder {
         if status != 0 {
             return Err(Error::of(status));
         }
+        give_back_unused();
         let shared = Arc::new(Shared { handle: Mutex::new(cache) });
         let clients = clients.into_iter().map(|handle| Client::new(Arc::clone(&shared), handle));
         Ok((Cache { shared: Arc::clone(&shared) }, clients.collect()))
+    }
+}
+
+/// Gives the table that only the opening needed back to the system. It may lie between others, and would stay resident.
+fn give_back_unused() {
+    #[cfg(all(target_env = "gnu", not(miri)))]
+    {
+        extern "C" {
+            fn malloc_trim(pad: usize) -> std::ffi::c_int;
+        }
+        // SAFETY: any thread may call it at any time.
+        unsafe { malloc_trim(0) };
     }
 }
 
