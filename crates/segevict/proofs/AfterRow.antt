@@ -13,7 +13,7 @@ use Rattle.segstore.specs.Words.{Idles, IsQuiet, memo}
 use Rattle.segstore.proofs.Keeping.{AreCalmIn, calm_in}
 use Rattle.segstore.proofs.Bounces.{bounces_calm}
 use Rattle.segstore.proofs.Idling.{does_nothing}
-use Rattle.segwrite.specs.Words.{more, one_more}
+use Rattle.segwrite.specs.Words.{more}
 use Rattle.segwrite.proofs.Filling.{fills_calm}
 use Rattle.segwrite.proofs.Places.{idles_then}
 use Rattle.segevict.specs.declared.retention.KeepRowAnswer.TheVariants as kept
@@ -60,9 +60,6 @@ module _ (into : ℕ) (p q : Pass) where
     holds = ap (λ (x : PlainPart). x.is_holding) plain;
     memo = same;
   }
-
-  pub uses_one : q.plain ≡ with_own into one_more p.plain → memo q ≡ memo p → UsesRows into 1 p q
-  uses_one = uses_more 1
 
 pub uses_then : (into m n all : ℕ) (p q r : Pass) → m + n ≡ all → UsesRows into m p q → UsesRows into n q r → UsesRows into all p r
 uses_then into m n all p q r sum i j = record {

@@ -12,7 +12,8 @@ use Rattle.segmodel.specs.Words.{Reply, reply_in, reply_of_delete, ServesDelete}
 use Rattle.segmodel.specs.Serving as model
 use Rattle.segbase.specs.Words.{Board, number, Pass, seen}
 use Rattle.segwrite.specs.Words.{AddsReply, Deletes}
-use Rattle.segsolo.specs.Alone.{keys_stored_in, state_at, IsAlone, ServesAlone}
+use Rattle.segsolo.specs.Alone.{state_at, IsAlone, ServesAlone}
+use Rattle.segsolo.specs.Stored.{items_stored_in}
 use Rattle.segindex.proofs.OnePass.{busy_by_lock}
 use Rattle.segsolo.proofs.AlonePass.{more_seen, as_replied, counts_replied, reply_then, left, locked_here, free_here}
 use Rattle.segsolo.proofs.AloneRows.{frequencies_replied, frequencies_still, served, served_still, still_named, reply_unstored}
@@ -31,7 +32,7 @@ module _ (b : Board) (p q : Pass) (key : List ℕ) (now : ℕ) (was : IsAlone b 
 
   -- replied by one entry
   replied : (r : Reply) → told ≢ delete.Busy → reply_of_delete told ≡ Some r → AddsReply (Delete key now) r p q
-      → ((s : ℕ) → keys_stored_in (Wrote (number p) (Delete key now) r None ∷ seen p) s ≡ keys_stored_in (seen p) s)
+      → ((s : ℕ) → items_stored_in b.shape (Wrote (number p) (Delete key now) r None ∷ seen p) s ≡ items_stored_in b.shape (seen p) s)
       → after_reply b.shape (Delete key now) r (state_at b.shape p) ≡ record (state_at b.shape p) { cache = after b.shape (Wrote (number p) (Delete key now) r None ∷ seen p) }
       → ServesAlone b (command.Write (Delete key now)) (answer.Delete told) p q
   replied r other is_reply answered keeps leaves = served b (command.Write (Delete key now)) (answer.Delete told) p q was is.on.quiet

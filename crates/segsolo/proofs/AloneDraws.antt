@@ -1,5 +1,5 @@
 -- With one pass and any draw, a get and a gets are served as the model says, but for the frequencies of items.
-use Rattle.std.proofs.Common.{◌≡◌, ℕ, zero, suc, Bool, true, false, cond, eqb, List, [], length, Option, Some, None, option_map, refl, sym, ap, subst, ◌∙◌}
+use Rattle.std.proofs.Common.{◌≡◌, ℕ, Bool, true, false, cond, eqb, List, [], length, Option, Some, None, option_map, refl, sym, ap, subst, ◌∙◌}
 use Rattle.std.proofs.lemmas.Bool.{eqb-true}
 use Rattle.segword.specs.Words.{Shape}
 use Rattle.segmodel.specs.declared.answer.Answer.TheVariants as answer
@@ -12,17 +12,15 @@ use Rattle.segindex.proofs.Since.{get_since, gets_since}
 use Rattle.segstore.specs.Words.{ChangesNothing, DrawsNothing, GoesOn}
 use Rattle.segread.specs.Words.{ReadsKey, ReadsVersion}
 use Rattle.segstore.proofs.Keeping.{stored_in}
-use Rattle.segsolo.specs.Alone.{frequencies_in, IsAlone, item_of, keys_stored_in, of_rows, or_empty, ServesAlone, ServesButFrequencies, state_at, with_frequencies}
+use Rattle.segsolo.specs.Alone.{frequencies_in, IsAlone, item_of, or_empty, ServesAlone, ServesButFrequencies, state_at, with_frequencies}
+use Rattle.segsolo.specs.Stored.{items_stored_in, keys_stored_in}
 use Rattle.segsolo.proofs.AlonePass.{at_state, counts_still, same_seen}
 use Rattle.segsolo.proofs.AloneReads.{got, versioned}
 use Rattle.segsolo.proofs.AloneRows.{still_named}
 use Rattle.segsolo.proofs.AloneWidths.{same_widths}
+use Rattle.segsolo.proofs.Rows.{as_many, items_some}
 
 -- ---- states that differ in frequencies
-
-of_rows_long : (f : ℕ → ℕ) (row count : ℕ) → length (of_rows f row count) ≡ count
-of_rows_long f row zero = refl
-of_rows_long f row (suc count) = ap suc (of_rows_long f (suc row) count)
 
 -- what is sound is so with other frequencies, if there are as many
 sound_with : (shape : Shape) (frequencies : ℕ → List ℕ) (state : State)
@@ -71,21 +69,21 @@ module _ (b : Board) (p q : Pass) (was : IsAlone b p) (on : GoesOn b p q) (undra
   same : seen q ≡ seen p
   same = same_seen b p q was on.quiet nothing.entries
 
-  at_frequencies : state_at b.shape q ≡ with_frequencies (frequencies_in q) (state_at b.shape p)
+  at_frequencies : state_at b.shape q ≡ with_frequencies (frequencies_in b.shape q) (state_at b.shape p)
   at_frequencies = let widths = same_widths b p q was on undrawn in
-      at_state b.shape q (with_frequencies (frequencies_in q) (state_at b.shape p)) (ap (after b.shape) same)
+      at_state b.shape q (with_frequencies (frequencies_in b.shape q) (state_at b.shape p)) (ap (after b.shape) same)
       (λ segment. ap (λ (x : PlainPart). or_empty (state_in (own_segment x segment))) nothing.plain)
-      (λ segment. ap (λ h. keys_stored_in h segment) same) (λ segment. refl) (ap (λ (x : PlainPart). x.current) nothing.plain) widths.wide widths.drawn
+      (λ segment. ap (λ h. keys_stored_in b.shape h segment) same) (λ segment. refl) (ap (λ (x : PlainPart). x.current) nothing.plain) widths.wide widths.drawn
       (ap (λ (m : Memo). option_map item_of m.holding) nothing.memo) (ap (λ (x : PlainPart). x.locked) nothing.plain)
 
   still_alone : IsAlone b q
   still_alone = record {
     one = was.one;
     quiet = on.quiet;
-    used = counts_still p q was.used same (ap stored_in nothing.plain);
+    used = counts_still b.shape p q was.used same (ap stored_in nothing.plain);
     rows = still_named b p q [] was on nothing.entries tt;
-    kept = subst (IsSound b.shape) (sym at_frequencies) (sound_with b.shape (frequencies_in q) (state_at b.shape p)
-        (λ segment. of_rows_long _ 0 (length (keys_stored_in (seen q) segment)) ∙ ap (λ h. length (keys_stored_in h segment)) same) was.kept);
+    kept = subst (IsSound b.shape) (sym at_frequencies) (sound_with b.shape (frequencies_in b.shape q) (state_at b.shape p)
+        (λ segment. as_many _ _ 0 (items_stored_in b.shape (seen q) segment) (items_some b.shape (seen q) segment) ∙ ap (λ h. length (keys_stored_in b.shape h segment)) same) was.kept);
   }
 
 -- ---- what is served
@@ -101,7 +99,7 @@ get_served b p q key draw now told was is =
       still_alone b p q was is.on is.costs.looks.draws_nothing is.keeps,
       after_hit key found (state_at b.shape p),
       (ap answer.Get (got b p q key now was is.on is.keeps told (get_since b.shape key now told p q is.answer)), refl),
-      (frequencies_in q, at_frequencies b p q was is.on is.costs.looks.draws_nothing is.keeps ∙ sym (hit_with (frequencies_in q) key found (state_at b.shape p))),
+      (frequencies_in b.shape q, at_frequencies b p q was is.on is.costs.looks.draws_nothing is.keeps ∙ sym (hit_with (frequencies_in b.shape q) key found (state_at b.shape p))),
     )
 
 pub gets_served : (b : Board) (p q : Pass) (key : List ℕ) (draw now : ℕ) (told : GetsAnswer) → IsAlone b p
@@ -112,5 +110,5 @@ gets_served b p q key draw now told was is =
       still_alone b p q was is.on is.costs.looks.draws_nothing is.keeps,
       cond locked (state_at b.shape p) (after_hit key found (state_at b.shape p)),
       (ap answer.Gets (versioned b p q key now was is.on is.keeps told is.unlocked (gets_since b.shape key now told p q is.answer)), refl),
-      (frequencies_in q, at_frequencies b p q was is.on is.costs.looks.draws_nothing is.keeps ∙ sym (if_hit_with (frequencies_in q) locked key found (state_at b.shape p))),
+      (frequencies_in b.shape q, at_frequencies b p q was is.on is.costs.looks.draws_nothing is.keeps ∙ sym (if_hit_with (frequencies_in b.shape q) locked key found (state_at b.shape p))),
     )

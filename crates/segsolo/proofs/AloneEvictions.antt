@@ -16,7 +16,7 @@ use Rattle.segmodel.proofs.HistoryLemmas.{standing-without}
 use Rattle.segmodel.proofs.Keys.{same_key, at_self}
 use Rattle.segmodel.proofs.Ordered.{Above, sorted-after}
 use Rattle.segcore.proofs.KeyCounts.{count_without, if_there}
-use Rattle.segsolo.specs.Alone.{keys_stored_in}
+use Rattle.segsolo.specs.Stored.{items_stored_in}
 use Rattle.segevict.specs.Words.{AreEvictions}
 use Rattle.segmodel.proofs.Words.{above_absent}
 use Rattle.segsolo.proofs.AloneRows.{AreUnstored}
@@ -166,12 +166,12 @@ module _ (shape : Shape) (pass segment : ℕ) (history : List Entry) where
       is_there (Some item) some = refl
 
   -- what was stored in segments stays told
-  pub stored_still : (s : ℕ) (evictions : List Entry) → AreEvictions pass segment evictions → keys_stored_in (evictions ++ history) s ≡ keys_stored_in history s
-  stored_still s = by_eviction (λ evictions. keys_stored_in (evictions ++ history) s ≡ keys_stored_in history s) pass segment refl (λ key more all rest. rest)
+  pub stored_still : (s : ℕ) (evictions : List Entry) → AreEvictions pass segment evictions → items_stored_in shape (evictions ++ history) s ≡ items_stored_in shape history s
+  stored_still s = by_eviction (λ evictions. items_stored_in shape (evictions ++ history) s ≡ items_stored_in shape history s) pass segment refl (λ key more all rest. rest)
 
 -- they store nothing
 pub evictions_unstored : (pass segment : ℕ) (evictions : List Entry) → AreEvictions pass segment evictions → AreUnstored evictions
-evictions_unstored pass segment = by_eviction AreUnstored pass segment tt (λ key more all rest. ((refl, λ history s. refl), rest))
+evictions_unstored pass segment = by_eviction AreUnstored pass segment tt (λ key more all rest. ((refl, λ shape history s. refl), rest))
 
 -- where no entry is of a bucket, no key of it is evicted
 pub evicts_none : (shape : Shape) (pass segment bucket : ℕ) (key : List ℕ) (evictions : List Entry) → AreEvictions pass segment evictions → entries_of shape bucket evictions ≡ 0

@@ -27,7 +27,8 @@ use Rattle.segevict.proofs.Evictions.{emptied_state}
 use Rattle.segstore.specs.Words.{DrawsNothing, GoesOn, RaisesNothing}
 use Rattle.segevict.specs.Words.{ended, IsEvictAnswer, IsInTheWay, StoodIn, TakesOut}
 use Rattle.segindex.proofs.Since.{between_since}
-use Rattle.segsolo.specs.Alone.{frequencies_in, keys_stored_in, or_empty, item_of, state_at, CountsRows, IsAlone, ServesAlone, NamesLastRows}
+use Rattle.segsolo.specs.Alone.{frequencies_in, or_empty, item_of, state_at, CountsRows, IsAlone, ServesAlone, NamesLastRows}
+use Rattle.segsolo.specs.Stored.{items_stored_in, keys_of_rows, keys_stored_in}
 use Rattle.segindex.proofs.QuietPass.{none_since}
 use Rattle.segsolo.proofs.AlonePass.{frequencies_as, more_seen, at_state, not_own, own_is, locked_here}
 use Rattle.segsolo.proofs.AloneRows.{bring_nothing, frequencies_kept, served, still_named}
@@ -104,10 +105,13 @@ module _ (b : Board) (p q : Pass) (segment count : ℕ) (was : IsAlone b p) (on 
       ap (λ (c : Cache). length c.items) (items_left b.shape (number p) segment (seen p) takes.evictions takes.all) ∙ ap (λ (l : List (List ℕ × Cached)). length l) (left_items goes same) in
       let counted = takes.counted in omega arith
 
-  keys_then : (s : ℕ) → keys_stored_in (seen q) s ≡ keys_stored_in (seen p) s
-  keys_then s = ap (λ h. keys_stored_in h s) more ∙ stored_still b.shape (number p) segment (seen p) s takes.evictions takes.all
+  items_then : (s : ℕ) → items_stored_in b.shape (seen q) s ≡ items_stored_in b.shape (seen p) s
+  items_then s = ap (λ h. items_stored_in b.shape h s) more ∙ stored_still b.shape (number p) segment (seen p) s takes.evictions takes.all
 
-  counts : CountsRows q
+  keys_then : (s : ℕ) → keys_stored_in b.shape (seen q) s ≡ keys_stored_in b.shape (seen p) s
+  keys_then s = ap keys_of_rows (items_then s)
+
+  counts : CountsRows b.shape q
   counts s n is = was.used s n (sym (ap (λ r. r.0 s) rest) ∙ is) ∙ ap (λ (keys : List (List ℕ)). length keys) (sym (keys_then s))
 
   -- an item that is evicted is in the segment, and in no locked bucket
@@ -118,15 +122,15 @@ module _ (b : Board) (p q : Pass) (segment count : ℕ) (was : IsAlone b p) (on 
   at_taken : (goes : List ℕ × Cached → Bool) (filling : ℕ → Filling)
       → ((key : List ℕ) (item : Cached) → standing (after b.shape (seen p)) key ≡ Some item
       → is_evicted takes.evictions key ≡ goes (key, item))
-      → ((s : ℕ) → or_empty (state_of q s) ≡ (filling s).state) → ((s : ℕ) → keys_stored_in (seen p) s ≡ (filling s).keys)
-      → ((s : ℕ) → frequencies_in p s ≡ (filling s).frequencies) → state_at b.shape q ≡ record (taken_out segment goes (state_at b.shape p)) { filling = filling }
+      → ((s : ℕ) → or_empty (state_of q s) ≡ (filling s).state) → ((s : ℕ) → keys_stored_in b.shape (seen p) s ≡ (filling s).keys)
+      → ((s : ℕ) → frequencies_in b.shape p s ≡ (filling s).frequencies) → state_at b.shape q ≡ record (taken_out segment goes (state_at b.shape p)) { filling = filling }
   at_taken goes filling same states keys frequencies =
       let widths = same_widths b p q was on undrawn in
       at_state b.shape q (record (taken_out segment goes (state_at b.shape p)) { filling = filling })
       (cache_left goes same) states (λ s. keys_then s
-      ∙ keys s) (λ s. frequencies_as p q s (frequencies_kept b p q was on takes.evictions takes.entries
+      ∙ keys s) (λ s. frequencies_as b.shape p q s (frequencies_kept b p q was on takes.evictions takes.entries
       (bring_nothing takes.evictions (evictions_unstored (number p) segment takes.evictions takes.all))
-      unraised) (keys_then s) ∙ frequencies s)
+      unraised) (items_then s) ∙ frequencies s)
       (ap (λ r. r.1) rest) widths.wide widths.drawn (ap (λ (m : Memo). option_map item_of m.holding) takes.memo) (ap (λ r. r.2) rest)
 
   -- ---- Evicted
@@ -144,7 +148,7 @@ module _ (b : Board) (p q : Pass) (segment count : ℕ) (was : IsAlone b p) (on 
         (λ there. all_evicted key (stands_there (standing (after b.shape (seen p)) key) segment key item is there))
 
     abbrev emptied : Filling
-    emptied = record { state = Evicted; keys = keys_stored_in (seen p) segment; frequencies = frequencies_in p segment }
+    emptied = record { state = Evicted; keys = keys_stored_in b.shape (seen p) segment; frequencies = frequencies_in b.shape p segment }
 
     state_then : (s : ℕ) → or_empty (state_of q s) ≡ (with_at (state_at b.shape p).filling segment emptied s).state
     state_then = by_segment (λ s. or_empty (state_of q s) ≡ (with_at (state_at b.shape p).filling segment emptied s).state) segment
@@ -154,18 +158,18 @@ module _ (b : Board) (p q : Pass) (segment count : ℕ) (was : IsAlone b p) (on 
         ∙ sym (ap (λ (f : Filling). f.state) (with_at-other (state_at b.shape p).filling segment s emptied
         ne))))
 
-    same_keys : (s : ℕ) → keys_stored_in (seen p) s ≡ (with_at (state_at b.shape p).filling segment emptied s).keys
+    same_keys : (s : ℕ) → keys_stored_in b.shape (seen p) s ≡ (with_at (state_at b.shape p).filling segment emptied s).keys
     same_keys s = by (eqb segment s) (eqb-true segment s)
       where
-        by : (here : Bool) → (here ≡ true → segment ≡ s) → keys_stored_in (seen p) s ≡ (cond here emptied ((state_at b.shape p).filling s)).keys
-        by true same = ap (keys_stored_in (seen p)) (sym (same refl))
+        by : (here : Bool) → (here ≡ true → segment ≡ s) → keys_stored_in b.shape (seen p) s ≡ (cond here emptied ((state_at b.shape p).filling s)).keys
+        by true same = ap (keys_stored_in b.shape (seen p)) (sym (same refl))
         by false same = refl
 
-    same_frequencies : (s : ℕ) → frequencies_in p s ≡ (with_at (state_at b.shape p).filling segment emptied s).frequencies
+    same_frequencies : (s : ℕ) → frequencies_in b.shape p s ≡ (with_at (state_at b.shape p).filling segment emptied s).frequencies
     same_frequencies s = by (eqb segment s) (eqb-true segment s)
       where
-        by : (here : Bool) → (here ≡ true → segment ≡ s) → frequencies_in p s ≡ (cond here emptied ((state_at b.shape p).filling s)).frequencies
-        by true same = ap (frequencies_in p) (sym (same refl))
+        by : (here : Bool) → (here ≡ true → segment ≡ s) → frequencies_in b.shape p s ≡ (cond here emptied ((state_at b.shape p).filling s)).frequencies
+        by true same = ap (frequencies_in b.shape p) (sym (same refl))
         by false same = refl
 
     pub evicts_all : Evicts b.shape (state_at b.shape p) segment (evict.Evicted count) (state_at b.shape q)
@@ -204,16 +208,16 @@ module _ (b : Board) (p q : Pass) (segment count : ℕ) (was : IsAlone b p) (on 
         let earlier = on_the_way (number p) segment takes.evictions way.1.0 way.0.0 (seen p) takes.all (sym more ∙ (way.1.1 ∙ ap (λ h. way.1.0 ++ h) way.0.1)) in
         (stood_before b.shape (number p) segment (seen p) barred.0 way.0.0 earlier (subst (λ h. StandsIn (after b.shape h) barred.0 segment) way.0.1 at.2.2)).1
 
-    was_stored : list_any (is_at (key_cmp barred.0)) (keys_stored_in (seen p) segment) ≡ true
+    was_stored : list_any (is_at (key_cmp barred.0)) (keys_stored_in b.shape (seen p) segment) ≡ true
     was_stored =
         let found = found_there (standing (after b.shape (seen p)) barred.0) segment stood in
         let passes = found_passes (is_stored (state_at b.shape p).filling) barred.0 found.0 (after b.shape (seen p)).items was.kept.items found.1 in
-        subst (λ s. list_any (is_at (key_cmp barred.0)) (keys_stored_in (seen p) s) ≡ true) found.2 (both _ _ passes).1
+        subst (λ s. list_any (is_at (key_cmp barred.0)) (keys_stored_in b.shape (seen p) s) ≡ true) found.2 (both _ _ passes).1
 
     pub evicts_some : Evicts b.shape (state_at b.shape p) segment (evict.Busy count) (state_at b.shape q)
     evicts_some = (
-      Any-from_list_any (is_locked b.shape (state_at b.shape p)) (keys_stored_in (seen p) segment)
-          (any_of (is_locked b.shape (state_at b.shape p)) barred.0 (keys_stored_in (seen p) segment) was_stored (locked_here b.shape p barred.0 has_locked)),
+      Any-from_list_any (is_locked b.shape (state_at b.shape p)) (keys_stored_in b.shape (seen p) segment)
+          (any_of (is_locked b.shape (state_at b.shape p)) barred.0 (keys_stored_in b.shape (seen p) segment) was_stored (locked_here b.shape p barred.0 has_locked)),
       (is_evicted takes.evictions, count_left goes same_some, at_taken goes (state_at b.shape p).filling same_some state_still (λ s. refl) (λ s. refl)),
     )
 
@@ -221,7 +225,7 @@ module _ (b : Board) (p q : Pass) (segment count : ℕ) (was : IsAlone b p) (on 
 
 module _ (b : Board) (p q : Pass) (segment : ℕ) (was : IsAlone b p) (on : GoesOn b p q) (undrawn : DrawsNothing p q) (unraised : RaisesNothing p q) where
   -- a command on an own segment
-  own_serves : (told : EvictAnswer) (state : SegState) → CountsRows q → NamesLastRows b.shape q
+  own_serves : (told : EvictAnswer) (state : SegState) → CountsRows b.shape q → NamesLastRows b.shape q
       → state_of p segment ≡ Some state → ServesEvict b.shape (state_at b.shape p) segment state told
       (state_at b.shape q)
       → ServesAlone b (command.Evict segment) (answer.Evict told) p q
@@ -235,8 +239,8 @@ module _ (b : Board) (p q : Pass) (segment : ℕ) (was : IsAlone b p) (on : Goes
         (subst (λ o. ServesEvict b.shape (state_at b.shape p) segment (or_empty o) told (state_at b.shape q)) (sym is) serves),
   )
 
-  still : q ≡ p → CountsRows q
-  still same = subst CountsRows (sym same) was.used
+  still : q ≡ p → CountsRows b.shape q
+  still same = subst (CountsRows b.shape) (sym same) was.used
 
   still_names : q ≡ p → NamesLastRows b.shape q
   still_names same = subst (NamesLastRows b.shape) (sym same) was.rows

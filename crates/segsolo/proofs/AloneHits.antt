@@ -1,5 +1,5 @@
 -- With one pass, a hit with the draw 0 raises the frequency of the row that the key's item names, as the model does.
-use Rattle.std.proofs.Common.{◌≡◌, ℕ, ◌+◌, ◌<◌, ◌≤◌, ◌%◌, ◌&&◌, ◌||◌, nat_lt, Bool, true, false, cond, eqb, List, [], ◌∷◌, ◌++◌, length, Option, Some, None, option_map, refl, sym, ap, subst, ◌∙◌, inl, inr, append_assoc, arith, eq-eqb}
+use Rattle.std.proofs.Common.{◌≡◌, ℕ, ◌+◌, ◌<◌, ◌≤◌, ◌%◌, ◌&&◌, ◌||◌, nat_lt, Bool, true, false, cond, eqb, List, [], ◌∷◌, ◌++◌, Option, Some, None, option_map, refl, sym, ap, subst, ◌∙◌, inl, inr, append_assoc, arith, eq-eqb}
 use Rattle.std.proofs.lemmas.Bool.{and_from, cases_lt, eqb-true, false≢true, lt-ltb}
 use Rattle.std.proofs.lemmas.List.{append_cancel_right}
 use Rattle.std.proofs.lemmas.Option.{none-some, same_Some}
@@ -20,15 +20,16 @@ use Rattle.segbase.specs.Words.{state_in, state_of, trace}
 use Rattle.segstore.specs.Words.{ChangesNothing, DrawsNothing, GoesOn, RaisesNothing}
 use Rattle.segread.specs.Hits.{CountsHit, PassesHit, RaisesFrom, RaisesOne}
 use Rattle.segindex.proofs.Since.{raises_since}
-use Rattle.segsolo.specs.Alone.{frequencies_in, item_of, IsAlone, keys_stored_in, of_rows, or_empty, state_at}
+use Rattle.segsolo.specs.Alone.{frequencies_in, item_of, IsAlone, or_empty, state_at}
+use Rattle.segsolo.specs.Stored.{came_with, frequencies_of, items_stored_in, keys_stored_in}
 use Rattle.segsolo.proofs.AlonePass.{at_state, left, same_moment, same_seen}
 use Rattle.segsolo.proofs.AloneRefills.{by_segment, with_at-other, with_at-same}
-use Rattle.segsolo.proofs.AloneRows.{frequencies_still, raised_alone}
+use Rattle.segsolo.proofs.AloneRows.{added_entries, frequencies_still, raised_alone}
 use Rattle.segsolo.proofs.AloneWidths.{same_widths}
 use Rattle.segsolo.proofs.Grown.{entries_joined}
-use Rattle.segsolo.proofs.Marks.{BringNothing, keeps_frequencies, keeps_lasts}
+use Rattle.segsolo.proofs.Marks.{BringNothing, keeps_came, keeps_frequencies, keeps_lasts}
 use Rattle.segsolo.proofs.Pairs.{all_raised, IsPaired, marked_paired, raised_joined}
-use Rattle.segsolo.proofs.Rows.{raised_last}
+use Rattle.segsolo.proofs.Rows.{items_some, raised_last}
 
 -- what is found at a moment stands
 stood : (deadline : ℕ → ℕ) (now : ℕ) (o : Option Cached) (item : Cached) → unless_expired deadline now o ≡ Some item → o ≡ Some item
@@ -182,10 +183,10 @@ module _ (b : Board) (p q : Pass) (was : IsAlone b p) (on : GoesOn b p q) (nothi
     stands = ap (λ h. standing (after b.shape h) key) (sym (then hit.at hit.since hit.until)) ∙ hit.had.stands;
     last = sym (last_then hit.at hit.since hit.until key) ∙ hit.had.last;
     raises = record {
-      here = frequencies_still b p q was on nothing.entries still hit.segment hit.row
+      here = (frequencies_still b p q was on nothing.entries still hit.segment hit.row).0
           ∙ (sym (frequency_then hit.at hit.since hit.until none_first hit.segment hit.row) ∙ (hit.had.had
           ∙ (sym (raises_high hit.frequency hit.uncounted) ∙ ap higher (sym (sym (frequency_then hit.at hit.since hit.until none_first hit.segment hit.row) ∙ hit.had.had)))));
-      others = λ s r apart. frequencies_still b p q was on nothing.entries still s r;
+      others = λ s r apart. (frequencies_still b p q was on nothing.entries still s r).0;
     };
   }
     where
@@ -217,30 +218,35 @@ module _ (b : Board) (p q : Pass) (was : IsAlone b p) (on : GoesOn b p q) (nothi
         by true is = ap (λ s. (old s).state) (sym (is refl))
         by false is = refl
 
-    keys_then : (s : ℕ) → keys_stored_in (seen q) s ≡ (new s).keys
-    keys_then s = ap (λ h. keys_stored_in h s) same ∙ by (eqb item.segment s) (eqb-true item.segment s)
+    keys_then : (s : ℕ) → keys_stored_in b.shape (seen q) s ≡ (new s).keys
+    keys_then s = ap (λ h. keys_stored_in b.shape h s) same ∙ by (eqb item.segment s) (eqb-true item.segment s)
       where
         by : (here : Bool) → (here ≡ true → item.segment ≡ s) → (old s).keys ≡ (cond here (raised_in key (old item.segment)) (old s)).keys
         by true is = ap (λ s. (old s).keys) (sym (is refl))
         by false is = refl
 
-    frequencies_now : (s : ℕ) → frequencies_in q s ≡ of_rows (frequency_in (marked q) s) 0 (length (keys_stored_in (seen p) s))
-    frequencies_now s = ap (λ h. of_rows (frequency_in (marked q) s) 0 (length (keys_stored_in h s))) same
+    -- no item came
+    came_still : (s row : ℕ) → came_with (marked q) s row ≡ came_with (marked p) s row
+    came_still s row = ap (λ marks. came_with marks s row) on.marked.1
+        ∙ keeps_came on.marked.0 (marked p) (subst (IsPaired None) on.marked.1 (marked_paired (trace q)))
+        (subst BringNothing (sym (added_entries b p q was on [] nothing.entries)) tt) s row
 
-    frequencies_then : (s : ℕ) → frequencies_in q s ≡ (new s).frequencies
-    frequencies_then = by_segment (λ s. frequencies_in q s ≡ (new s).frequencies) item.segment
+    frequencies_now : (s : ℕ) → frequencies_in b.shape q s
+        ≡ frequencies_of (came_with (marked p) s) (frequency_in (marked q) s) 0 (items_stored_in b.shape (seen p) s)
+    frequencies_now s = λ i. frequencies_of (λ row. came_still s row i) (frequency_in (marked q) s) 0 (items_stored_in b.shape (same i) s)
+
+    frequencies_then : (s : ℕ) → frequencies_in b.shape q s ≡ (new s).frequencies
+    frequencies_then = by_segment (λ s. frequencies_in b.shape q s ≡ (new s).frequencies) item.segment
         (frequencies_now item.segment
-        ∙ (raised_last (frequency_in (marked p) item.segment) (frequency_in (marked q) item.segment) key (keys_stored_in (seen p) item.segment) item.row 0
+        ∙ (raised_last key (came_with (marked p) item.segment) (frequency_in (marked p) item.segment) (frequency_in (marked q) item.segment)
+        (items_stored_in b.shape (seen p) item.segment) item.row 0 (items_some b.shape (seen p) item.segment)
         (was.rows key value item.segment item.row item.stands item.last)
-        (λ other apart. item.raises.others item.segment other (λ is. apart (sym is.1 ∙ none)))
-        (subst (λ n. frequency_in (marked q) item.segment n ≡ higher (frequency_in (marked p) item.segment n)) none item.raises.here)
+        item.raises.here
+        (λ other apart. item.raises.others item.segment other (λ is. apart (sym is.1)))
         ∙ sym (ap (λ (f : Filling). f.frequencies) (with_at-same old item.segment item.segment (raised_in key (old item.segment)) refl))))
         (λ s apart. frequencies_now s
-        ∙ ((λ i. of_rows (λ row. item.raises.others s row (λ is. apart is.0) i) 0 (length (keys_stored_in (seen p) s)))
+        ∙ ((λ i. frequencies_of (came_with (marked p) s) (λ row. item.raises.others s row (λ is. apart is.0) i) 0 (items_stored_in b.shape (seen p) s))
         ∙ sym (ap (λ (f : Filling). f.frequencies) (with_at-other old item.segment s (raised_in key (old item.segment)) apart))))
-      where
-        none : item.row ≡ 0 + item.row
-        none = omega arith
 
     at_hit : state_at b.shape q ≡ record (state_at b.shape p) { filling = new }
     at_hit = let widths = same_widths b p q was on undrawn in

@@ -1,24 +1,27 @@
 -- With one pass, a moment of a keep of one row has the items that the call found, and the item that it moves keeps its frequency.
-use Rattle.std.proofs.Common.{◌≡◌, ℕ, ◌+◌, ◌≤◌, ◌&&◌, cond, List, [], ◌∷◌, ◌++◌, Some, None, refl, sym, ap, ◌∙◌, subst, arith, append_assoc, eqb, eq-eqb}
-use Rattle.std.proofs.lemmas.Bool.{and_from, cond-true, le-ltb}
+use Rattle.std.proofs.Common.{◌≡◌, ℕ, ◌+◌, ◌≤◌, ◌&&◌, cond, is_some, List, [], ◌∷◌, ◌++◌, Some, None, refl, sym, ap, ◌∙◌, subst, arith, append_assoc, eqb}
+use Rattle.std.proofs.lemmas.Bool.{false_from_ne_true}
 use Rattle.std.proofs.lemmas.List.{append_cancel_right}
 use Rattle.segword.specs.Words.{Shape}
 use Rattle.segmodel.specs.declared.entry.Entry.TheVariants as entry
 use Rattle.segmodel.specs.Words.{after, Begins, Entry, StandsIn}
+use Rattle.segmodel.proofs.Spans.{left_rows}
 use Rattle.segcore.specs.Mark.{at, bumped, chained, drawn, enters, entered, left, linked_in, last_at, frequency_in, Mark, same_key}
 use Rattle.segcore.specs.Mark as mark
-use Rattle.segcore.specs.Words.{entries, Event, slot}
+use Rattle.segcore.specs.Words.{entries, Event, row_after, slot, span_in}
+use Rattle.segcore.proofs.Spans.{covers-first, header_some}
 use Rattle.segcore.proofs.Marked.{entries_marked}
 use Rattle.segcore.proofs.Moments.{begins_on, marked_begins}
 use Rattle.segbase.specs.Words.{Board, marked, mine, number, Pass, seen, trace}
 use Rattle.segstore.specs.Words.{GoesOn, RaisesNothing}
 use Rattle.segevict.specs.Words.{CarriesItem, HadFrequency}
 use Rattle.segsolo.specs.Alone.{IsAlone}
-use Rattle.segindex.proofs.QuietPass.{rows}
+use Rattle.segsolo.specs.Stored.{came_with}
+use Rattle.segindex.proofs.FirstRows.{used_if_in_item}
 use Rattle.segsolo.proofs.AlonePass.{more_seen, none_if, same_seen}
 use Rattle.segsolo.proofs.AloneRows.{raised_alone}
 use Rattle.segsolo.proofs.Grown.{entries_joined}
-use Rattle.segsolo.proofs.Marks.{BringNothing, BringsItem, keeps_frequencies, keeps_lasts, keeps_rows}
+use Rattle.segsolo.proofs.Marks.{BringNothing, BringsItem, keeps_came, keeps_frequencies, keeps_lasts, keeps_rows}
 use Rattle.segsolo.proofs.Pairs.{all_raised, IsPaired, marked_paired, raised_joined}
 
 -- ---- lists
@@ -68,6 +71,7 @@ record IsStill (old new : List Mark) : Type 0 where
   before : IsPaired None old
   lasts : (key : List ℕ) → last_at new key ≡ last_at old key
   frequencies : (segment row : ℕ) → frequency_in new segment row ≡ frequency_in old segment row
+  came : (segment row : ℕ) → came_with new segment row ≡ came_with old segment row
   rows : (segment row : ℕ) → linked_in new segment row ≡ linked_in old segment row
 
 still : (more old new : List Mark) → new ≡ more ++ old → IsPaired None new → entries more ≡ [] → all_raised more ≡ 0 → IsStill old new
@@ -75,6 +79,7 @@ still more old new is paired none unraised = record {
   before = settled more old joined none;
   lasts = λ key. ap (λ marks. last_at marks key) is ∙ keeps_lasts more old joined bring key;
   frequencies = λ segment row. ap (λ marks. frequency_in marks segment row) is ∙ keeps_frequencies more old joined bring unraised segment row;
+  came = λ segment row. ap (λ marks. came_with marks segment row) is ∙ keeps_came more old joined bring segment row;
   rows = λ segment row. ap (λ marks. linked_in marks segment row) is ∙ keeps_rows more old joined none segment row;
 }
   where
@@ -189,18 +194,35 @@ module _ (b : Board) (p q : Pass) (was : IsAlone b p) (on : GoesOn b p q) (unrai
     names_moved = names b.shape segment row (λ frequency. cutoff ≤ frequency) p key (mark.marked start) c.before had before_it
         (ap entries first.1 ∙ (entries_joined first.0 (marked p) ∙ ((λ i. none.1 i ++ entries (marked p)) ∙ entries_marked (trace p))))
 
+    rows_then : (s r : ℕ) → linked_in c.before s r ≡ linked_in (marked p) s r
+    rows_then s r = up_to_it.rows s r ∙ before_it.rows s r
+
+    came_then : (s r : ℕ) → came_with c.before s r ≡ came_with (marked p) s r
+    came_then s r = up_to_it.came s r ∙ before_it.came s r
+
     frequency_then : (s r : ℕ) → frequency_in c.before s r ≡ frequency_in (marked p) s r
     frequency_then s r = up_to_it.frequencies s r ∙ before_it.frequencies s r
+
+    -- the row isn't used before, so that no item is linked to it
+    unlinked_there : linked_in (marked p) into c.to ≡ None
+    unlinked_there = none_if (linked_in (marked p) into c.to) (false_from_ne_true (is_some (linked_in (marked p) into c.to)) (λ there.
+        let rows = span_in (trace p) segment row in
+        let some = header_some ((row_after (trace p) segment row).words 0) in
+        let fits = left_rows rows c.to b.shape.rows c.fits in
+        let own = header_some ((row_after (trace p) into c.to).words 0) in
+        let itself = covers-first c.to (span_in (trace p) into c.to) own in
+        let used = used_if_in_item b p into c.to c.to was.quiet c.next (omega (arith, some, fits)) (c.to, there, itself) in
+        absurd (omega (arith, used))))
 
     pub brings_moved : (brings : BringsItem key into (frequency_in (marked p) segment row) (marked p) (marked q)) × (brings.row ≡ c.to)
     brings_moved = (
       record {
         row = c.to;
-        unlinked = none_if (linked_in (marked p) into c.to) (rows b p into c.to c.to was.quiet c.next c.fits ∙ le-ltb c.to c.to (omega arith));
-        linked = after_it.rows into c.to
-            ∙ cond-true (eqb into into && eqb c.to c.to) (Some key) (linked_in c.before into c.to) (and_from (eqb into into) (eqb c.to c.to) (eq-eqb into into refl) (eq-eqb c.to c.to refl));
+        unlinked = unlinked_there;
+        rows = λ s r. after_it.rows s r ∙ ap (cond (eqb into s && eqb c.to r) (Some key)) (rows_then s r);
         lasts = λ other. after_it.lasts other ∙ ap (cond (same_key key other) (Some (slot other into c.to))) (up_to_it.lasts other ∙ before_it.lasts other);
         frequencies = λ s r. after_it.frequencies s r ∙ (λ i. cond (eqb into s && eqb c.to r) (frequency_then segment row i) (frequency_then s r i));
+        came = λ s r. after_it.came s r ∙ (λ i. cond (eqb into s && eqb c.to r) (frequency_then segment row i) (came_then s r i));
       },
       refl,
     )

@@ -14,7 +14,8 @@ use Rattle.segbase.specs.Words.{Pass, seen, state_in, state_of, trace, used_in}
 use Rattle.segbase.proofs.Alone.{mine_alone}
 use Rattle.segstore.proofs.Keeping.{same_states, same_used, stored_in}
 use Rattle.segstore.specs.Words.{AddsEntry, ChangesNothing, GoesOn, IsQuiet, memo}
-use Rattle.segsolo.specs.Alone.{frequencies_in, keys_stored_in, of_rows, or_empty, item_of, state_at, CountsRows, IsAlone}
+use Rattle.segsolo.specs.Alone.{frequencies_in, or_empty, item_of, state_at, CountsRows, IsAlone}
+use Rattle.segsolo.specs.Stored.{came_with, frequencies_of, items_stored_in, keys_of_rows, keys_stored_in}
 use Rattle.segindex.proofs.QuietPass.{owned}
 
 -- ---- one history
@@ -81,7 +82,7 @@ pub record SameWidths (p q : Pass) : Type 0 where
 
 -- a state is told part by part
 pub at_state : (shape : Shape) (q : Pass) (state : State) → after shape (seen q) ≡ state.cache → ((segment : ℕ) → or_empty (state_of q segment) ≡ (state.filling segment).state)
-    → ((segment : ℕ) → keys_stored_in (seen q) segment ≡ (state.filling segment).keys) → ((segment : ℕ) → frequencies_in q segment ≡ (state.filling segment).frequencies)
+    → ((segment : ℕ) → keys_stored_in shape (seen q) segment ≡ (state.filling segment).keys) → ((segment : ℕ) → frequencies_in shape q segment ≡ (state.filling segment).frequencies)
     → current_of q ≡ state.current → ((bucket : ℕ) → width (marked q) bucket ≡ state.width bucket)
     → all_drawn (marked q) ≡ state.drawn → option_map item_of (holding q) ≡ state.held → locked_of q ≡ state.locked → state_at shape q ≡ state
 at_state shape q state cache states keys frequencies current wide drawn held locked = λ i. record {
@@ -94,20 +95,22 @@ at_state shape q state cache states keys frequencies current wide drawn held loc
   locked = locked i;
 }
 
--- items have the frequencies that they had
+-- items have the frequencies that they had, and those that they came with
 abbrev pub SameFrequencies : Pass → Pass → Type 0
-SameFrequencies p q = (segment row : ℕ) → frequency_in (marked q) segment row ≡ frequency_in (marked p) segment row
+SameFrequencies p q = (segment row : ℕ)
+    → (frequency_in (marked q) segment row ≡ frequency_in (marked p) segment row) × (came_with (marked q) segment row ≡ came_with (marked p) segment row)
 
--- so the rows of a segment in which the same keys were stored have theirs
-pub frequencies_as : (p q : Pass) (segment : ℕ) → SameFrequencies p q → keys_stored_in (seen q) segment ≡ keys_stored_in (seen p) segment → frequencies_in q segment ≡ frequencies_in p segment
-frequencies_as p q segment same keys = λ i. of_rows (λ row. same segment row i) 0 (length (keys i))
+-- so the rows of a segment in which the same items were stored have theirs
+pub frequencies_as : (shape : Shape) (p q : Pass) (segment : ℕ) → SameFrequencies p q
+    → items_stored_in shape (seen q) segment ≡ items_stored_in shape (seen p) segment → frequencies_in shape q segment ≡ frequencies_in shape p segment
+frequencies_as shape p q segment same items = λ i. frequencies_of (λ row. (same segment row).1 i) (λ row. (same segment row).0 i) 0 (items i)
 
 -- a pass that saw nothing new, whose segments are as they were, is at the same state but for its hold and its lock
 pub as_was : (shape : Shape) (p q : Pass) → seen q ≡ seen p → stored_in q.plain ≡ stored_in p.plain → SameWidths p q → SameFrequencies p q
     → state_at shape q ≡ record (state_at shape p) { held = option_map item_of (holding q); locked = locked_of q }
 as_was shape p q same kept widths frequencies = at_state shape q (record (state_at shape p) { held = option_map item_of (holding q); locked = locked_of q })
-    (ap (after shape) same) (λ segment. ap (λ k. or_empty (state_in (k.0 segment))) kept) (λ segment. ap (λ h. keys_stored_in h segment) same)
-    (λ segment. frequencies_as p q segment frequencies (ap (λ h. keys_stored_in h segment) same)) (ap (λ k. k.1) kept) widths.wide widths.drawn refl refl
+    (ap (after shape) same) (λ segment. ap (λ k. or_empty (state_in (k.0 segment))) kept) (λ segment. ap (λ h. keys_stored_in shape h segment) same)
+    (λ segment. frequencies_as shape p q segment frequencies (ap (λ h. items_stored_in shape h segment) same)) (ap (λ k. k.1) kept) widths.wide widths.drawn refl refl
 
 pub left : (b : Board) (p q : Pass) → IsAlone b p → GoesOn b p q → ChangesNothing p q → SameWidths p q → SameFrequencies p q → state_at b.shape q ≡ state_at b.shape p
 left b p q was on nothing widths frequencies = as_was b.shape p q (same_seen b p q was on.quiet nothing.entries) (ap stored_in nothing.plain) widths frequencies
@@ -115,14 +118,15 @@ left b p q was on nothing widths frequencies = as_was b.shape p q (same_seen b p
 
 -- ---- rows
 
-pub counts_still : (p q : Pass) → CountsRows p → seen q ≡ seen p → stored_in q.plain ≡ stored_in p.plain → CountsRows q
-counts_still p q counts same kept segment count is = counts segment count (sym (ap (λ k. used_in (k.0 segment)) kept) ∙ is) ∙ ap (λ h. length (keys_stored_in h segment)) (sym same)
+pub counts_still : (shape : Shape) (p q : Pass) → CountsRows shape p → seen q ≡ seen p → stored_in q.plain ≡ stored_in p.plain → CountsRows shape q
+counts_still shape p q counts same kept segment count is =
+    counts segment count (sym (ap (λ k. used_in (k.0 segment)) kept) ∙ is) ∙ ap (λ h. length (keys_stored_in shape h segment)) (sym same)
 
 -- ---- an entry that stores nothing
 
 -- it changes the cache alone
 pub as_replied : (b : Board) (p q : Pass) (added : Entry) → IsAlone b p → IsQuiet b q → AddsEntry added p q → q.plain ≡ p.plain → memo q ≡ memo p
-    → ((segment : ℕ) → keys_stored_in (added ∷ seen p) segment ≡ keys_stored_in (seen p) segment) → SameWidths p q
+    → ((segment : ℕ) → items_stored_in b.shape (added ∷ seen p) segment ≡ items_stored_in b.shape (seen p) segment) → SameWidths p q
     → SameFrequencies p q → state_at b.shape q ≡ record (state_at b.shape p) {
       cache =
           after b.shape (added ∷ seen p);
@@ -130,15 +134,15 @@ pub as_replied : (b : Board) (p q : Pass) (added : Entry) → IsAlone b p → Is
 as_replied b p q added was quiet adds plain same keeps widths frequencies =
     let more = more_seen b p q (added ∷ []) was quiet adds in
     at_state b.shape q (record (state_at b.shape p) { cache = after b.shape (added ∷ seen p) })
-    (ap (after b.shape) more) (λ segment. ap or_empty (same_states p q segment plain)) (λ segment. ap (λ h. keys_stored_in h segment) more ∙ keeps segment)
-    (λ segment. frequencies_as p q segment frequencies (ap (λ h. keys_stored_in h segment) more ∙ keeps segment))
+    (ap (after b.shape) more) (λ segment. ap or_empty (same_states p q segment plain)) (λ segment. ap (λ h. keys_stored_in b.shape h segment) more ∙ ap keys_of_rows (keeps segment))
+    (λ segment. frequencies_as b.shape p q segment frequencies (ap (λ h. items_stored_in b.shape h segment) more ∙ keeps segment))
     (ap (λ plain. plain.current) plain) widths.wide widths.drawn (ap (λ (m : Memo). option_map item_of m.holding) same) (ap (λ plain. plain.locked) plain)
 
 pub counts_replied : (b : Board) (p q : Pass) (added : Entry) → IsAlone b p → IsQuiet b q → AddsEntry added p q → q.plain ≡ p.plain
-    → ((segment : ℕ) → keys_stored_in (added ∷ seen p) segment ≡ keys_stored_in (seen p) segment) → CountsRows q
+    → ((segment : ℕ) → items_stored_in b.shape (added ∷ seen p) segment ≡ items_stored_in b.shape (seen p) segment) → CountsRows b.shape q
 counts_replied b p q added was quiet adds plain keeps segment count is =
     was.used segment count (sym (same_used p q segment plain) ∙ is)
-    ∙ sym (ap (λ h. length (keys_stored_in h segment)) (more_seen b p q (added ∷ []) was quiet adds) ∙ ap (λ (keys : List (List ℕ)). length keys) (keeps segment))
+    ∙ sym (ap (λ h. length (keys_stored_in b.shape h segment)) (more_seen b p q (added ∷ []) was quiet adds) ∙ ap (λ items. length (keys_of_rows items)) (keeps segment))
 
 -- what was seen last was replied as the cache replied
 pub reply_then : (b : Board) (p q : Pass) (request : Request) (told : Reply) (segment : Option ℕ) → IsQuiet b q → seen q ≡ Wrote (number p) request told segment ∷ seen p

@@ -17,10 +17,11 @@ use Rattle.segbase.specs.Words.{used_of}
 use Rattle.segstore.proofs.Idling.{unchanged}
 use Rattle.segstore.specs.Words.{ChangesNothing, DrawsNothing, GoesOn, is_held_in, RaisesNothing}
 use Rattle.segindex.specs.Words.{IsBeingRead, IsRefillAnswer, Refills}
-use Rattle.segsolo.specs.Alone.{frequencies_in, keys_stored_in, of_rows, or_empty, item_of, state_at, CountsRows, IsAlone, ServesAlone}
+use Rattle.segsolo.specs.Alone.{frequencies_in, or_empty, item_of, state_at, CountsRows, IsAlone, ServesAlone}
+use Rattle.segsolo.specs.Stored.{came_with, frequencies_of, items_stored_in, keys_of_rows, keys_stored_in}
 use Rattle.segindex.proofs.OnePass.{nobody_inside}
 use Rattle.segindex.proofs.Refills.{refills_state, refills_used, other_states, other_used}
-use Rattle.segsolo.proofs.AlonePass.{more_seen, at_state, left, not_own, own_is}
+use Rattle.segsolo.proofs.AlonePass.{more_seen, at_state, left, not_own, own_is, SameFrequencies}
 use Rattle.segsolo.proofs.AloneRows.{frequencies_kept, frequencies_still, refilled_named, served, served_still}
 use Rattle.segsolo.proofs.AloneWidths.{same_widths}
 
@@ -96,19 +97,25 @@ module _ (b : Board) (p q : Pass) (segment deadline : ℕ) (was : IsAlone b p) (
         (ap or_empty (refills_state segment deadline p q refills) ∙ sym (ap (λ (f : Filling). f.state) (with_at-same (state_at b.shape p).filling segment segment begun refl)))
         (λ s ne. ap or_empty (other_states segment deadline p q refills s (λ e. ne (sym e))) ∙ sym (ap (λ (f : Filling). f.state) (with_at-other (state_at b.shape p).filling segment s begun ne)))
 
-    keys_then : (s : ℕ) → keys_stored_in (seen q) s ≡ (with_at (state_at b.shape p).filling segment begun s).keys
-    keys_then s = ap (λ h. keys_stored_in h s) more ∙ by (eqb segment s)
+    items_then : (s : ℕ) → items_stored_in b.shape (seen q) s ≡ cond (eqb segment s) [] (items_stored_in b.shape (seen p) s)
+    items_then s = ap (λ h. items_stored_in b.shape h s) more
+
+    keys_then : (s : ℕ) → keys_stored_in b.shape (seen q) s ≡ (with_at (state_at b.shape p).filling segment begun s).keys
+    keys_then s = ap keys_of_rows (items_then s) ∙ by (eqb segment s)
       where
-        by : (here : Bool) → cond here [] (keys_stored_in (seen p) s) ≡ (cond here begun ((state_at b.shape p).filling s)).keys
+        by : (here : Bool) → keys_of_rows (cond here [] (items_stored_in b.shape (seen p) s)) ≡ (cond here begun ((state_at b.shape p).filling s)).keys
         by true = refl
         by false = refl
 
-    frequencies_then : (s : ℕ) → frequencies_in q s ≡ (with_at (state_at b.shape p).filling segment begun s).frequencies
+    frequencies_then : (s : ℕ) → frequencies_in b.shape q s ≡ (with_at (state_at b.shape p).filling segment begun s).frequencies
     frequencies_then s =
-        (λ i. of_rows (λ row. frequencies_kept b p q was on (entry.Refilled (number p) segment deadline ∷ [])
-        refills.entry (refl, tt) unraised s row i) 0 (length (keys_then s i))) ∙ by (eqb segment s)
+        (λ i. frequencies_of (λ row. (same s row).1 i) (λ row. (same s row).0 i) 0 (items_then s i)) ∙ by (eqb segment s)
       where
-        by : (here : Bool) → of_rows (frequency_in (marked p) s) 0 (length (cond here begun ((state_at b.shape p).filling s)).keys) ≡ (cond here begun ((state_at b.shape p).filling s)).frequencies
+        same : SameFrequencies p q
+        same = frequencies_kept b p q was on (entry.Refilled (number p) segment deadline ∷ []) refills.entry (refl, tt) unraised
+
+        by : (here : Bool) → frequencies_of (came_with (marked p) s) (frequency_in (marked p) s) 0 (cond here [] (items_stored_in b.shape (seen p) s))
+            ≡ (cond here begun ((state_at b.shape p).filling s)).frequencies
         by true = refl
         by false = refl
 
@@ -121,7 +128,7 @@ module _ (b : Board) (p q : Pass) (segment deadline : ℕ) (was : IsAlone b p) (
         (ap (λ (m : Memo). option_map item_of m.holding) refills.memo)
         (ap (λ (x : PlainPart). x.locked) refills.plain)
 
-    counts : CountsRows q
+    counts : CountsRows b.shape q
     counts s count is = by_segment (λ s. used_of q s ≡ Some count → count ≡ length (with_at (state_at b.shape p).filling segment begun s).keys) segment
         (λ is. same_Some count 0 (sym is ∙ refills_used segment deadline p q refills)
         ∙ sym (ap (λ (f : Filling). length f.keys)

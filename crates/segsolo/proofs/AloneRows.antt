@@ -1,5 +1,5 @@
 -- What a call of a lone pass leaves of the rows that items name, and of their frequencies, by the entries that it added.
-use Rattle.std.proofs.Common.{◌≡◌, ◌≢◌, ℕ, ◌+◌, ◌<◌, nat_lt, cond, Bool, true, false, List, [], ◌∷◌, ◌++◌, not, length, is_some, IsSomeAnd, Some, None, refl, sym, ap, ◌∙◌, subst, inl, inr, ◌⊎◌, ⊎_elim, arith, eqb}
+use Rattle.std.proofs.Common.{◌≡◌, ◌≢◌, ℕ, ◌+◌, ◌<◌, cond, Bool, true, false, List, [], ◌∷◌, ◌++◌, not, length, IsSomeAnd, Some, None, refl, sym, ap, ◌∙◌, subst, inl, inr, ◌⊎◌, ⊎_elim, arith, eqb}
 use Rattle.std.specs.BTreeMap.{is_at}
 use Rattle.std.proofs.lemmas.Bool.{cases_Bool, cases_eq, cond-true, cond-false, ne_eqb}
 use Rattle.std.proofs.lemmas.List.{append_cancel_right}
@@ -16,7 +16,7 @@ use Rattle.segmodel.specs.History.{next}
 use Rattle.segmodel.proofs.HistoryLemmas.{standing-without}
 use Rattle.segmodel.proofs.Commands.{turns_keep}
 use Rattle.segcore.specs.Bucket.{Slot, slot}
-use Rattle.segcore.specs.Mark.{last_at, linked_in, frequency_in, same_key}
+use Rattle.segcore.specs.Mark.{last_at, frequency_in, same_key}
 use Rattle.segcore.specs.Mark as mark
 use Rattle.segcore.specs.Words.{cached, entries, raised}
 use Rattle.segcore.proofs.Exact.{stands_at}
@@ -24,14 +24,14 @@ use Rattle.segcore.proofs.Keys.{key_true, key_false}
 use Rattle.segcore.proofs.Marked.{entries_marked}
 use Rattle.segcore.proofs.Orderly.{orderly}
 use Rattle.segcore.proofs.Standing.{legal}
-use Rattle.segbase.specs.Words.{Board, count, marked, mine, number, Pass, seen, trace, used_of}
+use Rattle.segbase.specs.Words.{Board, count, marked, mine, number, Pass, seen, trace}
 use Rattle.segstore.proofs.Keeping.{stored_in}
 use Rattle.segstore.specs.Words.{ChangesNothing, GoesOn, IsQuiet, RaisesNothing}
-use Rattle.segsolo.specs.Alone.{keys_stored_in, CountsRows, IsAlone, IsLastRow, NamesLastRows, ServesAlone, state_at, TurnsAlone}
-use Rattle.segindex.proofs.QuietPass.{rows}
+use Rattle.segsolo.specs.Alone.{CountsRows, IsAlone, NamesLastRows, ServesAlone, state_at, TurnsAlone}
+use Rattle.segsolo.specs.Stored.{came_with, items_stored_in, keys_stored_in, last_row_of}
 use Rattle.segsolo.proofs.AlonePass.{counts_still, more_seen, same_seen, SameFrequencies}
 use Rattle.segsolo.proofs.Grown.{entries_joined}
-use Rattle.segsolo.proofs.Marks.{BringNothing, BringsItem, brings_item, keeps_frequencies, keeps_lasts}
+use Rattle.segsolo.proofs.Marks.{BringNothing, BringsItem, brings_item, keeps_came, keeps_frequencies, keeps_lasts}
 use Rattle.segsolo.proofs.Pairs.{all_its, all_raised, brings, IsPaired, marked_paired, raised_joined}
 use Rattle.segsolo.proofs.Rows.{last_pushed, last_still}
 
@@ -66,9 +66,11 @@ module _ (b : Board) (p q : Pass) (was : IsAlone b p) (on : GoesOn b p q) where
 
   -- and no frequency was raised
   pub frequencies_kept : (added : List Entry) → mine q ≡ added ++ mine p → BringNothing added → RaisesNothing p q
-      → (segment row : ℕ) → frequency_in (marked q) segment row ≡ frequency_in (marked p) segment row
-  frequencies_kept added more none still segment row = ap (λ marks. frequency_in marks segment row) on.marked.1
-      ∙ keeps_frequencies on.marked.0 (marked p) paired (subst BringNothing (sym (added_entries added more)) none) (none_raised still) segment row
+      → SameFrequencies p q
+  frequencies_kept added more none still segment row = let bring = subst BringNothing (sym (added_entries added more)) none in (
+    ap (λ marks. frequency_in marks segment row) on.marked.1 ∙ keeps_frequencies on.marked.0 (marked p) paired bring (none_raised still) segment row,
+    ap (λ marks. came_with marks segment row) on.marked.1 ∙ keeps_came on.marked.0 (marked p) paired bring segment row,
+  )
 
   -- a call that adds no entry, or one that stores nothing
   pub frequencies_still : mine q ≡ mine p → RaisesNothing p q → SameFrequencies p q
@@ -95,22 +97,11 @@ row_in b p key value segment row quiet stands last =
     let at = stands_at b.shape (trace p) key value segment quiet.pass.valid quiet.pass.lawful stands in
     subst (λ r. r < b.shape.rows) (ap (λ (s : Slot). s.row) (same_Some (slot key segment at.row) (slot key segment row) (sym at.last ∙ last))) at.names.in_segment.1
 
--- the row of an item that came is the next one
-pub next_row : (b : Board) (p q : Pass) (key : List ℕ) (segment row used : ℕ) → IsQuiet b p → IsQuiet b q → row < b.shape.rows → used_of p segment ≡ Some used → used_of q segment ≡ Some (used + 1)
-    → linked_in (marked p) segment row ≡ None → linked_in (marked q) segment row ≡ Some key → row ≡ used
-next_row b p q key segment row used before now fits had has unlinked linked =
-    let free : nat_lt row used ≡ false = sym (rows b p segment used row before had fits) ∙ ap is_some unlinked in
-    let taken : nat_lt row (used + 1) ≡ true = sym (rows b q segment (used + 1) row now has fits) ∙ ap is_some linked in
-    one row used free taken
-  where
-    one : (row used : ℕ) → nat_lt row used ≡ false → nat_lt row (used + 1) ≡ true → row ≡ used
-    one row used free taken = grind (arith, free, taken)
-
 -- ---- items name last rows
 
 -- an entry that stores nothing, and leaves what was stored
 abbrev pub IsUnstored : Entry → Type 0
-IsUnstored added = (brings added ≡ None) × ((history : List Entry) (segment : ℕ) → keys_stored_in (added ∷ history) segment ≡ keys_stored_in history segment)
+IsUnstored added = (brings added ≡ None) × ((shape : Shape) (history : List Entry) (segment : ℕ) → items_stored_in shape (added ∷ history) segment ≡ items_stored_in shape history segment)
 
 abbrev pub AreUnstored : List Entry → Type 0
 AreUnstored [] = Unit {0}
@@ -120,9 +111,9 @@ pub bring_nothing : (added : List Entry) → AreUnstored added → BringNothing 
 bring_nothing [] none = tt
 bring_nothing (added ∷ more) none = (none.0.0, bring_nothing more none.1)
 
-pub same_stored : (added history : List Entry) (segment : ℕ) → AreUnstored added → keys_stored_in (added ++ history) segment ≡ keys_stored_in history segment
-same_stored [] history segment none = refl
-same_stored (added ∷ more) history segment none = none.0.1 (more ++ history) segment ∙ same_stored more history segment none.1
+pub same_stored : (shape : Shape) (added history : List Entry) (segment : ℕ) → AreUnstored added → items_stored_in shape (added ++ history) segment ≡ items_stored_in shape history segment
+same_stored shape [] history segment none = refl
+same_stored shape (added ∷ more) history segment none = none.0.1 shape (more ++ history) segment ∙ same_stored shape more history segment none.1
 
 out : (taken key : List ℕ) (cache : Cache) (item : Cached) → standing (without taken cache) key ≡ Some item → standing cache key ≡ Some item
 out taken key cache item stands = by (is_at (key_cmp taken) key) (sym (standing-without taken cache key) ∙ stands)
@@ -150,20 +141,20 @@ all_stood shape (added ∷ more) history key item none stands = all_stood shape 
 
 -- a reply that names no segment
 pub reply_unstored : (pass : ℕ) (request : Request) (told : Reply) → IsUnstored (entry.Wrote pass request told None)
-reply_unstored pass request reply.Stored = (refl, λ history segment. refl)
-reply_unstored pass request reply.NotStored = (refl, λ history segment. refl)
-reply_unstored pass request reply.Exists = (refl, λ history segment. refl)
-reply_unstored pass request reply.NotFound = (refl, λ history segment. refl)
-reply_unstored pass request reply.Deleted = (refl, λ history segment. refl)
+reply_unstored pass request reply.Stored = (refl, λ shape history segment. refl)
+reply_unstored pass request reply.NotStored = (refl, λ shape history segment. refl)
+reply_unstored pass request reply.Exists = (refl, λ shape history segment. refl)
+reply_unstored pass request reply.NotFound = (refl, λ shape history segment. refl)
+reply_unstored pass request reply.Deleted = (refl, λ shape history segment. refl)
 
 -- where nothing is stored
 pub still_named : (b : Board) (p q : Pass) (added : List Entry) → IsAlone b p → GoesOn b p q → mine q ≡ added ++ mine p → AreUnstored added → NamesLastRows b.shape q
 still_named b p q added was on more none key value segment row stands last =
     let seen_now = more_seen b p q added was on.quiet more in
-    subst (λ keys. IsLastRow key keys row) (sym (ap (λ h. keys_stored_in h segment) seen_now ∙ same_stored added (seen p) segment none))
-    (was.rows key value segment row
+    ap (last_row_of key 0) (ap (λ h. items_stored_in b.shape h segment) seen_now ∙ same_stored b.shape added (seen p) segment none)
+    ∙ was.rows key value segment row
     (all_stood b.shape added (seen p) key (cached value segment) none (subst (λ h. standing (after b.shape h) key ≡ Some (cached value segment)) seen_now stands))
-    (sym (lasts_kept b p q was on added more (bring_nothing added none) key) ∙ last))
+    (sym (lasts_kept b p q was on added more (bring_nothing added none) key) ∙ last)
 
 -- where a segment is refilled: no key stands in it
 pub refilled_named : (b : Board) (p q : Pass) (segment deadline : ℕ) → IsAlone b p → GoesOn b p q → mine q ≡ entry.Refilled (number p) segment deadline ∷ mine p → NamesLastRows b.shape q
@@ -172,43 +163,44 @@ refilled_named b p q segment deadline was on more key value s row stands last =
     let stood : standing (after b.shape (seen p)) key ≡ Some (cached value s) = ap (λ h. standing (after b.shape h) key) (sym seen_now) ∙ stands in
     let legal_now = subst (IsLegal b.shape) seen_now (legal b.shape (trace q) on.quiet.pass.lawful) in
     let apart : segment ≢ s = λ same. legal_now.1.0 key (subst (λ o. IsSomeAnd o (λ item. item.segment ≡ segment)) (sym stood) (sym same)) in
-    subst (λ keys. IsLastRow key keys row)
-    (sym (ap (λ h. keys_stored_in h s) seen_now ∙ cond-false (eqb segment s) [] (keys_stored_in (seen p) s) (ne_eqb segment s apart)))
-    (was.rows key value s row stood (sym (lasts_kept b p q was on (entry.Refilled (number p) segment deadline ∷ []) more (refl, tt) key) ∙ last))
+    ap (last_row_of key 0) (ap (λ h. items_stored_in b.shape h s) seen_now ∙ cond-false (eqb segment s) [] (items_stored_in b.shape (seen p) s) (ne_eqb segment s apart))
+    ∙ was.rows key value s row stood (sym (lasts_kept b p q was on (entry.Refilled (number p) segment deadline ∷ []) more (refl, tt) key) ∙ last)
 
 -- where an item comes into a segment
-pub brought_named : (b : Board) (p q : Pass) (key : List ℕ) (frequency segment : ℕ) → IsAlone b p → IsQuiet b q
+pub brought_named : (b : Board) (p q : Pass) (key : List ℕ) (frequency rows segment : ℕ) → IsAlone b p → IsQuiet b q
     → (brought : BringsItem key segment frequency (marked p) (marked q))
-    → brought.row ≡ length (keys_stored_in (seen p) segment)
-    → keys_stored_in (seen q) segment ≡ keys_stored_in (seen p) segment ++ key ∷ []
-    → ((other : ℕ) → other ≢ segment → keys_stored_in (seen q) other ≡ keys_stored_in (seen p) other)
+    → brought.row ≡ length (keys_stored_in b.shape (seen p) segment)
+    → items_stored_in b.shape (seen q) segment ≡ items_stored_in b.shape (seen p) segment ++ (key, rows) ∷ []
+    → ((other : ℕ) → other ≢ segment → items_stored_in b.shape (seen q) other ≡ items_stored_in b.shape (seen p) other)
     → ((other : List ℕ) → key ≢ other → standing (after b.shape (seen q)) other ≡ standing (after b.shape (seen p)) other)
     → NamesLastRows b.shape q
-brought_named b p q key frequency segment was quiet brought next here elsewhere others other value s row stands last =
+brought_named b p q key frequency rows segment was quiet brought row_is here elsewhere others other value s row stands last =
     ⊎_elim (λ same. own (key_true key other same) same) (λ apart. by (key_false key other apart) apart (cases_eq segment s)) (cases_Bool (same_key key other))
   where
-    own : key ≡ other → same_key key other ≡ true → IsLastRow other (keys_stored_in (seen q) s) row
+    own : key ≡ other → same_key key other ≡ true → last_row_of other 0 (items_stored_in b.shape (seen q) s) ≡ Some row
     own is same =
         let named : slot other segment brought.row ≡ slot other s row = same_Some (slot other segment brought.row) (slot other s row)
         (sym (brought.lasts other ∙ cond-true (same_key key other) (Some (slot other segment brought.row)) (last_at (marked p) other) same) ∙ last) in
-        let rowed : length (keys_stored_in (seen p) segment) ≡ row = sym next ∙ ap (λ (a : Slot). a.row) named in
-        subst (λ k. IsLastRow k (keys_stored_in (seen q) s) row) is
-        (subst (λ n. IsLastRow key (keys_stored_in (seen q) n) row) (ap (λ (a : Slot). a.segment) named)
-        (subst (λ keys. IsLastRow key keys row) (sym here) (subst (IsLastRow key (keys_stored_in (seen p) segment ++ key ∷ [])) rowed (last_pushed key (keys_stored_in (seen p) segment)))))
+        let there : length (keys_stored_in b.shape (seen p) segment) ≡ row = sym row_is ∙ ap (λ (a : Slot). a.row) named in
+        let rowed : 0 + length (keys_stored_in b.shape (seen p) segment) ≡ row = omega (arith, there) in
+        (λ i. last_row_of (sym is i) 0 (items_stored_in b.shape (seen q) (ap (λ (a : Slot). a.segment) (sym named) i)))
+        ∙ (ap (last_row_of key 0) here ∙ (last_pushed key 0 (items_stored_in b.shape (seen p) segment) rows ∙ ap Some rowed))
 
-    before : key ≢ other → same_key key other ≡ false → IsLastRow other (keys_stored_in (seen p) s) row
+    before : key ≢ other → same_key key other ≡ false → last_row_of other 0 (items_stored_in b.shape (seen p) s) ≡ Some row
     before ne apart = was.rows other value s row (sym (others other ne) ∙ stands)
         (sym (brought.lasts other ∙ cond-false (same_key key other) (Some (slot other segment brought.row)) (last_at (marked p) other) apart) ∙ last)
 
-    by : key ≢ other → same_key key other ≡ false → (segment ≡ s) ⊎ (segment ≢ s) → IsLastRow other (keys_stored_in (seen q) s) row
-    by ne apart (inl is) = subst (λ n. IsLastRow other (keys_stored_in (seen q) n) row) is (subst (λ keys. IsLastRow other keys row) (sym here)
-        (last_still other key (keys_stored_in (seen p) segment) row (λ e. ne (sym e)) (subst (λ n. IsLastRow other (keys_stored_in (seen p) n) row) (sym is) (before ne apart))))
-    by ne apart (inr away) = subst (λ keys. IsLastRow other keys row) (sym (elsewhere s (λ e. away (sym e)))) (before ne apart)
+    by : key ≢ other → same_key key other ≡ false → (segment ≡ s) ⊎ (segment ≢ s) → last_row_of other 0 (items_stored_in b.shape (seen q) s) ≡ Some row
+    by ne apart (inl is) =
+        ap (λ n. last_row_of other 0 (items_stored_in b.shape (seen q) n)) (sym is)
+        ∙ (ap (last_row_of other 0) here ∙ (last_still other key 0 (items_stored_in b.shape (seen p) segment) rows (λ e. ne (sym e))
+        ∙ (ap (λ n. last_row_of other 0 (items_stored_in b.shape (seen p) n)) is ∙ before ne apart)))
+    by ne apart (inr away) = ap (last_row_of other 0) (elsewhere s (λ e. away (sym e))) ∙ before ne apart
 
 -- ---- calls
 
 -- a turn that is served leaves the pass alone
-pub turned : (b : Board) (turn : Turn) (given : Outcome) (p q : Pass) → IsAlone b p → IsQuiet b q → CountsRows q → NamesLastRows b.shape q
+pub turned : (b : Board) (turn : Turn) (given : Outcome) (p q : Pass) → IsAlone b p → IsQuiet b q → CountsRows b.shape q → NamesLastRows b.shape q
     → Turns b.shape (state_at b.shape p) turn given (state_at b.shape q) → TurnsAlone b turn given p q
 turned b turn given p q was quiet counts names served = (
   record {
@@ -225,7 +217,7 @@ turned b turn given p q was quiet counts names served = (
 pub turned_kept : (b : Board) (turn : Turn) (given : Outcome) (p q : Pass) → IsAlone b p → GoesOn b p q → mine q ≡ mine p → stored_in q.plain ≡ stored_in p.plain
     → Turns b.shape (state_at b.shape p) turn given (state_at b.shape q) → TurnsAlone b turn given p q
 turned_kept b turn given p q was on none kept served =
-    turned b turn given p q was on.quiet (counts_still p q was.used (same_seen b p q was on.quiet none) kept) (still_named b p q [] was on none tt) served
+    turned b turn given p q was on.quiet (counts_still b.shape p q was.used (same_seen b p q was on.quiet none) kept) (still_named b p q [] was on none tt) served
 
 -- where it changed nothing
 pub turned_still : (b : Board) (turn : Turn) (given : Outcome) (p q : Pass) → IsAlone b p → GoesOn b p q → ChangesNothing p q
@@ -233,7 +225,7 @@ pub turned_still : (b : Board) (turn : Turn) (given : Outcome) (p q : Pass) → 
 turned_still b turn given p q was on nothing served = turned_kept b turn given p q was on nothing.entries (ap stored_in nothing.plain) served
 
 -- and so does a command
-pub served : (b : Board) (command : Command) (given : Answer) (p q : Pass) → IsAlone b p → IsQuiet b q → CountsRows q → NamesLastRows b.shape q
+pub served : (b : Board) (command : Command) (given : Answer) (p q : Pass) → IsAlone b p → IsQuiet b q → CountsRows b.shape q → NamesLastRows b.shape q
     → Serves b.shape (state_at b.shape p) command given (state_at b.shape q) → ServesAlone b command given p q
 served b command given p q was quiet counts names serves = ((turned b (Serve command) (Answered given) p q was quiet counts names (given, refl, serves)).0, serves)
 

@@ -11,7 +11,8 @@ use Rattle.segcore.specs.Words.{all_drawn, frequency_in, last_at, slot, width}
 use Rattle.segcore.specs.Mark as mark
 use Rattle.segbase.specs.Words.{Board, IsNewPass, Pass, state_in, state_of, unfilled}
 use Rattle.segindex.specs.Words.{board_of, Index, IsNew}
-use Rattle.segsolo.specs.Alone.{keys_stored_in, of_rows, or_empty, item_of, state_at, IsAlone}
+use Rattle.segsolo.specs.Alone.{or_empty, item_of, state_at, IsAlone}
+use Rattle.segsolo.specs.Stored.{came_with, frequencies_of, items_stored_in, keys_stored_in}
 use Rattle.segsolo.proofs.AlonePass.{at_state}
 use Rattle.segindex.proofs.Made.{new_quiet, none_used}
 
@@ -34,8 +35,8 @@ module _ (b : Board) (p : Pass) (new : IsNewPass b 0 p) where
   starts_fresh = at_state b.shape p (fresh b.shape)
       (ap (λ t. after b.shape (event.seen t)) new.nothing)
       empty
-      (λ segment. ap (λ t. keys_stored_in (event.seen t) segment) new.nothing)
-      (λ segment. ap (λ t. of_rows (frequency_in (mark.marked t) segment) 0 (length (keys_stored_in (event.seen t) segment))) new.nothing)
+      (λ segment. ap (λ t. keys_stored_in b.shape (event.seen t) segment) new.nothing)
+      (λ segment. ap (λ t. frequencies_of (came_with (mark.marked t) segment) (frequency_in (mark.marked t) segment) 0 (items_stored_in b.shape (event.seen t) segment)) new.nothing)
       new.plain.current
       (λ bucket. ap (λ t. width (mark.marked t) bucket) new.nothing)
       (ap (λ t. all_drawn (mark.marked t)) new.nothing)
@@ -47,7 +48,7 @@ module _ (b : Board) (p : Pass) (new : IsNewPass b 0 p) where
     record {
       one = one;
       quiet = new_quiet b 0 p new;
-      used = λ segment count is. none_used b 0 p segment count new.plain is ∙ sym (ap (λ t. length (keys_stored_in (event.seen t) segment)) new.nothing);
+      used = λ segment count is. none_used b 0 p segment count new.plain is ∙ sym (ap (λ t. length (keys_stored_in b.shape (event.seen t) segment)) new.nothing);
       rows = λ key value segment row stands last. absurd (none-some (slot key segment row) (sym (ap (λ t. last_at (mark.marked t) key) new.nothing) ∙ last));
       kept = IsKept-same starts_fresh (IsKept-fresh b.shape);
     },

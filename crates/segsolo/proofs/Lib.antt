@@ -1,8 +1,10 @@
 pub mod Rows
+pub mod Walks
 pub mod Pairs
 pub mod Marks
 pub mod AlonePass
 pub mod Grown
+pub mod NextRow
 pub mod AloneRows
 pub mod AloneWidths
 pub mod AloneStarts

@@ -1,12 +1,12 @@
 -- What a call of a lone pass leaves of the places and the frequencies of items, by the entries that it added.
 use Rattle.std.proofs.Common.{◌≡◌, ℕ, ◌&&◌, cond, List, [], ◌∷◌, ◌++◌, Option, Some, None, refl, sym, ap, ◌∙◌, subst, arith, eqb}
-use Rattle.std.proofs.lemmas.Bool.{eq-eqb}
 use Rattle.std.proofs.lemmas.Option.{none-some}
 use Rattle.segmodel.specs.declared.entry.Entry.TheVariants as entry
 use Rattle.segmodel.specs.Words.{Entry}
 use Rattle.segcore.specs.Bucket.{slot}
 use Rattle.segcore.specs.Mark.{at, bumped, chained, drawn, enters, entered, left, linked_in, last_at, frequency_in, IsOrderly, Mark, same_key}
 use Rattle.segcore.specs.Words.{entries}
+use Rattle.segsolo.specs.Stored.{came_with}
 use Rattle.segsolo.proofs.Pairs.{all_raised, brings, IsPaired, none_waits}
 
 -- ---- items stay
@@ -40,6 +40,17 @@ keeps_frequencies (chained bucket ∷ more) old paired none still segment row = 
 keeps_frequencies (entered pass other ∷ more) old paired none still segment row = keeps_frequencies more old paired none still segment row
 keeps_frequencies (left pass other ∷ more) old paired none still segment row = keeps_frequencies more old paired none still segment row
 
+-- and those that they came with
+pub keeps_came : (more old : List Mark) → IsPaired None (more ++ old) → BringNothing (entries more) → (segment row : ℕ) → came_with (more ++ old) segment row ≡ came_with old segment row
+keeps_came [] old paired none segment row = refl
+keeps_came (enters added ∷ more) old paired none segment row = keeps_came more old (subst (λ brought. IsPaired brought (more ++ old)) none.0 paired) none.1 segment row
+keeps_came (at key other number position frequency ∷ more) old paired none segment row = absurd paired
+keeps_came (bumped other number frequency ∷ more) old paired none segment row = keeps_came more old paired none segment row
+keeps_came (drawn bucket ∷ more) old paired none segment row = keeps_came more old paired none segment row
+keeps_came (chained bucket ∷ more) old paired none segment row = keeps_came more old paired none segment row
+keeps_came (entered pass other ∷ more) old paired none segment row = keeps_came more old paired none segment row
+keeps_came (left pass other ∷ more) old paired none segment row = keeps_came more old paired none segment row
+
 -- without an entry the rows stay linked as they are
 pub keeps_rows : (more old : List Mark) → IsPaired None (more ++ old) → entries more ≡ [] → (segment row : ℕ) → linked_in (more ++ old) segment row ≡ linked_in old segment row
 keeps_rows [] old paired none segment row = refl
@@ -60,9 +71,10 @@ keeps_rows (left pass other ∷ more) old paired none segment row = keeps_rows m
 pub record BringsItem (key : List ℕ) (segment frequency : ℕ) (old new : List Mark) : Type 0 where
   pub row : ℕ
   pub unlinked : linked_in old segment row ≡ None
-  pub linked : linked_in new segment row ≡ Some key
+  pub rows : (s r : ℕ) → linked_in new s r ≡ cond (eqb segment s && eqb row r) (Some key) (linked_in old s r)
   pub lasts : (other : List ℕ) → last_at new other ≡ cond (same_key key other) (Some (slot other segment row)) (last_at old other)
   pub frequencies : (s r : ℕ) → frequency_in new s r ≡ cond (eqb segment s && eqb row r) frequency (frequency_in old s r)
+  pub came : (s r : ℕ) → came_with new s r ≡ cond (eqb segment s && eqb row r) frequency (came_with old s r)
 
 not_refilled : (added : Entry) (marks : List Mark) (brought : List ℕ × ℕ × Option ℕ) (segment row : ℕ)
     → brings added ≡ Some brought → linked_in (enters added ∷ marks) segment row ≡ linked_in marks segment row
@@ -78,17 +90,18 @@ comes [] old added key segment settled paired is none still orderly = absurd (no
 comes (at k s row position f ∷ more) old added key segment settled paired is none still orderly =
     let lasts = keeps_lasts more old paired.1 (subst BringNothing (sym none) tt) in
     let frequencies = keeps_frequencies more old paired.1 (subst BringNothing (sym none) tt) still in
+    let came = keeps_came more old paired.1 (subst BringNothing (sym none) tt) in
     let rows = keeps_rows more old paired.1 none in
     let whose : k ≡ key = paired.0.0 in
     let place : s ≡ segment = paired.0.1 in
     let first : f ≡ 1 = paired.0.2 in record {
       row = row;
       unlinked = sym (rows segment row) ∙ subst (λ n. linked_in (more ++ old) n row ≡ None) place orderly.1;
-      linked = not_refilled added (at k s row position f ∷ (more ++ old)) (key, segment, Some 1) segment row is
-          ∙ (ap (λ t. cond (t && eqb row row) (Some k) (linked_in (more ++ old) segment row)) (eq-eqb s segment place)
-          ∙ (ap (λ t. cond t (Some k) (linked_in (more ++ old) segment row)) (eq-eqb row row refl) ∙ ap Some whose));
+      rows = λ n r. not_refilled added (at k s row position f ∷ (more ++ old)) (key, segment, Some 1) n r is
+          ∙ (λ i. cond (eqb (place i) n && eqb row r) (Some (whose i)) (rows n r i));
       lasts = λ other. (λ i. cond (same_key (whose i) other) (Some (slot other (place i) row)) (lasts other i));
       frequencies = λ n r. (λ i. cond (eqb (place i) n && eqb row r) (first i) (frequencies n r i));
+      came = λ n r. (λ i. cond (eqb (place i) n && eqb row r) (first i) (came n r i));
     }
 comes (mark ∷ more) old added key segment settled paired is none still orderly = absurd paired
 
@@ -116,34 +129,38 @@ brings_item (drawn bucket ∷ more) old added key segment settled paired is one 
     record {
       row = rest.row;
       unlinked = rest.unlinked;
-      linked = rest.linked;
+      rows = rest.rows;
       lasts = rest.lasts;
       frequencies = rest.frequencies;
+      came = rest.came;
     }
 brings_item (chained bucket ∷ more) old added key segment settled paired is one still orderly =
     let rest = brings_item more old added key segment settled paired is one still orderly.0 in
     record {
       row = rest.row;
       unlinked = rest.unlinked;
-      linked = rest.linked;
+      rows = rest.rows;
       lasts = rest.lasts;
       frequencies = rest.frequencies;
+      came = rest.came;
     }
 brings_item (entered pass s ∷ more) old added key segment settled paired is one still orderly =
     let rest = brings_item more old added key segment settled paired is one still orderly.0 in
     record {
       row = rest.row;
       unlinked = rest.unlinked;
-      linked = rest.linked;
+      rows = rest.rows;
       lasts = rest.lasts;
       frequencies = rest.frequencies;
+      came = rest.came;
     }
 brings_item (left pass s ∷ more) old added key segment settled paired is one still orderly =
     let rest = brings_item more old added key segment settled paired is one still orderly.0 in
     record {
       row = rest.row;
       unlinked = rest.unlinked;
-      linked = rest.linked;
+      rows = rest.rows;
       lasts = rest.lasts;
       frequencies = rest.frequencies;
+      came = rest.came;
     }
