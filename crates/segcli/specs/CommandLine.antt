@@ -1,6 +1,6 @@
 -- The command line of the program as data: its commands, and what `clap` reads of each.
 use Rattle.std.specs.Prelude.{◌≡◌, ◌==◌, ◌++◌, ℕ, pos, true, false, List, [], ◌∷◌, fold, map, Some, if◌then◌else◌, codes, decimal}
-use Rattle.segword.specs.Words.{Shape}
+use Rattle.segword.specs.Words.{Shape, value_limit}
 use Rattle.clap.specs.Walk.{Rule, Text}
 use Rattle.clap.specs.Simple.{App, Shape as CommandRules, app_of, new_rule, new_shape, with_rule, with_subcommand}
 use Rattle.clap.specs.declared.builder.action.ArgAction.TheVariants.{SetTrue}
@@ -70,7 +70,7 @@ abbrev pub keys_option : NumberOption
 keys_option = record (of_32_bits (codes "keys") 64) { least = 1; most = 1000000 }
 
 abbrev pub value_bytes_option : NumberOption
-value_bytes_option = record (of_32_bits (codes "value-bytes") 32) { most = 32 }
+value_bytes_option = record (of_32_bits (codes "value-bytes") 32) { most = value_limit }
 
 abbrev pub threads_option : NumberOption
 threads_option = of_32_bits (codes "threads") default_shape.passes

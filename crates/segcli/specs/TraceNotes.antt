@@ -11,6 +11,7 @@ column_reason column.Time = codes ": no time in seconds or milliseconds\n"
 column_reason column.Key = codes ": no key stands here\n"
 column_reason column.Verb = codes ": no operation has this name\n"
 column_reason column.Life = codes ": no time to live below 2^32\n"
+column_reason column.Size = codes ": no number of bytes below 2^32\n"
 
 abbrev pub column_note : Column → ℕ → List ℕ
 column_note c place = codes "word " ++ decimal place ++ column_reason c

@@ -41,7 +41,7 @@ const COMMANDS: u32 = 1000;
 
 const KEYS: u32 = 64;
 
-/// How many bytes each value of a replay has, if no option sets it.
+/// How many bytes a replay's value has where neither its line nor an option says it.
 const VALUE_BYTES: u32 = 32;
 
 /// Why no command was read.

@@ -10,6 +10,7 @@ ghost use Rattle.segcli.specs.CommandLine.{value_bytes_option, with_rules};
 
 use clap::builder::{ValueParser, ValueParserFactory};
 use clap::{Arg, ArgAction, Command, value_parser};
+use segword::VALUE_BYTES;
 use std::alloc::{AllocError, Global};
 
 const ABOUT: &str = "Runs scripts and loads over the object index of a segment-structured cache";
@@ -86,10 +87,11 @@ const REPLAY: &str = "Replays a trace through a cache, and writes how often its 
 
 const AFTER_REPLAY: &str =
     "Lines: get KEY, which puts what it misses; KEY, the same; set KEY; delete KEY. With --csv TIME,KEY,OP,TTL,
-Twitter's seven fields, or columns that a header names (timestamp, key, op, ttl; others are skipped).
-The clock shows TIME (from 10^12 on milliseconds), and a segment that the line refills lives for TTL (0:
-it lasts). A key over 24 bytes goes by its hash. Empty lines count for nothing. A bad line ends the
-replay with status 2, behind the totals of the lines before it; --explain says why it is bad.
+Twitter's seven fields, or columns that a header names (timestamp, key, op, ttl, value_size; others are
+skipped). The clock shows TIME (from 10^12 on milliseconds), and a segment that the line refills lives for
+TTL (0: it lasts). A key over 24 bytes goes by its hash. A value has value_size bytes, or --value-bytes.
+Empty lines count for nothing. A bad line ends the replay with status 2, behind the totals of the lines
+before it; --explain says why it is bad.
 
 The totals are a line or an object for each cache: its rows, its bytes with those of its clients' queues,
 gets, hits, their rate in %, sets, deletes, evicted keys, items kept, puts refused for want of room, busy
@@ -275,7 +277,7 @@ fn with_replay<'a>(alloc: Global, command: Command<'a>) -> Result<Command<'a>, A
         "value-bytes",
         value_bytes_parser(),
         "32",
-        "Bytes of each value: 0 to 32",
+        "Bytes of a value whose line doesn't say it",
     );
     let threads = part::<u32>(
         alloc,
@@ -310,7 +312,7 @@ fn with_replay<'a>(alloc: Global, command: Command<'a>) -> Result<Command<'a>, A
 fn value_bytes_parser<'a>() -> ValueParser<'a>
     ensures { result ≡ number_parser value_bytes_option }
 {
-    value_parser!(u32).range(0..=32)
+    value_parser!(u32).range(0..=VALUE_BYTES as i64)
 }
 
 fn keys_parser<'a>() -> ValueParser<'a>

@@ -15,6 +15,7 @@ fn column_reason(column: Column) -> &'static [u8]
         Column::Key => b": no key stands here\n",
         Column::Verb => b": no operation has this name\n",
         Column::Life => b": no time to live below 2^32\n",
+        Column::Size => b": no number of bytes below 2^32\n",
     }
 }
 

@@ -1,6 +1,7 @@
 -- What a line of a trace states: a command, the columns of the lines behind it, or nothing.
 use Rattle.std.specs.Prelude.{ℕ, ◌+◌, ◌-◌, ◌^◌, ◌%◌, ◌/◌, ◌==◌, ◌||◌, Bool, max, List, [], ◌∷◌, length, slice_index_or, Option, Some, None, Result, Ok, Err, if◌then◌else◌, codes}
 use Rattle.std.specs.List.{slice_split}
+use Rattle.std.specs.Option.{option_map}
 use Rattle.segword.specs.Fnv.{hash_of}
 use Rattle.segclient.specs.Counting.{with_more}
 use Rattle.segreplay.specs.declared.line.Column.{Column}
@@ -21,19 +22,33 @@ use Rattle.segreplay.specs.Words.{is_name, key_named, lasting, moment_named, num
 
 -- a key and nothing more
 abbrev pub bare_columns : Columns
-bare_columns = record { fields = 1; time = None; key = 0; verb = None; life = None }
+bare_columns = record { fields = 1; time = None; key = 0; verb = None; life = None; size = None }
 
 -- an operation and a key
 abbrev pub pair_columns : Columns
-pair_columns = record { fields = 2; time = None; key = 1; verb = Some 0; life = None }
+pair_columns = record { fields = 2; time = None; key = 1; verb = Some 0; life = None; size = None }
 
 -- time,key,op,ttl
 abbrev pub csv_columns : Columns
-csv_columns = record { fields = 4; time = Some 0; key = 1; verb = Some 2; life = Some 3 }
+csv_columns = record {
+  fields = 4;
+  time = Some 0;
+  key = 1;
+  verb = Some 2;
+  life = Some 3;
+  size = None;
+}
 
 -- timestamp, key, key size, value size, client, operation, time to live
 abbrev pub twitter_columns : Columns
-twitter_columns = record { fields = 7; time = Some 0; key = 1; verb = Some 5; life = Some 6 }
+twitter_columns = record {
+  fields = 7;
+  time = Some 0;
+  key = 1;
+  verb = Some 5;
+  life = Some 6;
+  size = Some 3;
+}
 
 -- the columns of a line with so many fields
 abbrev pub columns_of : Form → ℕ → Columns
@@ -71,15 +86,27 @@ abbrev pub life_at : Option ℕ → List (List ℕ) → Option ℕ
 life_at None fields = Some (2 ^ 32 - 1)
 life_at (Some place) fields = lasting (number_named (field_at place fields))
 
+-- a line without a column of sizes doesn't say how many bytes its value has
+abbrev pub size_at : Option ℕ → List (List ℕ) → Option (Option ℕ)
+size_at None fields = Some None
+size_at (Some place) fields = option_map Some (number_named (field_at place fields))
+
 -- a command, if each of its parts is one; else the first part that is none
 abbrev pub request_of : Option ℕ → Option (List ℕ) → Option Operation → Option ℕ
-    → Result TraceCommand Column
-request_of None _ _ _ = Err column.Time
-request_of (Some moment) None _ _ = Err column.Key
-request_of (Some moment) (Some key) None _ = Err column.Verb
-request_of (Some moment) (Some key) (Some verb) None = Err column.Life
-request_of (Some moment) (Some key) (Some verb) (Some time) =
-    Ok (record { verb = verb; key = key; moment = moment; time_to_live = time })
+    → Option (Option ℕ) → Result TraceCommand Column
+request_of None _ _ _ _ = Err column.Time
+request_of (Some moment) None _ _ _ = Err column.Key
+request_of (Some moment) (Some key) None _ _ = Err column.Verb
+request_of (Some moment) (Some key) (Some verb) None _ = Err column.Life
+request_of (Some moment) (Some key) (Some verb) (Some time) None = Err column.Size
+request_of (Some moment) (Some key) (Some verb) (Some time) (Some size) =
+    Ok (record {
+      verb = verb;
+      key = key;
+      moment = moment;
+      time_to_live = time;
+      value_bytes = size;
+    })
 
 -- the place of a column, if the line has it, or 0
 abbrev pub place_or_0 : Option ℕ → ℕ
@@ -92,6 +119,7 @@ place_in columns column.Time = place_or_0 columns.time
 place_in columns column.Key = columns.key
 place_in columns column.Verb = place_or_0 columns.verb
 place_in columns column.Life = place_or_0 columns.life
+place_in columns column.Size = place_or_0 columns.size
 
 -- the word of this column is none; words are counted from 1
 abbrev pub faulted : Columns → Result TraceCommand Column → Result TraceCommand TraceLineFault
@@ -104,7 +132,8 @@ request_at columns fields =
     then faulted columns (request_of (moment_at columns.time fields)
     (key_named (field_at columns.key fields))
     (verb_at columns.verb fields)
-    (life_at columns.life fields))
+    (life_at columns.life fields)
+    (size_at columns.size fields))
     else Err (fault.Count (length fields) columns.fields)
 
 -- ---- headers
@@ -115,6 +144,7 @@ is_named column.Time text = is_name text (codes "timestamp") || is_name text (co
 is_named column.Key text = is_name text (codes "key")
 is_named column.Verb text = is_name text (codes "op") || is_name text (codes "operation")
 is_named column.Life text = is_name text (codes "ttl")
+is_named column.Size text = is_name text (codes "value_size")
 
 -- the place of the first field that names the column, the first of which has this place
 abbrev pub place_named : Column → ℕ → List (List ℕ) → Option ℕ
@@ -123,16 +153,24 @@ place_named name place (field ∷ fields) =
     if is_named name (trimmed field) then Some place else place_named name (place + 1) fields
 
 -- a header names moments and keys at least
-abbrev pub header_of : ℕ → Option ℕ → Option ℕ → Option ℕ → Option ℕ → Option Columns
-header_of fields (Some time) (Some key) verb life =
-    Some (record { fields = fields; time = Some time; key = key; verb = verb; life = life })
-header_of _ _ _ _ _ = None
+abbrev pub header_of : ℕ → Option ℕ → Option ℕ → Option ℕ → Option ℕ → Option ℕ
+    → Option Columns
+header_of fields (Some time) (Some key) verb life size = Some (record {
+  fields = fields;
+  time = Some time;
+  key = key;
+  verb = verb;
+  life = life;
+  size = size;
+})
+header_of _ _ _ _ _ _ = None
 
 -- the columns that a line names
 abbrev pub columns_named : List (List ℕ) → Option Columns
 columns_named fields = header_of (length fields)
     (place_named column.Time 0 fields) (place_named column.Key 0 fields)
     (place_named column.Verb 0 fields) (place_named column.Life 0 fields)
+    (place_named column.Size 0 fields)
 
 -- only lines with commas have headers
 abbrev pub header_in : Form → List (List ℕ) → Option Columns

@@ -1,7 +1,10 @@
 -- How a client makes commands of a trace, and what it counts of them.
-use Rattle.std.specs.Prelude.{◌≡◌, ◌≢◌, ◌-◌, ℕ, List, [], ◌∷◌, if◌then◌else◌, unwrap_or}
+use Rattle.std.specs.Prelude.{◌≡◌, ◌≢◌, ◌-◌, ℕ, min, List, [], ◌∷◌, replicate, take, if◌then◌else◌, unwrap_or}
+use Rattle.std.specs.Option.{option_map_or}
+use Rattle.segword.specs.Words.{value_limit}
 use Rattle.segmodel.specs.declared.answer.GetAnswer.TheVariants as get
 use Rattle.segclient.specs.declared.client.Client.{Client}
+use Rattle.segclient.specs.declared.put.PutAnswer.{PutAnswer}
 use Rattle.segclient.specs.Client.{MakesCall}
 use Rattle.segclient.specs.Made.{DeletesKey, Gets, ReturnsTable}
 use Rattle.segclient.specs.Member.{SetsNow, SetsTimeToLive}
@@ -25,6 +28,18 @@ IsSetFor r old new =
     × MakesCall (λ board. SetsNow r.moment) old between
     × MakesCall (λ board. SetsTimeToLive r.time_to_live) between new
 
+-- a value of so many bytes, all 0, or of as many as a value can have
+abbrev pub value_of : ℕ → List ℕ
+value_of bytes = take (min bytes value_limit) (replicate value_limit 0)
+
+-- the value that a command puts: of the size that its line has, or else this one
+abbrev pub value_for : List ℕ → TraceCommand → List ℕ
+value_for value r = option_map_or value_of r.value_bytes value
+
+-- the command's key was put, with its value
+abbrev pub PutsFor : List ℕ → TraceCommand → PutAnswer → Client → Client → Type 0
+PutsFor value r told old new = MakesCall (Puts r.key (value_for value r) told) old new
+
 -- the calls of a command, which came to this: a get that missed is followed by a put of its key
 abbrev pub Makes : List ℕ → TraceCommand → CommandResult → Client → Client → Type 0
 Makes value r outcome.Hit old new =
@@ -33,11 +48,11 @@ Makes value r (outcome.Miss told) old new =
     (r.verb ≡ verb.Get)
     × (between : Client)
     × MakesCall (Gets r.key get.Miss) old between
-    × MakesCall (Puts r.key value told) between new
+    × PutsFor value r told between new
 Makes value r outcome.GetBusy old new =
     (r.verb ≡ verb.Get) × MakesCall (Gets r.key get.Busy) old new
 Makes value r (outcome.Set told) old new =
-    (r.verb ≡ verb.Set) × MakesCall (Puts r.key value told) old new
+    (r.verb ≡ verb.Set) × PutsFor value r told old new
 Makes value r (outcome.Delete told) old new =
     (r.verb ≡ verb.Delete) × MakesCall (DeletesKey r.key told) old new
 

@@ -1,6 +1,5 @@
 -- What a replay comes to.
-use Rattle.std.specs.Prelude.{◌≡◌, ◌<◌, ℕ, ◌+◌, Bool, true, false, min, List, [], ◌∷◌, length, replicate, take, slice_index_or, Result, Err}
-use Rattle.segword.specs.Words.{value_limit}
+use Rattle.std.specs.Prelude.{◌≡◌, ◌<◌, ℕ, ◌+◌, Bool, true, false, List, [], ◌∷◌, length, slice_index_or, Result, Err}
 use Rattle.segreplay.specs.declared.cache.CacheConfig.{CacheConfig}
 use Rattle.segreplay.specs.declared.fault.TraceFault.{TraceFault}
 use Rattle.segreplay.specs.declared.fault.TraceFault.TheVariants as fault
@@ -15,7 +14,7 @@ use Rattle.segreplay.specs.declared.totals.CacheTotals.{CacheTotals}
 use Rattle.segreplay.specs.Caches.{AreFresh, bytes_of, caches_of, counts_after}
 use Rattle.segreplay.specs.Counting.{no_counts}
 use Rattle.segreplay.specs.Lives.{lives_after, lives_of}
-use Rattle.segreplay.specs.Playing.{CountsItems, Plays}
+use Rattle.segreplay.specs.Playing.{CountsItems, Plays, value_of}
 use Rattle.segreplay.specs.Traces.{EndsTrace, HandsOn}
 
 -- Each player made its own of these turns, in their order.
@@ -43,10 +42,6 @@ MakesSome old new players players' lives lives' =
 
 abbrev pub rules_of : ReplayPlan → Rules
 rules_of plan = record { form = plan.form; clients = plan.shape.passes; warm = plan.warm }
-
--- the value that is put: so many bytes, all 0
-abbrev pub value_of : ℕ → List ℕ
-value_of bytes = take (min bytes value_limit) (replicate value_limit 0)
 
 -- the totals of these caches, the first of which has this number,
 -- over a trace with so many times to live

@@ -3,7 +3,7 @@ ghost use Rattle.std.specs.Prelude.{◌≡◌, length};
 ghost use Rattle.segreplay.specs.Lines.{client_of, columns_named, columns_of, fields_of};
 ghost use Rattle.segreplay.specs.Lines.{fields_stated, header_in, is_named, life_at, moment_at};
 ghost use Rattle.segreplay.specs.Lines.{place_in, place_named, request_at, request_of, separator};
-ghost use Rattle.segreplay.specs.Lines.{stated, verb_at};
+ghost use Rattle.segreplay.specs.Lines.{size_at, stated, verb_at};
 
 use crate::word::{
     count, field, is_name, key_of, lasting, moment_of, number_of, verb_of, without_return,
@@ -22,6 +22,8 @@ pub struct Columns {
     pub verb: Option<usize>,
     /// Without this column, what a line puts lasts.
     pub life: Option<usize>,
+    /// Without this column, each value has as many bytes as the plan says.
+    pub size: Option<usize>,
 }
 
 /// A column that is read.
@@ -31,6 +33,7 @@ pub enum Column {
     Key,
     Verb,
     Life,
+    Size,
 }
 
 /// How the lines of a trace are written.
@@ -61,6 +64,8 @@ pub struct TraceCommand {
     pub moment: u32,
     /// How long what it puts is to live.
     pub time_to_live: u32,
+    /// How many bytes the value has that it puts, if the line says so.
+    pub value_bytes: Option<u32>,
 }
 
 /// What a line states.
@@ -91,6 +96,7 @@ const BARE: Columns = Columns {
     key: 0,
     verb: None,
     life: None,
+    size: None,
 };
 
 // An operation and a key.
@@ -100,6 +106,7 @@ const PAIR: Columns = Columns {
     key: 1,
     verb: Some(0),
     life: None,
+    size: None,
 };
 
 // time,key,op,ttl
@@ -109,6 +116,7 @@ const CSV: Columns = Columns {
     key: 1,
     verb: Some(2),
     life: Some(3),
+    size: None,
 };
 
 // timestamp, key, key size, value size, client, operation, time to live
@@ -118,6 +126,7 @@ const TWITTER: Columns = Columns {
     key: 1,
     verb: Some(5),
     life: Some(6),
+    size: Some(3),
 };
 
 // The columns of a line with so many fields.
@@ -177,14 +186,26 @@ fn life_at(row: Row<'_>, place: Option<usize>) -> Option<u32>
     }
 }
 
+// The inner option is None where the line doesn't say it.
+fn size_at(row: Row<'_>, place: Option<usize>) -> Option<Option<u32>>
+    ensures { result ≡ size_at place (fields_of row.entry.at row.entry.line.now) }
+{
+    let Some(place) = place else {
+        return Some(None);
+    };
+    let bytes = number_of(field(row.line, row.at, place))?;
+    Some(Some(bytes))
+}
+
 // The command, or the first of its parts that is none.
 fn request_of(
     moment: Option<u32>,
     key: Option<Key>,
     verb: Option<Operation>,
     time_to_live: Option<u32>,
+    value_bytes: Option<Option<u32>>,
 ) -> Result<TraceCommand, Column>
-    ensures { result ≡ request_of moment key verb time_to_live }
+    ensures { result ≡ request_of moment key verb time_to_live value_bytes }
 {
     let Some(moment) = moment else {
         return Err(Column::Time);
@@ -198,11 +219,15 @@ fn request_of(
     let Some(time_to_live) = time_to_live else {
         return Err(Column::Life);
     };
+    let Some(value_bytes) = value_bytes else {
+        return Err(Column::Size);
+    };
     Ok(TraceCommand {
         verb,
         key,
         moment,
         time_to_live,
+        value_bytes,
     })
 }
 
@@ -215,6 +240,7 @@ fn place_in(columns: Columns, column: Column) -> usize
         Column::Key => columns.key,
         Column::Verb => columns.verb.unwrap_or(0),
         Column::Life => columns.life.unwrap_or(0),
+        Column::Size => columns.size.unwrap_or(0),
     }
 }
 
@@ -231,6 +257,7 @@ fn request_at(row: Row<'_>, columns: Columns, fields: usize) -> Result<TraceComm
         key_of(field(row.line, row.at, columns.key)),
         verb_at(row, columns.verb),
         life_at(row, columns.life),
+        size_at(row, columns.size),
     );
     match request {
         Ok(request) => Ok(request),
@@ -250,6 +277,7 @@ fn is_named(column: Column, text: &[u8]) -> bool
         Column::Key => is_name(text, b"key"),
         Column::Verb => is_name(text, b"op") || is_name(text, b"operation"),
         Column::Life => is_name(text, b"ttl"),
+        Column::Size => is_name(text, b"value_size"),
     }
 }
 
@@ -279,6 +307,7 @@ fn columns_named(row: Row<'_>, fields: usize) -> Option<Columns>
         key,
         verb: place_of(row, Column::Verb, fields),
         life: place_of(row, Column::Life, fields),
+        size: place_of(row, Column::Size, fields),
     })
 }
 

@@ -1,9 +1,23 @@
 //! A client that makes its commands of a trace, and counts what they came to.
+ghost use Rattle.std.specs.Prelude.{◌≡◌};
+ghost use Rattle.segreplay.specs.Playing.{value_of};
+
 use crate::counts::{CommandResult, Counts};
 use crate::line::{Operation, TraceCommand};
 use crate::lives::share_given;
-use segclient::{Client, GetAnswer};
-use segword::Value;
+use segclient::{Client, GetAnswer, PutAnswer};
+use segword::{VALUE_BYTES, Value};
+
+/// A value of so many bytes, all 0, or of `VALUE_BYTES` if that is less.
+pub(crate) fn value_of(bytes: usize) -> Value
+    ensures { result ≡ value_of bytes }
+{
+    let zeros = [0u8; VALUE_BYTES];
+    match Value::new(&zeros[..bytes.min(VALUE_BYTES)]) {
+        Some(value) => value,
+        None => unreachable!(),
+    }
+}
 
 /// A command, the client that is to make it, and whether it is counted.
 #[derive(Drop)]
@@ -13,7 +27,7 @@ pub(crate) struct Assignment {
     pub(crate) is_counted: bool,
 }
 
-/// A client with its number, the value that it puts, and its counts.
+/// A client with its number, the value that it puts where a command has no size, and its counts.
 #[derive(Drop)]
 pub(crate) struct Player<'i> {
     pub(crate) client: Client<'i>,
@@ -27,8 +41,8 @@ pub(crate) struct Player<'i> {
 impl<'i> Player<'i> {
     ghost use Rattle.std.specs.Prelude.{◌≡◌};
     ghost use Rattle.segreplay.specs.Counting.{no_counts};
-    ghost use Rattle.segreplay.specs.Playing.{CountsItems, given_to, Makes, Plays, Serves, Takes};
-    ghost use Rattle.segreplay.specs.Playing.{TakesOwn};
+    ghost use Rattle.segreplay.specs.Playing.{CountsItems, given_to, Makes, Plays, PutsFor, Serves};
+    ghost use Rattle.segreplay.specs.Playing.{Takes, TakesOwn};
 
     pub(crate) fn new(client: Client<'i>, cache: usize, number: u32, value: Value) -> Player<'i>
         ensures client { result.client ≡ client.entry }
@@ -112,7 +126,7 @@ impl<'i> Player<'i> {
         self.client.set_time_to_live(request.time_to_live);
         match request.verb {
             Operation::Get => self.get(request),
-            Operation::Set => CommandResult::Set(self.client.put(&request.key, &self.value)),
+            Operation::Set => CommandResult::Set(self.put(request)),
             Operation::Delete => CommandResult::Delete(self.client.delete(&request.key)),
         }
     }
@@ -128,8 +142,22 @@ impl<'i> Player<'i> {
     {
         match self.client.get(&request.key) {
             GetAnswer::Found(_) => CommandResult::Hit,
-            GetAnswer::Miss => CommandResult::Miss(self.client.put(&request.key, &self.value)),
+            GetAnswer::Miss => CommandResult::Miss(self.put(request)),
             GetAnswer::Busy => CommandResult::GetBusy,
+        }
+    }
+
+    // Puts a value of the command's size, or else the player's own.
+    fn put(&mut self, request: &TraceCommand) -> PutAnswer
+        ensures puts { PutsFor self.old.value request.now result self.old.client self.new.client }
+        ensures cache { self.new.cache ≡ self.old.cache }
+        ensures number { self.new.number ≡ self.old.number }
+        ensures value { self.new.value ≡ self.old.value }
+        ensures counts { self.new.counts ≡ self.old.counts }
+    {
+        match request.value_bytes {
+            None => self.client.put(&request.key, &self.value),
+            Some(bytes) => self.client.put(&request.key, &value_of(bytes as usize)),
         }
     }
 }

@@ -4,18 +4,18 @@ ghost use Rattle.segreplay.specs.declared.player.Assignment.{Assignment};
 ghost use Rattle.segreplay.specs.declared.player.Player.{Player};
 ghost use Rattle.segreplay.specs.Playing.{CountsItems, Plays};
 ghost use Rattle.segreplay.specs.Replays.{AddsLives, AllCount, AllPlay, is_read_end, IsReplay};
-ghost use Rattle.segreplay.specs.Replays.{MakesSome, value_of};
+ghost use Rattle.segreplay.specs.Replays.{MakesSome};
 ghost use Rattle.segreplay.specs.Traces.{EndsTrace, HandsOn, HasRead};
 
 use crate::cache::{Made, Retention, caches_of, make_all, players_of};
 use crate::fault::{ReplayFault, TraceFault};
 use crate::line::Form;
 use crate::lives::Lives;
-use crate::player::{Assignment, Player};
+use crate::player::{Assignment, Player, value_of};
 use crate::reading::{Rules, TracePosition};
 use crate::totals::{CacheTotals, totals_of};
 use segscript::Source;
-use segword::{Shape, VALUE_BYTES, Value};
+use segword::Shape;
 use std::alloc::{AllocError, Global};
 use std::thread::{Threads, for_each_mut};
 
@@ -29,7 +29,7 @@ const BATCH: usize = 16_384;
 #[derive(Clone, Copy, Debug)]
 pub struct ReplayPlan<'p> {
     pub form: Form,
-    /// How many bytes each value has, at most `VALUE_BYTES`.
+    /// How many bytes a value has whose line doesn't say it, at most `VALUE_BYTES`.
     pub value_bytes: usize,
     /// How many commands are left out of the counts.
     pub warm: u64,
@@ -51,17 +51,6 @@ pub trait Follow {
 pub struct Replayed {
     pub totals: Vec<CacheTotals>,
     pub end: Result<(), TraceFault>,
-}
-
-// The value that is put: so many bytes, all 0.
-fn value_of(bytes: usize) -> Value
-    ensures { result ≡ value_of bytes }
-{
-    let zeros = [0u8; VALUE_BYTES];
-    match Value::new(&zeros[..bytes.min(VALUE_BYTES)]) {
-        Some(value) => value,
-        None => unreachable!(),
-    }
 }
 
 // Who makes the commands: players on at most so many threads. `follow` looks on.

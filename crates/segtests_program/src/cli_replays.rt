@@ -244,6 +244,7 @@ fn a_header_names_the_columns(rt: HostRuntime) {
         b"size,ttl,op,key,timestamp\n9,10,set,a,0\n9,10,get,a,9\n9,10,get,a,10\n".as_slice(),
         b"Timestamp, Key, Operation, TTL, next\n0, a, set, 10, 1\n9, a, get, 10, 1\n10,a,get,10,1",
         b"0,a,set,10\ntime,op,ttl,key\n9,get,10,a\nkey,time,op\na,10,get\n",
+        b"value_size,time,key,op,ttl\n0,0,a,set,10\n32,9,a,get,10\n4294967295,10,a,get,10\n",
     ] {
         check_csv(&rt, trace, ONE_OF_TWO);
     }
@@ -336,6 +337,14 @@ fn a_bad_line_is_explained(rt: HostRuntime) {
         (
             b"0,a,get,0\n0,a,get,1.5\n",
             b"bad line 2\nword 4: no time to live below 2^32\n",
+        ),
+        (
+            b"value_size,key,time\n1,a,0\n1k,a,0\n",
+            b"bad line 3\nword 1: no number of bytes below 2^32\n",
+        ),
+        (
+            b"0,a,get,0\n0,a,1,,1,get,0\n",
+            b"bad line 2\nword 4: no number of bytes below 2^32\n",
         ),
         (
             b"0,a,get,0\n0,a,get\n",

@@ -1,7 +1,8 @@
 use Rattle.std.proofs.Common.{◌≡◌, ◌∙◌, All, ap, length, subst, sym}
 use Rattle.segreplay.specs.Caches.{AreFresh, caches_in, caches_of, HasValidShape}
 use Rattle.segreplay.specs.Lives.{lives_after, lives_of}
-use Rattle.segreplay.specs.Replays.{AllPlay, totals_from, value_of}
+use Rattle.segreplay.specs.Playing.{value_of}
+use Rattle.segreplay.specs.Replays.{AllPlay, totals_from}
 use Rattle.segreplay.specs.Traces.{EndsTrace}
 use Rattle.segreplay.proofs.Lists.{given_back}
 use Rattle.segreplay.proofs.run.replay.Goals as goal
