@@ -51,13 +51,18 @@ static enum finding finding_of(const struct caller *caller, const struct item *i
   return unique_of(item) <= atomic_load(&caller->uniques->flushed) ? FLUSHED : FOUND;
 }
 
-enum finding items_find(const struct caller *caller, struct word key, struct found *found) {
+/* Finds an item, and the version of its entry unless that is NULL. */
+static enum finding find(const struct caller *caller, struct word key, struct found *found, uint32_t *version) {
   size_t length = 0;
-  enum store_status status = store_read(caller->client, key, caller->now, &found->item, &length, &found->version);
+  enum store_status status = store_read(caller->client, key, caller->now, &found->item, &length, version);
   found->entry = status == STORE_OK;
   if (!found->entry) return status == STORE_ABSENT ? MISSING : UNKNOWN;
   found->length = length - HEADER;
   return finding_of(caller, &found->item);
+}
+
+enum finding items_find(const struct caller *caller, struct word key, struct found *found) {
+  return find(caller, key, found, NULL);
 }
 
 /* What goes to the store of an item. */
@@ -78,7 +83,7 @@ enum edited items_edit(const struct caller *caller, struct word key, items_edito
   struct found found;
   for (int tries = 0; tries < TRIES; tries++) {
     if (tries >= SPINS) nanosleep(&(struct timespec){.tv_nsec = PAUSE_NS}, NULL);
-    *finding = items_find(caller, key, &found);
+    *finding = find(caller, key, &found, &found.version);
     if (*finding == UNKNOWN) return OVERTAKEN;
     if (!edit(&found, *finding == FOUND, wish)) return UNCHANGED;
     enum store_status status = put_back(caller, key, &found);

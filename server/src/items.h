@@ -29,7 +29,7 @@ struct item {
 struct found {
   struct item item;
   size_t length;    /* of the data */
-  uint32_t version; /* of the key's bucket */
+  uint32_t version; /* of the key's bucket, in an edit */
   bool entry;       /* there is a value in the store, which may be absent as an item */
 };
 

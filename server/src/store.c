@@ -1,6 +1,5 @@
 // SPDX-License-Identifier: MIT
 #include "store.h"
-#include <malloc.h>
 #include <time.h>
 
 enum {
@@ -62,20 +61,12 @@ static uint64_t budget_for(uint64_t bytes, uint32_t clients) {
   return least;
 }
 
-/* Has the allocator give back what the opening needed for a moment. It would keep up to 32 MiB. */
-static void give_back_unused(void) {
-#ifdef __GLIBC__
-  malloc_trim(0);
-#endif
-}
-
 const char *store_open(struct store *store, const struct store_plan *plan, struct store_client *clients) {
   segcache_client opened[STORE_MOST_CLIENTS];
   if (plan->clients < 1 || plan->clients > STORE_MOST_CLIENTS) return "a store has 1 to 64 clients";
   uint64_t budget = budget_for(plan->bytes, plan->clients);
   uint32_t status = plan->bytes > 0 ? segcache_open_bytes(budget, plan->clients, &store->cache, opened)
                                     : segcache_open(plan->keys, plan->clients, &store->cache, opened);
-  give_back_unused();
   if (status != SEGCACHE_OK) return segcache_text(status);
   store->plan = *plan;
   for (uint32_t i = 0; i < plan->clients; i++) {
@@ -92,9 +83,12 @@ bool store_close(struct store *store, struct store_client *clients) {
 
 enum store_status store_read(struct store_client *client, struct word key, uint32_t now, void *value, size_t *length,
                              uint32_t *version) {
+  segcache_client *reader = &client->client;
   uint32_t status;
   int tries = 0;
-  do status = segcache_gets(&client->client, key.at, key.length, now, value, STORE_MOST_VALUE, length, version);
+  do
+    status = version != NULL ? segcache_gets(reader, key.at, key.length, now, value, STORE_MOST_VALUE, length, version)
+                             : segcache_get(reader, key.at, key.length, now, value, STORE_MOST_VALUE, length);
   while (was_busy(status, &tries));
   return status_of(status);
 }

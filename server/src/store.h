@@ -68,7 +68,8 @@ const char *store_open(struct store *store, const struct store_plan *plan, struc
 /* Gives all memory back. False if the library says that it can't. */
 bool store_close(struct store *store, struct store_client *clients);
 
-/* Reads a value of STORE_MOST_VALUE bytes at most, and the version for store_cas. OK, ABSENT or BUSY. */
+/* Reads a value of STORE_MOST_VALUE bytes at most, and the version for store_cas unless that is NULL. OK, ABSENT or
+ * BUSY. */
 enum store_status store_read(struct store_client *client, struct word key, uint32_t now, void *value, size_t *length,
                              uint32_t *version);
 
