@@ -23,6 +23,11 @@ const AGE: u64 = 256;
 // What was given up is kept in mind while the pass gives up so many times its rows.
 const ROUNDS: u64 = 2;
 
+// So many rows, or the most that are counted.
+fn short(rows: u32) -> u16 {
+    rows.min(u32::from(u16::MAX)) as u16
+}
+
 // How many rows of a segment, of two kinds: those that were stored in place of another, and the
 // others. What was updated is likely to be updated once more, so they die at rates of their own.
 #[derive(Clone, Copy)]
@@ -39,31 +44,31 @@ impl Kinds {
         }
     }
 
-    // With one row more of a kind.
-    pub(crate) fn with(self, is_update: bool) -> Kinds {
+    // With so many rows more of a kind.
+    pub(crate) fn with(self, rows: u32, is_update: bool) -> Kinds {
         if is_update {
             Kinds {
-                updates: self.updates.saturating_add(1),
+                updates: self.updates.saturating_add(short(rows)),
                 ..self
             }
         } else {
             Kinds {
-                others: self.others.saturating_add(1),
+                others: self.others.saturating_add(short(rows)),
                 ..self
             }
         }
     }
 
-    // With one row less of a kind.
-    fn without(self, is_update: bool) -> Kinds {
+    // With so many rows less of a kind.
+    fn without(self, rows: u32, is_update: bool) -> Kinds {
         if is_update {
             Kinds {
-                updates: self.updates.saturating_sub(1),
+                updates: self.updates.saturating_sub(short(rows)),
                 ..self
             }
         } else {
             Kinds {
-                others: self.others.saturating_sub(1),
+                others: self.others.saturating_sub(short(rows)),
                 ..self
             }
         }
@@ -206,7 +211,7 @@ impl Live {
                 used,
                 alive: Kinds {
                     updates: 0,
-                    others: used.min(u32::from(u16::MAX)) as u16,
+                    others: short(used),
                 },
                 since,
                 deadline,
@@ -214,21 +219,22 @@ impl Live {
         }
     }
 
-    // A row more of the segment was used. The pass stored into it, or moved an item there.
-    pub(crate) fn was_used(&mut self, at: u32, is_stored: bool, is_update: bool) {
+    // So many rows more of the segment were used. The pass stored an item into them, or moved one
+    // there.
+    pub(crate) fn were_used(&mut self, at: u32, rows: u32, is_stored: bool, is_update: bool) {
         if let Some(place) = self.segments.get_mut(at as usize) {
-            place.used = place.used.wrapping_add(1);
-            place.alive = place.alive.with(is_update);
+            place.used = place.used.wrapping_add(rows);
+            place.alive = place.alive.with(rows, is_update);
         }
         if is_stored {
-            self.stored = self.stored.wrapping_add(1);
+            self.stored = self.stored.wrapping_add(rows);
         }
     }
 
-    // A row of the segment died by a write of the pass.
-    pub(crate) fn has_died(&mut self, at: u32, is_update: bool) {
+    // So many rows of the segment died by a write of the pass.
+    pub(crate) fn have_died(&mut self, at: u32, rows: u32, is_update: bool) {
         if let Some(place) = self.segments.get_mut(at as usize) {
-            place.alive = place.alive.without(is_update);
+            place.alive = place.alive.without(rows, is_update);
         }
     }
 
@@ -306,7 +312,7 @@ impl Live {
         self.expired
     }
 
-    // A segment of so many rows is given up, since it has expired or by frequencies.
+    // A segment of so many rows is given up: a full one that has expired, or another one.
     pub(crate) fn is_given_up(&mut self, at: u32, rows: u32, has_expired: bool) {
         let used = self.known(at).used;
         let all = u64::from(rows).saturating_mul(self.segments.len() as u64);
@@ -315,7 +321,7 @@ impl Live {
             .unwrap_or(0)
             .min(ALL);
         let fades = self.expired.saturating_mul(part) >> 16;
-        let more = if has_expired && used >= rows { part } else { 0 };
+        let more = if has_expired { part } else { 0 };
         self.expired = self.expired.saturating_sub(fades).saturating_add(more);
     }
 

@@ -11,6 +11,10 @@ const NEED_OF_RECENT: u8 = 3;
 // An update keeps its standing: it moves on four times before it has to be read.
 const NEED_OF_UPDATE: u8 = 0;
 
+// In place of the need of a row behind which the item of the row goes on. The need of an item is
+// that of its last row.
+const GOES_ON: u8 = u8::MAX;
+
 // The needs of the rows of a pass's segments, and as many marks of keys.
 #[derive(Drop)]
 pub(crate) struct Needs {
@@ -49,12 +53,29 @@ impl Needs {
         self.of(segment, row) < NEED_OF_RECENT
     }
 
-    // From now on the item of the row needs so much.
-    pub(crate) fn set(&mut self, segment: u32, row: u32, need: u8) {
+    // The last row of the item that has this one first.
+    pub(crate) fn last_of(&self, segment: u32, first: u32) -> u32 {
+        for row in first..self.rows {
+            if self.of(segment, row) != GOES_ON {
+                return row;
+            }
+        }
+        first
+    }
+
+    fn set_row(&mut self, segment: u32, row: u32, need: u8) {
         let at = self.row_at(segment, row);
         if let Some(place) = self.needs.get_mut(at) {
             *place = need;
         }
+    }
+
+    // From now on the item from the first row to the last one needs so much.
+    pub(crate) fn set(&mut self, segment: u32, first: u32, last: u32, need: u8) {
+        for row in first..last {
+            self.set_row(segment, row, GOES_ON);
+        }
+        self.set_row(segment, last, need.min(GOES_ON - 1));
     }
 
     // What an item needs whose key, of this hash, is put now. A key that is new is marked.

@@ -48,7 +48,7 @@ pub struct Place {
     pub row: u32,
 }
 
-/// The segments of a pass in three queues, what the item of each row needs to move on,
+/// The segments of a pass in three queues, what each item needs to move on,
 /// and marks of keys that were put lately.
 #[derive(Drop)]
 pub struct Queues {
@@ -70,6 +70,8 @@ pub struct Queues {
     pub(crate) first_look: u32,
     // How many looks found no dead rows since one did.
     pub(crate) in_vain: u32,
+    // How many rows the longest item took so far.
+    longest: u32,
     // Whether items of the segment that is cleared now were left behind
     // since no main segment was open.
     leaves_some: bool,
@@ -93,6 +95,7 @@ impl Queues {
             may_try: true,
             first_look: 0,
             in_vain: 0,
+            longest: 1,
             leaves_some: false,
             is_strict: false,
         })
@@ -184,37 +187,52 @@ impl Queues {
         self.open_main.remove(deadline, segment);
     }
 
-    // A row more of the segment was used. If it was the last one, the segment is open no more.
-    fn was_used(&mut self, at: Place, is_stored: bool) {
+    // An item with this need has the next rows of the segment, up to this one. If no row is left
+    // then, the segment is open no more.
+    fn was_used(&mut self, at: Place, need: u8, is_stored: bool) {
+        let first = self.live.used(at.segment);
+        self.needs.set(at.segment, first, at.row, need);
+        let rows = at.row.saturating_add(1).saturating_sub(first);
+        self.longest = self.longest.max(rows);
         let is_update = self.needs.is_update(at.segment, at.row);
-        self.live.was_used(at.segment, is_stored, is_update);
+        self.live.were_used(at.segment, rows, is_stored, is_update);
         if self.live.used(at.segment) >= self.rows {
             self.was_closed(at.segment);
         }
     }
 
-    /// The item of a row of the source moved into a row of another segment. It needs more
-    /// to move on again, unless all moves on.
+    /// An item of the source moved, which goes up to a row there, into the next rows of another
+    /// segment, up to a row there. It needs more to move on again, unless all moves on.
     pub fn was_moved(&mut self, from: Place, into: Place) {
         let need = self.needs.of(from.segment, from.row);
         let more = u8::from(!self.clearing.moves_all);
-        self.needs
-            .set(into.segment, into.row, need.saturating_add(more));
-        self.was_used(into, false);
+        self.was_used(into, need.saturating_add(more), false);
         self.was_done(from, true);
     }
 
-    /// A key of this hash was stored into the row.
+    /// A key of this hash was stored into the next rows of a segment, up to this one.
     pub fn was_stored(&mut self, at: Place, hash: u64, is_update: bool) {
         let need = self.needs.of_put(hash, is_update);
-        self.needs.set(at.segment, at.row, need);
-        self.was_used(at, true);
+        self.was_used(at, need, true);
     }
 
-    /// The item of the row was replaced or deleted by the pass.
+    /// The item that has this row first was replaced or deleted by the pass.
     pub fn has_died(&mut self, at: Place) {
-        let is_update = self.needs.is_update(at.segment, at.row);
-        self.live.has_died(at.segment, is_update);
+        let last = self.needs.last_of(at.segment, at.row);
+        let rows = last.saturating_sub(at.row).saturating_add(1);
+        let is_update = self.needs.is_update(at.segment, last);
+        self.live.have_died(at.segment, rows, is_update);
+    }
+
+    // How many rows of the segment can have items: all of them, or those that are used, if the
+    // longest item doesn't fit into the others.
+    pub(crate) fn rows_in(&self, segment: u32) -> u32 {
+        let used = self.live.used(segment);
+        if self.rows.saturating_sub(used) < self.longest {
+            used
+        } else {
+            self.rows
+        }
     }
 
     // How many free segments are held ready. Of segments of one row it is one more,
@@ -295,7 +313,7 @@ impl Queues {
         free > 1 || free == 1 && is_in_time
     }
 
-    /// The least frequency with which the item of a row moves on: half of its need,
+    /// The least frequency with which the item moves on that goes up to a row: half of its need,
     /// one more if items of the last source were left behind, and at least this.
     /// Where all moves on, it is this.
     pub fn cutoff_of(&self, segment: u32, row: u32, least: u8) -> u8

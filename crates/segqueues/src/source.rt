@@ -138,7 +138,7 @@ impl Queues {
 
     // How many rows are left in the segment, in parts.
     fn room_in(&self, at: u32) -> u64 {
-        Self::parts_of(self.rows.saturating_sub(self.live.used(at)))
+        Self::parts_of(self.rows_in(at).saturating_sub(self.live.used(at)))
     }
 
     // How many rows are left for what moves from the segment, in parts.
@@ -159,7 +159,7 @@ impl Queues {
                 dead = dead.saturating_add(if self.is_open_main(at) {
                     self.room_in(at)
                 } else {
-                    Self::parts_of(self.rows).saturating_sub(self.live.estimate(at))
+                    Self::parts_of(self.rows_in(at)).saturating_sub(self.live.estimate(at))
                 });
             }
         }
@@ -168,7 +168,7 @@ impl Queues {
 
     // What is seen with one segment more. The open main ones aren't chosen.
     fn seen_with(&self, seen: Seen, segment: u32) -> Seen {
-        let all = Self::parts_of(self.rows);
+        let all = Self::parts_of(self.rows_in(segment));
         let rows = seen.rows.saturating_add(all);
         if self.is_open_main(segment) {
             return Seen {
@@ -401,7 +401,8 @@ impl Queues {
     /// A segment that has expired at this moment, the current one left out. It is cleared next.
     pub fn next_expired(&mut self, current: Option<u32>, moment: u32) -> Option<u32> {
         let segment = self.first_expired(current, moment)?;
-        self.live.is_given_up(segment, self.rows, true);
+        let is_full = self.live.used(segment) >= self.rows_in(segment);
+        self.live.is_given_up(segment, self.rows, is_full);
         self.begin(segment, false)
     }
 
@@ -426,12 +427,14 @@ impl Queues {
         self.clearing.moves_all
     }
 
-    /// A row of the source is done. It was alive, or wasn't.
+    /// The next rows of the source are done, up to this one. Their item was alive, or wasn't.
     pub fn was_done(&mut self, at: Place, is_alive: bool) {
-        self.clearing.looked = self.clearing.looked.saturating_add(1);
+        let looked = at.row.saturating_add(1);
+        let rows = looked.saturating_sub(self.clearing.looked);
+        self.clearing.looked = looked;
         if is_alive {
             let is_update = self.needs.is_update(at.segment, at.row);
-            self.clearing.alive = self.clearing.alive.with(is_update);
+            self.clearing.alive = self.clearing.alive.with(rows, is_update);
         }
     }
 
