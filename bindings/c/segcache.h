@@ -91,10 +91,11 @@ enum {
 #define SEGCACHE_VERSION "0.4.0-dev"
 #define SEGCACHE_VERSION_NUMBER 40000u
 
+/* SEGCACHE_STACK: bytes of stack that are enough for each call: measured, with a call of malloc. */
 #ifdef SEGCACHE_WIDE
 #define SEGCACHE_MAX_KEY 250u
 #define SEGCACHE_MAX_VALUE 4064u
-#define SEGCACHE_STACK 131072u /* bytes of stack that are enough for each call: measured, with a call of malloc */
+#define SEGCACHE_STACK 131072u
 #else
 #define SEGCACHE_MAX_KEY 24u
 #define SEGCACHE_MAX_VALUE 32u

@@ -402,9 +402,12 @@ fn a_whole_life() {
     assert!(cache.close().unwrap().count() > 100);
 }
 
+// As the crate's page says.
+const LEAST_STACK: usize = if cfg!(feature = "wide") { 192 * 1024 } else { 64 * 1024 };
+
 #[test]
-fn a_thread_of_64_kib_of_stack_can_make_each_call() {
-    let small = thread::Builder::new().stack_size(64 * 1024);
+fn a_thread_of_the_least_stack_can_make_each_call() {
+    let small = thread::Builder::new().stack_size(LEAST_STACK);
     small.spawn(a_whole_life).unwrap().join().unwrap();
 }
 
