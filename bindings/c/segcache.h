@@ -7,12 +7,12 @@
  *     for (i = 0; i < 4; i++) segcache_give_back(&cache, &clients[i]);
  *     segcache_free(&cache);
  *
- * SHAPES. A key has 1 to 24 bytes, a value 0 to 32: SEGCACHE_MAX_KEY and SEGCACHE_MAX_VALUE. -DSEGCACHE_WIDE makes
- * them 250 and 4,064, for the library's wide build, libsegcachewide.a, which isn't proved or made yet. A key is
- * its bytes: a final NUL counts only if the length counts it. `now` is the caller's clock, a number that grows, in
- * units of the caller's choice (seconds since the start, say). Times to live have the unit of `now`. At 4294967295 all
- * keys are absent, which milliseconds come to in 49 days. With no time to live set, any smaller number will do. A thread
- * whose `now` lags behind others' can find what has expired for them: read the clock right before each call.
+ * SHAPES. A key has 1 to 24 bytes, a value 0 to 32: SEGCACHE_MAX_KEY and SEGCACHE_MAX_VALUE. -DSEGCACHE_WIDE makes them
+ * 250 and 4,064, for the library's wide build, libsegcachewide.a. A key is its bytes: a final NUL counts only if the
+ * length counts it. `now` is the caller's clock, a number that grows, in units of the caller's choice (seconds since
+ * the start, say). Times to live have the unit of `now`. At 4294967295 all keys are absent, which milliseconds come to
+ * in 49 days. With no time to live set, any smaller number will do. A thread whose `now` lags behind others' can find
+ * what has expired for them: read the clock right before each call.
  *
  * ROWS. The room of a cache is rows of 64 bytes. In the default build each item takes one row. In the wide build an
  * item takes as many as hold 8 bytes, its key and its value, where key and value are rounded up to a multiple of 8, and

@@ -97,7 +97,6 @@
 //! values up to 4,064. There an item takes as many rows of 64 bytes as it needs, so [`Builder::items`] opens a cache. A
 //! `Value` then owns its bytes on the heap, and isn't `Copy`; `get_into` allocates nothing. The feature is the choice of
 //! the program, which has one library: a crate in between leaves it off, and takes a value for what reads as a slice.
-//! That build isn't proved or made yet.
 //!
 //! **What is proved**: the library's functions, under Rattle, where their caller keeps to what the header
 //! `segcache.h` lists. This crate is written by hand, and keeps to it by ownership and borrows: a client is
