@@ -1,4 +1,4 @@
--- What commands leave: a pass holds what it held before, and a segment has nothing after a keep of everything.
+-- What commands leave: a pass has in mind what it had before, and a segment has nothing after a keep of everything.
 use Rattle.std.proofs.Common.{◌≡◌, ℕ, ◌≤◌, ◌==◌, Bool, true, false, MatchBool, List, Option, Some, None, inl, inr, refl, sym, ap, subst, ◌∙◌, arith}
 use Rattle.segword.specs.Words.{most_span, Shape}
 use Rattle.segmodel.specs.Words.{after, Answer, DeleteAnswer, EvictAnswer, KeepAnswer, NoneStandsIn, RefillAnswer, Request}
@@ -20,72 +20,72 @@ use Rattle.segevict.specs.Words.{IsEvictAnswer, IsKeepAnswer, KeepsItems, UsesRo
 use Rattle.segindex.specs.Commands.{AnswersCommand}
 use Rattle.segindex.specs.Refilling.{IsRefillAnswer}
 
--- ---- what the pass holds
+-- ---- what the pass has in mind
 
-held_then : (p q : Pass) → memo q ≡ memo p → holding q ≡ holding p
-held_then p q same = ap (λ (m : Memo). m.holding) same
+write_memo : (shape : Shape) (request : Request) (told : WriteAnswer) (p q : Pass) → IsWriteAnswer shape request told p q → memo q ≡ memo p
+write_memo shape request write.Stored p q is = is.2.memo
+write_memo shape request write.NotStored p q is = is.2
+write_memo shape request write.Exists p q is = is.2
+write_memo shape request write.NotFound p q is = is.2
+write_memo shape request write.NoRoom p q is = ap memo is
+write_memo shape request write.BucketFull p q is = is.0.memo
+write_memo shape request write.Busy p q is = is.0.memo
 
-write_holds : (shape : Shape) (request : Request) (told : WriteAnswer) (p q : Pass) → IsWriteAnswer shape request told p q → holding q ≡ holding p
-write_holds shape request write.Stored p q is = held_then p q is.2.memo
-write_holds shape request write.NotStored p q is = held_then p q is.2
-write_holds shape request write.Exists p q is = held_then p q is.2
-write_holds shape request write.NotFound p q is = held_then p q is.2
-write_holds shape request write.NoRoom p q is = ap holding is
-write_holds shape request write.BucketFull p q is = held_then p q is.0.memo
-write_holds shape request write.Busy p q is = held_then p q is.0.memo
-
-delete_holds : (shape : Shape) (key : List ℕ) (now : ℕ) (told : DeleteAnswer) (p q : Pass) → IsDeleteAnswer shape key now told p q → holding q ≡ holding p
-delete_holds shape key now delete.Deleted p q is = held_then p q is.2
-delete_holds shape key now delete.NotFound p q is = held_then p q is.2
-delete_holds shape key now delete.Busy p q is = held_then p q is.0.memo
+delete_memo : (shape : Shape) (key : List ℕ) (now : ℕ) (told : DeleteAnswer) (p q : Pass) → IsDeleteAnswer shape key now told p q → memo q ≡ memo p
+delete_memo shape key now delete.Deleted p q is = is.2
+delete_memo shape key now delete.NotFound p q is = is.2
+delete_memo shape key now delete.Busy p q is = is.0.memo
 
 by_case : (b : Bool) {A B C : Type 0} → (A → C) → (B → C) → MatchBool b A B → C
 by_case true f g is = f is
 by_case false f g is = g is
 
 -- as many rows as items are used, or where an item takes several, as many or more
-moves_hold : (into count : ℕ) (p q : Pass) → UsesSome into count p q → holding q ≡ holding p
-moves_hold into count p q uses = by_case (most_span == 1) {A = UsesRows into count p q} {B = (rows : ℕ) × (count ≤ rows) × UsesRows into rows p q}
-    (λ same. held_then p q same.memo) (λ more. held_then p q more.2.memo) uses
+moves_memo : (into count : ℕ) (p q : Pass) → UsesSome into count p q → memo q ≡ memo p
+moves_memo into count p q uses = by_case (most_span == 1) {A = UsesRows into count p q} {B = (rows : ℕ) × (count ≤ rows) × UsesRows into rows p q}
+    (λ same. same.memo) (λ more. more.2.memo) uses
 
-keep_holds : (shape : Shape) (segment cutoff : ℕ) (told : KeepAnswer) (p q : Pass) → IsKeepAnswer shape segment cutoff told p q → holding q ≡ holding p
-keep_holds shape segment cutoff (keep.Kept count) p q is = elim is [
-  | inl moves ↦ moves_hold moves.0.1.0 count p q moves.0.1.2.uses
-  | inr idle ↦ ap holding idle.2
+keep_memo : (shape : Shape) (segment cutoff : ℕ) (told : KeepAnswer) (p q : Pass) → IsKeepAnswer shape segment cutoff told p q → memo q ≡ memo p
+keep_memo shape segment cutoff (keep.Kept count) p q is = elim is [
+  | inl moves ↦ moves_memo moves.0.1.0 count p q moves.0.1.2.uses
+  | inr idle ↦ ap memo idle.2
 ]
-keep_holds shape segment cutoff keep.NotYours p q is = ap holding is
-keep_holds shape segment cutoff (keep.NoRoom count) p q is = elim is [
-  | inl idle ↦ ap holding idle.3
-  | inr moves ↦ moves_hold moves.0.1.0 count p q moves.0.1.2.uses
+keep_memo shape segment cutoff keep.NotYours p q is = ap memo is
+keep_memo shape segment cutoff (keep.NoRoom count) p q is = elim is [
+  | inl idle ↦ ap memo idle.3
+  | inr moves ↦ moves_memo moves.0.1.0 count p q moves.0.1.2.uses
 ]
-keep_holds shape segment cutoff (keep.Busy count) p q is = moves_hold is.0.1.0 count p q is.0.1.2.uses
+keep_memo shape segment cutoff (keep.Busy count) p q is = moves_memo is.0.1.0 count p q is.0.1.2.uses
 
-evict_holds : (shape : Shape) (segment : ℕ) (told : EvictAnswer) (p q : Pass) → IsEvictAnswer shape segment told p q → holding q ≡ holding p
-evict_holds shape segment (evict.Evicted count) p q is = elim is [
-  | inl takes ↦ held_then p q takes.1.memo
-  | inr idle ↦ ap holding idle.2
+evict_memo : (shape : Shape) (segment : ℕ) (told : EvictAnswer) (p q : Pass) → IsEvictAnswer shape segment told p q → memo q ≡ memo p
+evict_memo shape segment (evict.Evicted count) p q is = elim is [
+  | inl takes ↦ takes.1.memo
+  | inr idle ↦ ap memo idle.2
 ]
-evict_holds shape segment evict.NotYours p q is = ap holding is
-evict_holds shape segment (evict.Busy count) p q is = held_then p q is.1.memo
+evict_memo shape segment evict.NotYours p q is = ap memo is
+evict_memo shape segment (evict.Busy count) p q is = is.1.memo
 
-refill_holds : (segment deadline : ℕ) (told : RefillAnswer) (p q : Pass) → IsRefillAnswer segment deadline told p q → holding q ≡ holding p
-refill_holds segment deadline refill.Refilled p q is = held_then p q is.memo
-refill_holds segment deadline refill.NotYours p q is = ap holding is
-refill_holds segment deadline refill.NotEvicted p q is = ap holding is
-refill_holds segment deadline refill.Held p q is = held_then p q is.0.memo
+refill_memo : (segment deadline : ℕ) (told : RefillAnswer) (p q : Pass) → IsRefillAnswer segment deadline told p q → memo q ≡ memo p
+refill_memo segment deadline refill.Refilled p q is = is.memo
+refill_memo segment deadline refill.NotYours p q is = ap memo is
+refill_memo segment deadline refill.NotEvicted p q is = ap memo is
+refill_memo segment deadline refill.Held p q is = is.0.memo
+
+pub command_memo : (b : Board) (p q : Pass) (command : Command) (draw : ℕ) (told : Answer) → AnswersCommand b command draw told p q → memo q ≡ memo p
+command_memo b p q (command.Write (request.Set key value now)) draw (answer.Write told) is = write_memo b.shape (request.Set key value now) told p q is.answer
+command_memo b p q (command.Write (request.Add key value now)) draw (answer.Write told) is = write_memo b.shape (request.Add key value now) told p q is.answer
+command_memo b p q (command.Write (request.Replace key value now)) draw (answer.Write told) is = write_memo b.shape (request.Replace key value now) told p q is.answer
+command_memo b p q (command.Write (request.Cas key value version now)) draw (answer.Write told) is = write_memo b.shape (request.Cas key value version now) told p q is.answer
+command_memo b p q (command.Write (request.Delete key now)) draw (answer.Delete told) is = delete_memo b.shape key now told p q is.answer
+command_memo b p q (command.Get key now) draw (answer.Get told) is = is.keeps.memo
+command_memo b p q (command.Gets key now) draw (answer.Gets told) is = is.keeps.memo
+command_memo b p q (command.Keep segment cutoff) draw (answer.Keep told) is = keep_memo b.shape segment cutoff told p q is.answer
+command_memo b p q (command.Evict segment) draw (answer.Evict told) is = evict_memo b.shape segment told p q is.answer
+command_memo b p q (command.Refill segment deadline) draw (answer.Refill told) is = refill_memo segment deadline told p q is.answer
+command_memo b p q command draw told is = absurd is
 
 pub command_holds : (b : Board) (p q : Pass) (command : Command) (draw : ℕ) (told : Answer) → AnswersCommand b command draw told p q → holding q ≡ holding p
-command_holds b p q (command.Write (request.Set key value now)) draw (answer.Write told) is = write_holds b.shape (request.Set key value now) told p q is.answer
-command_holds b p q (command.Write (request.Add key value now)) draw (answer.Write told) is = write_holds b.shape (request.Add key value now) told p q is.answer
-command_holds b p q (command.Write (request.Replace key value now)) draw (answer.Write told) is = write_holds b.shape (request.Replace key value now) told p q is.answer
-command_holds b p q (command.Write (request.Cas key value version now)) draw (answer.Write told) is = write_holds b.shape (request.Cas key value version now) told p q is.answer
-command_holds b p q (command.Write (request.Delete key now)) draw (answer.Delete told) is = delete_holds b.shape key now told p q is.answer
-command_holds b p q (command.Get key now) draw (answer.Get told) is = held_then p q is.keeps.memo
-command_holds b p q (command.Gets key now) draw (answer.Gets told) is = held_then p q is.keeps.memo
-command_holds b p q (command.Keep segment cutoff) draw (answer.Keep told) is = keep_holds b.shape segment cutoff told p q is.answer
-command_holds b p q (command.Evict segment) draw (answer.Evict told) is = evict_holds b.shape segment told p q is.answer
-command_holds b p q (command.Refill segment deadline) draw (answer.Refill told) is = refill_holds segment deadline told p q is.answer
-command_holds b p q command draw told is = absurd is
+command_holds b p q command draw told is = ap (λ (m : Memo). m.holding) (command_memo b p q command draw told is)
 
 -- ---- a keep of everything
 

@@ -15,6 +15,8 @@ pub mod AtRest
 pub mod Listing
 pub mod Ended
 pub mod Commands
+pub mod Effects
+pub mod Answered
 pub mod UnnamedRows
 pub mod Moments
 pub mod Ordering

@@ -1,5 +1,8 @@
 //! Laws of quiet passes and of replies, beside the contracts of the calls.
 //! These functions do nothing: their contracts are the theorems.
+ghost use Rattle.segindex.specs.Answered.{CommandAddsEntries, CommandGoesOn, CommandHasEffect};
+ghost use Rattle.segindex.specs.Answered.{CommandHasItsAnswer, CommandIsRefused};
+ghost use Rattle.segindex.specs.Answered.{CommandLeavesSegment};
 ghost use Rattle.segindex.specs.Laws.{SeenIsLegal, MarksAreBeside, KnowsItsOwn, OwnAreInTable};
 ghost use Rattle.segindex.specs.Laws.{UsedAreLinked, CurrentIsInUse, UnusedIsEmpty, LockedIsStill};
 ghost use Rattle.segindex.specs.Laws.{DeadlinesAreKnown};
@@ -56,6 +59,23 @@ pub fn new_pass()
 pub fn new_index()
     ensures shape { NewHasItsShape }
     ensures passes { NewHasNewPasses }
+{}
+
+/// What a command is answered, but for what its call costs.
+/// The answer is one to such a command. The pass is quiet again, and what it has seen only grew.
+/// What is read, or replied to a write, is what a cache of one thread returns
+/// at a moment of the call.
+/// The pass adds as many entries as the answer tells of, each of the command.
+/// No key stands in a segment that was evicted. The pass stores into a segment that was refilled.
+/// A command is refused for a reason: too few rows are left, a bucket is full or in the way,
+/// the segment isn't the pass's own, is in use, or is being read.
+pub fn commands_are_answered()
+    ensures kind { CommandHasItsAnswer }
+    ensures on { CommandGoesOn }
+    ensures effect { CommandHasEffect }
+    ensures entries { CommandAddsEntries }
+    ensures leaves { CommandLeavesSegment }
+    ensures refused { CommandIsRefused }
 {}
 
 /// A keep with the cutoff 0 that returns Kept leaves no key in the segment.
