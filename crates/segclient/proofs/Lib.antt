@@ -10,6 +10,7 @@ pub mod Left
 pub mod OneTurn
 pub mod Order
 pub mod Places
+pub mod PutLaws
 pub mod Rooms
 pub mod Runs
 pub mod Serving

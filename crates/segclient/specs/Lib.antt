@@ -9,6 +9,7 @@ pub mod Many
 pub mod Member
 pub mod Policies
 pub mod PutCalls
+pub mod PutLaws
 pub mod PutParts
 pub mod Putting
 pub mod Puts
