@@ -5,12 +5,12 @@ ghost use Rattle.segindex.specs.Words.{board_of, shape_of};
 ghost use Rattle.segstore.specs.Words.{GoesOn, IsQuiet};
 ghost use Rattle.segwrite.specs.Words.{or_one};
 ghost use Rattle.segclient.specs.Clearing.{ClearsAtMost, ClearsRow, ClearsSome, IsCleared};
-ghost use Rattle.segclient.specs.Clearing.{AreDone, came_to_step, evicts_row, IsClearing, keeps_into};
+ghost use Rattle.segclient.specs.Clearing.{AreDone, came_to_step, evicts_row, IsClearing};
 ghost use Rattle.segclient.specs.Clearing.{TakesRows};
-ghost use Rattle.segclient.specs.PutCalls.{evicted_keys, kept_items};
+ghost use Rattle.segclient.specs.PutCalls.{evicted_keys};
 ghost use Rattle.segclient.specs.Rings.{IsOwnRing};
 
-use crate::effort::{Effort, evicted_by, refilled_by};
+use crate::effort::{Effort, evicted_by, moved_by, refilled_by};
 use crate::queues::{
     current_for, next_expired, next_source, note_done, note_moved, oldest, place_of, target_of,
     was_given_up, was_refilled,
@@ -157,22 +157,6 @@ struct Move {
     rows: u32,
 }
 
-// How many items a keep of one row into a segment moved that has this answer.
-fn row_moved_by(answer: KeepRowAnswer) -> u32
-    ensures few { result ≤ 1 }
-    ensures value { (segment row by into : ℕ)
-        → result ≡ came_to_step kept_items (keeps_into segment row by into answer) }
-{
-    match answer {
-        KeepRowAnswer::Moved => 1,
-        KeepRowAnswer::Left
-        | KeepRowAnswer::NoRoom
-        | KeepRowAnswer::Busy
-        | KeepRowAnswer::NotYours
-        | KeepRowAnswer::NotUsed => 0,
-    }
-}
-
 // Moves the item of the row if it was read often enough, and else evicts it.
 fn move_one(index: &Index, pass: &mut Pass, queues: &mut Queues, source: Source, to: Move) -> Turn
     requires quiet { IsQuiet (board_of index.now) pass.old }
@@ -195,7 +179,7 @@ fn move_one(index: &Index, pass: &mut Pass, queues: &mut Queues, source: Source,
     let told = index.keep_row_into(pass, row, cutoff, to.into);
     let effort = Effort {
         refilled: 0,
-        kept: u64::from(row_moved_by(told)),
+        kept: u64::from(moved_by(told)),
         keys: 0,
     };
     match told {

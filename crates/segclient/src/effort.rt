@@ -1,7 +1,10 @@
 //! What calls that make room came to, in numbers.
-ghost use Rattle.std.specs.Prelude.{◌≡◌, ◌+◌, ◌<◌, ◌≤◌, ◌^◌};
+ghost use Rattle.std.specs.Prelude.{◌≡◌, ◌+◌, ◌<◌, ◌≤◌, ◌^◌, ℕ};
+ghost use Rattle.segclient.specs.Clearing.{came_to_step, keeps_into};
+ghost use Rattle.segclient.specs.PutCalls.{came_to, keeps, kept_items};
 ghost use Rattle.segclient.specs.Tallies.{evicted_by, refilled_by};
 
+use segindex::KeepRowAnswer;
 use segmodel::{EvictAnswer, RefillAnswer};
 
 // What calls of a put came to: how many segments were refilled, how many items kept,
@@ -71,5 +74,23 @@ pub fn refilled_by(answer: RefillAnswer) -> u32
     match answer {
         RefillAnswer::Refilled => 1,
         RefillAnswer::NotYours | RefillAnswer::NotEvicted | RefillAnswer::Held => 0,
+    }
+}
+
+// How many items a keep of one row moved that has this answer.
+pub(crate) fn moved_by(answer: KeepRowAnswer) -> u32
+    ensures few { result ≤ 1 }
+    ensures value { (segment row cutoff : ℕ)
+        → result ≡ came_to kept_items (keeps segment row cutoff answer) }
+    ensures value_into { (segment row by into : ℕ)
+        → result ≡ came_to_step kept_items (keeps_into segment row by into answer) }
+{
+    match answer {
+        KeepRowAnswer::Moved => 1,
+        KeepRowAnswer::Left
+        | KeepRowAnswer::NoRoom
+        | KeepRowAnswer::Busy
+        | KeepRowAnswer::NotYours
+        | KeepRowAnswer::NotUsed => 0,
     }
 }

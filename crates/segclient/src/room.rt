@@ -5,14 +5,14 @@ ghost use Rattle.segmodel.specs.Words.{owner};
 ghost use Rattle.segbase.specs.Words.{current_of, number};
 ghost use Rattle.segstore.specs.Words.{GoesOn, has_room, IsQuiet};
 ghost use Rattle.segindex.specs.Words.{board_of, shape_of};
-ghost use Rattle.segclient.specs.PutCalls.{came_to, keeps, kept_items, StoresUntil};
+ghost use Rattle.segclient.specs.PutCalls.{StoresUntil};
 ghost use Rattle.segclient.specs.Clearing.{IsCleared};
 ghost use Rattle.segclient.specs.PutParts.{Arranges, effort_from, Empties, GivesUp, MakesRoom};
 ghost use Rattle.segclient.specs.PutParts.{most_at_last, most_for_room, most_in_turn};
 ghost use Rattle.segclient.specs.PutParts.{StoresAfresh, StoresAsBefore, TakesFree};
 ghost use Rattle.segclient.specs.Rings.{IsOwnRing};
 
-use crate::effort::{Effort, evicted_by};
+use crate::effort::{Effort, evicted_by, moved_by};
 use crate::queues::{
     first_to_go, oldest as oldest_in, oldest_in_use, round, was_given_up, was_refilled,
 };
@@ -97,22 +97,6 @@ pub(crate) fn make_room(
             keys: keys + u64::from(more),
         },
     )
-}
-
-// How many items an answer says were moved.
-pub(crate) fn moved_by(answer: KeepRowAnswer) -> u32
-    ensures few { result ≤ 1 }
-    ensures value { (segment row cutoff : ℕ)
-        → result ≡ came_to kept_items (keeps segment row cutoff answer) }
-{
-    match answer {
-        KeepRowAnswer::Moved => 1,
-        KeepRowAnswer::Left
-        | KeepRowAnswer::NoRoom
-        | KeepRowAnswer::Busy
-        | KeepRowAnswer::NotYours
-        | KeepRowAnswer::NotUsed => 0,
-    }
 }
 
 // Moves what has the cutoff's frequency or a higher one from a segment of the pass's own into the

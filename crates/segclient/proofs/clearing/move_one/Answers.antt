@@ -41,7 +41,7 @@ returns-in-Moved-clause-clears c =
     let by = c.cutoff_of-cutoff.result in
     kept_clears (board_of c.args.index.now) from c.args.pass.now told.new.pass c.requires.quiet c.requires.clearing
     c.args.to.least c.from.result by c.args.to.into told.result c.next_row.result.effort
-    (ap (λ (t : Turn). t.effort) c.next_row.ensures) (c.from.ensures ∙ c.row_moved_by.ensures.value from.segment from.row by c.args.to.into) c.cutoff_of-cutoff.ensures.enough told.ensures.keeps
+    (ap (λ (t : Turn). t.effort) c.next_row.ensures) (c.from.ensures ∙ c.moved_by.ensures.value_into from.segment from.row by c.args.to.into) c.cutoff_of-cutoff.ensures.enough told.ensures.keeps
 
 pub returns-in-Left-clause-on : goal.returns-in-Left-clause-on
 returns-in-Left-clause-on c = goes_then (board_of c.args.index.now) c.args.pass.now c.keep_row_into-told.new.pass c.evict_one.new.pass c.keep_row_into-told.ensures.keeps.on c.evict_one.ensures.on
@@ -72,10 +72,10 @@ returns-in-NoRoom c =
           let one = ap (λ e. e.refilled) same in
           let two = ap (λ e. e.kept) same in
           let three = ap (λ e. e.keys) same in
-          let most = c.row_moved_by.ensures.few in
+          let most = c.moved_by.ensures.few in
           let is = c.from.ensures in
           (omega (arith, one), omega (arith, two, most, is), omega (arith, three));
       clears = kept_clears b from c.args.pass.now told.new.pass c.requires.quiet c.requires.clearing
           c.args.to.least c.from.result by c.args.to.into told.result c.leave.result.effort
-          same (c.from.ensures ∙ c.row_moved_by.ensures.value from.segment from.row by c.args.to.into) c.cutoff_of-cutoff.ensures.enough told.ensures.keeps;
+          same (c.from.ensures ∙ c.moved_by.ensures.value_into from.segment from.row by c.args.to.into) c.cutoff_of-cutoff.ensures.enough told.ensures.keeps;
     }
