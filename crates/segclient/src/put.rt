@@ -15,13 +15,13 @@ ghost use Rattle.segclient.specs.Rings.{IsOwnRing};
 use crate::choosing::is_outside;
 use crate::clearing::{clear_some, is_due};
 use crate::effort::Effort;
-use crate::queues::note_stored;
+use crate::queues::tell_stored;
 use crate::room::evict_oldest;
 use crate::segments::{Policy, Segments};
 use crate::spans::make_room_for;
 use segindex::{Index, Pass, RowRef};
 use segmodel::WriteAnswer;
-use segword::{Key, Value, hash};
+use segword::{Key, Value};
 
 /// The answer to a put.
 #[derive(Clone, Copy, Debug, PartialEq, Eq)]
@@ -229,13 +229,10 @@ pub(crate) fn put_by(
         (most_calls (shape_of index.now)) result.0 result.1 pass.old pass.new }
 {
     let (told, effort) = put_once(index, pass, segments, order);
-    let PutAnswer::Stored = told else {
-        return (told, effort);
-    };
-    let Some(queues) = segments.queues.as_mut() else {
-        return (told, effort);
-    };
-    note_stored(index, pass, queues, hash(order.key), segments.replaced);
+    if let PutAnswer::Stored = told {
+        let replaced = segments.replaced;
+        tell_stored(index, pass, segments, order.key, replaced);
+    }
     (told, effort)
 }
 

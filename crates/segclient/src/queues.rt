@@ -262,26 +262,9 @@ pub(crate) fn note_dead(index: &Index, pass: &Pass, queues: &mut Queues, row: Ro
     }
 }
 
-// A key of this hash was stored into the row that was used last, in place of this one.
-#[inline(always)]
-pub(crate) fn note_stored(
-    index: &Index,
-    pass: &Pass,
-    queues: &mut Queues,
-    hash: u64,
-    replaced: Option<RowRef>,
-) {
-    if let Some(row) = replaced {
-        note_dead(index, pass, queues, row);
-    }
-    if let Some(segment) = pass.current() {
-        let at = last_row(index, pass, segment);
-        queues.was_stored(at, hash, replaced.is_some());
-    }
-}
-
 // The queues are told that the key was stored into the row that was used last,
 // in place of this one.
+#[inline(always)]
 pub(crate) fn tell_stored(
     index: &Index,
     pass: &Pass,
@@ -296,7 +279,13 @@ pub(crate) fn tell_stored(
     let Some(queues) = segments.queues.as_mut() else {
         return;
     };
-    note_stored(index, pass, queues, hash(key), replaced);
+    if let Some(row) = replaced {
+        note_dead(index, pass, queues, row);
+    }
+    if let Some(segment) = pass.current() {
+        let at = last_row(index, pass, segment);
+        queues.was_stored(at, hash(key), replaced.is_some());
+    }
 }
 
 // The queues are told that the item of this row was deleted, if there was one,
