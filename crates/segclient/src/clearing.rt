@@ -6,7 +6,7 @@ ghost use Rattle.segstore.specs.Words.{GoesOn, IsQuiet};
 ghost use Rattle.segwrite.specs.Words.{or_one};
 ghost use Rattle.segclient.specs.Clearing.{ClearsAtMost, ClearsRow, ClearsSome, IsCleared};
 ghost use Rattle.segclient.specs.Clearing.{AreDone, came_to_step, evicts_row, IsClearing};
-ghost use Rattle.segclient.specs.Clearing.{TakesRows};
+ghost use Rattle.segclient.specs.Clearing.{ClearsTurn, TakesRows};
 ghost use Rattle.segclient.specs.PutCalls.{evicted_keys};
 ghost use Rattle.segclient.specs.Rings.{IsOwnRing};
 
@@ -16,18 +16,28 @@ use crate::queues::{
     was_given_up, was_refilled,
 };
 use crate::segments::{Policy, Segments, Source};
-use crate::spans::{clear_row, last_of, row_behind};
+use crate::spans::{last_of, row_behind};
 use segindex::{EvictRowAnswer, Index, KeepRowAnswer, Pass, RowRef};
 use segqueues::{Queue, Queues};
+use segword::MOST_SPAN;
 
 // How a segment is cleared: the least frequency of what is kept, the moment, how many turns are
 // left, and how many rows the item takes whose turn it is.
 #[derive(Clone, Copy)]
-pub(crate) struct Terms {
-    pub(crate) least: u8,
-    pub(crate) moment: u32,
-    pub(crate) turns: u32,
-    pub(crate) rows: u32,
+struct Terms {
+    least: u8,
+    moment: u32,
+    turns: u32,
+    rows: u32,
+}
+
+impl Terms {
+    // The same, where the item whose turn it is takes so many rows.
+    fn of_rows(self, rows: u32) -> Terms
+        ensures { result ≡ record self { rows = rows } }
+    {
+        Terms { rows, ..self }
+    }
 }
 
 // What a turn came to: where the clearing is then, whether the put has done its part,
@@ -270,7 +280,7 @@ fn can_open(index: &Index, pass: &Pass, queues: &Queues, source: Source, turns: 
 
 // Goes over one row of the source and the rows of its item, or opens a main segment for what moves
 // from it. Behind its last row it is free.
-pub(crate) fn clear_one_row(
+fn clear_one_row(
     index: &Index,
     pass: &mut Pass,
     queues: &mut Queues,
@@ -343,6 +353,31 @@ fn source_of(
         next_expired(index, pass, queues, terms.moment)?
     };
     Some(Source { segment, row: 0 })
+}
+
+// Goes over one item of the source, or opens a main segment for what moves from it.
+// Behind its last row it is free.
+fn clear_row(
+    index: &Index,
+    pass: &mut Pass,
+    queues: &mut Queues,
+    source: Source,
+    terms: Terms,
+) -> Turn
+    requires quiet { IsQuiet (board_of index.now) pass.old }
+    requires clearing { IsClearing (shape_of index.now) source pass.old }
+    ensures on { GoesOn (board_of index.now) pass.old pass.new }
+    ensures cleared { IsCleared (shape_of index.now) result.source pass.new }
+    ensures few { (result.effort.refilled ≤ 1) × (result.effort.kept ≤ 1)
+        × (result.effort.keys < 2 ^ 32) }
+    ensures clears { ClearsTurn (board_of index.now) terms.least
+        result.effort pass.old pass.new }
+{
+    if MOST_SPAN == 1 {
+        return clear_one_row(index, pass, queues, source, terms);
+    }
+    let rows = index.span_of(pass, source.segment, source.row);
+    clear_one_row(index, pass, queues, source, terms.of_rows(rows))
 }
 
 // Clears some rows by the queues.

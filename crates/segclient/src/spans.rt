@@ -1,5 +1,5 @@
-//! Items of several rows: how room is made for one, and how a clearing goes from the first row of an
-//! item to that of the next. Where each item has one row, all of it is done row by row.
+//! Items of several rows: which rows one takes, and how room is made for it.
+//! Where each item has one row, all of it is done row by row.
 ghost use Rattle.std.specs.Prelude.{◌≡◌, ◌+◌, ◌<◌, ◌≤◌, ◌^◌, ℕ, is_some, min, true};
 ghost use Rattle.std.specs.Int.{IsInRange};
 ghost use Rattle.segword.specs.Words.{most_span};
@@ -7,21 +7,19 @@ ghost use Rattle.segbase.specs.Words.{number};
 ghost use Rattle.segindex.specs.Words.{board_of, shape_of};
 ghost use Rattle.segstore.specs.Words.{GoesOn, has_room_for, IsQuiet};
 ghost use Rattle.segwrite.specs.Words.{or_one, rows_of};
-ghost use Rattle.segclient.specs.Clearing.{ClearsTurn, IsCleared, IsClearing};
+ghost use Rattle.segclient.specs.Clearing.{IsCleared};
 ghost use Rattle.segclient.specs.PutCalls.{StoresUntil};
 ghost use Rattle.segclient.specs.PutParts.{MakesRows, most_at_last, most_for_room, request_of};
 ghost use Rattle.segclient.specs.Rings.{IsOwnRing};
 
-use crate::clearing::{Terms, Turn, clear_one_row};
 use crate::effort::Effort;
 use crate::put::Order;
 use crate::queues::was_refilled;
 use crate::room::{
     clear_next, make_room, make_room_at_last, make_room_in_order, make_row_by, take_free,
 };
-use crate::segments::{Policy, Segments, Source};
+use crate::segments::{Policy, Segments};
 use segindex::{Index, Pass};
-use segqueues::Queues;
 use segword::{MOST_SPAN, span_of};
 
 // Whether so many rows of a segment are left, of which these are used.
@@ -52,40 +50,6 @@ pub(crate) fn row_behind(first: u32, rows: u32) -> u32
         return first + 1;
     }
     first + rows
-}
-
-// Goes over one item of the source, or opens a main segment for what moves from it.
-// Behind its last row it is free.
-pub(crate) fn clear_row(
-    index: &Index,
-    pass: &mut Pass,
-    queues: &mut Queues,
-    source: Source,
-    terms: Terms,
-) -> Turn
-    requires quiet { IsQuiet (board_of index.now) pass.old }
-    requires clearing { IsClearing (shape_of index.now) source pass.old }
-    ensures on { GoesOn (board_of index.now) pass.old pass.new }
-    ensures cleared { IsCleared (shape_of index.now) result.source pass.new }
-    ensures few { (result.effort.refilled ≤ 1) × (result.effort.kept ≤ 1)
-        × (result.effort.keys < 2 ^ 32) }
-    ensures clears { ClearsTurn (board_of index.now) terms.least
-        result.effort pass.old pass.new }
-{
-    if MOST_SPAN == 1 {
-        return clear_one_row(index, pass, queues, source, terms);
-    }
-    let rows = index.span_of(pass, source.segment, source.row);
-    clear_one_row(index, pass, queues, source, terms.of_rows(rows))
-}
-
-impl Terms {
-    // The same, where the item whose turn it is takes so many rows.
-    fn of_rows(self, rows: u32) -> Terms
-        ensures { result ≡ record self { rows = rows } }
-    {
-        Terms { rows, ..self }
-    }
 }
 
 // How many rows of the segment that the pass stores into are left, if it has this deadline.

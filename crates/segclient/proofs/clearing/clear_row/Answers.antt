@@ -6,7 +6,7 @@ use Rattle.segclient.specs.declared.clearing.Terms.{Terms}
 use Rattle.segclient.specs.Clearing.{ClearsRow, TakesRows}
 use Rattle.segclient.proofs.Few.{row_few}
 use Rattle.segclient.proofs.OneTurn.{clears_as, looked_clears, looked_on, looked_stays, looked_takes}
-use Rattle.segclient.proofs.spans.clear_row.Goals as goal
+use Rattle.segclient.proofs.clearing.clear_row.Goals as goal
 
 pub returns-then-this-eq-MOST_SPAN-clause-clears : goal.returns-then-this-eq-MOST_SPAN-clause-clears
 returns-then-this-eq-MOST_SPAN-clause-clears c =
