@@ -1,6 +1,7 @@
 -- What a command is answered: of each kind of command, what its call's contract says.
-use Rattle.std.proofs.Common.{◌≡◌, ℕ, List, [], ◌∷◌, ◌++◌, length, Option, Some, None, inl, inr, refl, sym, ap, ◌∙◌, subst}
+use Rattle.std.proofs.Common.{◌≡◌, ◌≢◌, ℕ, List, [], ◌∷◌, ◌++◌, length, Option, Some, None, inl, inr, refl, sym, ap, ◌∙◌, subst}
 use Rattle.std.specs.List.{AllByRecursion}
+use Rattle.segword.specs.Words.{Shape}
 use Rattle.segmodel.specs.declared.answer.Answer.TheVariants as answer
 use Rattle.segmodel.specs.declared.answer.Command.{Command}
 use Rattle.segmodel.specs.declared.answer.Command.TheVariants as command
@@ -10,6 +11,7 @@ use Rattle.segmodel.specs.declared.answer.GetAnswer.TheVariants as get
 use Rattle.segmodel.specs.declared.answer.GetsAnswer.TheVariants as gets
 use Rattle.segmodel.specs.declared.answer.KeepAnswer.TheVariants as keep
 use Rattle.segmodel.specs.declared.answer.RefillAnswer.TheVariants as refill
+use Rattle.segmodel.specs.declared.answer.SegState.TheVariants.{InUse}
 use Rattle.segmodel.specs.declared.answer.WriteAnswer.TheVariants as write
 use Rattle.segmodel.specs.declared.entry.Entry.TheVariants.{Refilled, Wrote}
 use Rattle.segmodel.specs.declared.request.Reply.TheVariants as reply
@@ -18,7 +20,7 @@ use Rattle.segmodel.specs.Words.{after, Answer, DeleteAnswer, Entry, EvictAnswer
 use Rattle.segmodel.specs.Words.{RefillAnswer, Reply, Request, SegState, WriteAnswer}
 use Rattle.segbase.specs.declared.pass.PlainPart.{PlainPart}
 use Rattle.segbase.specs.Words.{Board, mine, number, Pass, seen, state_of}
-use Rattle.segstore.specs.Words.{AddsEntry, GoesOn}
+use Rattle.segstore.specs.Words.{AddsEntry, GoesOn, IsQuiet}
 use Rattle.segread.specs.Words.{ReadsKey, ReadsVersion}
 use Rattle.segwrite.specs.Words.{Deletes, IsDeleteAnswer, IsWriteAnswer, Writes}
 use Rattle.segevict.specs.Words.{AreEvictions, AreMoves, EvictsSegment, IsEvictAnswer, IsKeepAnswer, KeepsItems, MovesAway, TakesOut, WasOften}
@@ -97,122 +99,139 @@ effect b command draw told p q is = absurd is
 
 -- ---- entries
 
-abbrev Adds : Command → ℕ → Pass → Pass → Type 0
-Adds command count p q = (more : List Entry) × (length more ≡ count) × AllByRecursion (IsOfCommand (number p) command) more × (mine q ≡ more ++ mine p)
+abbrev Adds : Shape → Command → ℕ → Pass → Pass → Type 0
+Adds shape command count p q = (more : List Entry) × (length more ≡ count) × AllByRecursion (IsOfCommand shape command p q) more × (mine q ≡ more ++ mine p)
 
-none : (command : Command) (p q : Pass) → mine q ≡ mine p → Adds command 0 p q
-none command p q same = ([], refl, tt, same)
+module _ (shape : Shape) where
+  none : (command : Command) (p q : Pass) → mine q ≡ mine p → Adds shape command 0 p q
+  none command p q same = ([], refl, tt, same)
 
-one : (command : Command) (entry : Entry) (p q : Pass) → IsOfCommand (number p) command entry → AddsEntry entry p q → Adds command 1 p q
-one command entry p q is adds = (entry ∷ [], refl, (is, tt), adds)
+  one : (command : Command) (entry : Entry) (p q : Pass) → IsOfCommand shape command p q entry → AddsEntry entry p q → Adds shape command 1 p q
+  one command entry p q is adds = (entry ∷ [], refl, (is, tt), adds)
 
-wrote : (asked : Request) (said : Reply) (segment : Option ℕ) (p q : Pass) → AddsEntry (Wrote (number p) asked said segment) p q → Adds (command.Write asked) 1 p q
-wrote asked said segment p q adds = one (command.Write asked) (Wrote (number p) asked said segment) p q (said, segment, refl) adds
+  idle : (command : Command) (count : ℕ) (p q : Pass) → count ≡ 0 → q ≡ p → Adds shape command count p q
+  idle command count p q zero same = subst (λ n. Adds shape command n p q) (sym zero) (none command p q (ap mine same))
 
-write_adds : (b : Board) (asked : Request) (told : WriteAnswer) (p q : Pass) → IsWriteAnswer b.shape asked told p q → Adds (command.Write asked) (entries_told (answer.Write told)) p q
-write_adds b asked write.Stored p q is = wrote asked reply.Stored (Some is.0) p q is.1
-write_adds b asked write.NotStored p q is = wrote asked reply.NotStored None p q is.0
-write_adds b asked write.Exists p q is = wrote asked reply.Exists None p q is.0
-write_adds b asked write.NotFound p q is = wrote asked reply.NotFound None p q is.0
-write_adds b asked write.NoRoom p q is = none (command.Write asked) p q (ap mine is)
-write_adds b asked write.BucketFull p q is = none (command.Write asked) p q is.0.entries
-write_adds b asked write.Busy p q is = none (command.Write asked) p q is.0.entries
+  wrote : (asked : Request) (said : Reply) (segment : Option ℕ) (p q : Pass) → AddsEntry (Wrote (number p) asked said segment) p q → Adds shape (command.Write asked) 1 p q
+  wrote asked said segment p q adds = one (command.Write asked) (Wrote (number p) asked said segment) p q (said, segment, refl) adds
 
-delete_adds : (b : Board) (key : List ℕ) (now : ℕ) (told : DeleteAnswer) (p q : Pass) → IsDeleteAnswer b.shape key now told p q
-    → Adds (command.Write (request.Delete key now)) (entries_told (answer.Delete told)) p q
-delete_adds b key now delete.Deleted p q is = wrote (request.Delete key now) reply.Deleted None p q is.0
-delete_adds b key now delete.NotFound p q is = wrote (request.Delete key now) reply.NotFound None p q is.0
-delete_adds b key now delete.Busy p q is = none (command.Write (request.Delete key now)) p q is.0.entries
+  write_adds : (asked : Request) (told : WriteAnswer) (p q : Pass) → IsWriteAnswer shape asked told p q → Adds shape (command.Write asked) (entries_told (answer.Write told)) p q
+  write_adds asked write.Stored p q is = wrote asked reply.Stored (Some is.0) p q is.1
+  write_adds asked write.NotStored p q is = wrote asked reply.NotStored None p q is.0
+  write_adds asked write.Exists p q is = wrote asked reply.Exists None p q is.0
+  write_adds asked write.NotFound p q is = wrote asked reply.NotFound None p q is.0
+  write_adds asked write.NoRoom p q is = none (command.Write asked) p q (ap mine is)
+  write_adds asked write.BucketFull p q is = none (command.Write asked) p q is.0.entries
+  write_adds asked write.Busy p q is = none (command.Write asked) p q is.0.entries
 
-are_moves : (pass segment into cutoff : ℕ) (IsSo : List ℕ → Type 0) (more : List Entry) → AreMoves pass segment into IsSo more → AllByRecursion (IsOfCommand pass (command.Keep segment cutoff)) more
-are_moves pass segment into cutoff IsSo [] all = tt
-are_moves pass segment into cutoff IsSo (entry ∷ more) all = ((all.0.0, into, all.0.1), are_moves pass segment into cutoff IsSo more all.1)
+  delete_adds : (key : List ℕ) (now : ℕ) (told : DeleteAnswer) (p q : Pass) → IsDeleteAnswer shape key now told p q
+      → Adds shape (command.Write (request.Delete key now)) (entries_told (answer.Delete told)) p q
+  delete_adds key now delete.Deleted p q is = wrote (request.Delete key now) reply.Deleted None p q is.0
+  delete_adds key now delete.NotFound p q is = wrote (request.Delete key now) reply.NotFound None p q is.0
+  delete_adds key now delete.Busy p q is = none (command.Write (request.Delete key now)) p q is.0.entries
 
-moves_add : (b : Board) (segment cutoff count : ℕ) (p q : Pass) → MovesAway b.shape segment cutoff count p q → Adds (command.Keep segment cutoff) count p q
-moves_add b segment cutoff count p q away = let moves = away.1.2 in (
-  moves.moves,
-  moves.counted,
-  are_moves (number p) segment away.1.0 cutoff (WasOften b.shape segment cutoff p q) moves.moves moves.all,
-  moves.entries,
-)
+  are_moves : (segment into cutoff : ℕ) (p q : Pass) (more : List Entry) → AreMoves (number p) segment into (WasOften shape segment cutoff p q) more
+      → AllByRecursion (IsOfCommand shape (command.Keep segment cutoff) p q) more
+  are_moves segment into cutoff p q [] all = tt
+  are_moves segment into cutoff p q (entry ∷ more) all = ((all.0.0, into, all.0.1, all.0.2), are_moves segment into cutoff p q more all.1)
 
-idle : (command : Command) (count : ℕ) (p q : Pass) → count ≡ 0 → q ≡ p → Adds command count p q
-idle command count p q zero same = subst (λ n. Adds command n p q) (sym zero) (none command p q (ap mine same))
+  moves_add : (segment cutoff count : ℕ) (p q : Pass) → MovesAway shape segment cutoff count p q → Adds shape (command.Keep segment cutoff) count p q
+  moves_add segment cutoff count p q away =
+      let moves = away.1.2 in
+      (moves.moves, moves.counted, are_moves segment away.1.0 cutoff p q moves.moves moves.all, moves.entries)
 
-keep_adds : (b : Board) (segment cutoff : ℕ) (told : KeepAnswer) (p q : Pass) → IsKeepAnswer b.shape segment cutoff told p q → Adds (command.Keep segment cutoff) (entries_told (answer.Keep told)) p q
-keep_adds b segment cutoff (keep.Kept count) p q is = elim is [
-  | inl moves ↦ moves_add b segment cutoff count p q moves.0
-  | inr still ↦ idle (command.Keep segment cutoff) count p q still.1 still.2
-]
-keep_adds b segment cutoff keep.NotYours p q is = none (command.Keep segment cutoff) p q (ap mine is)
-keep_adds b segment cutoff (keep.NoRoom count) p q is = elim is [
-  | inl still ↦ idle (command.Keep segment cutoff) count p q still.2 still.3
-  | inr moves ↦ moves_add b segment cutoff count p q moves.0
-]
-keep_adds b segment cutoff (keep.Busy count) p q is = moves_add b segment cutoff count p q is.0
+  keep_adds : (segment cutoff : ℕ) (told : KeepAnswer) (p q : Pass) → IsKeepAnswer shape segment cutoff told p q → Adds shape (command.Keep segment cutoff) (entries_told (answer.Keep told)) p q
+  keep_adds segment cutoff (keep.Kept count) p q is = elim is [
+    | inl moves ↦ moves_add segment cutoff count p q moves.0
+    | inr still ↦ idle (command.Keep segment cutoff) count p q still.1 still.2
+  ]
+  keep_adds segment cutoff keep.NotYours p q is = none (command.Keep segment cutoff) p q (ap mine is)
+  keep_adds segment cutoff (keep.NoRoom count) p q is = elim is [
+    | inl still ↦ idle (command.Keep segment cutoff) count p q still.2 still.3
+    | inr moves ↦ moves_add segment cutoff count p q moves.0
+  ]
+  keep_adds segment cutoff (keep.Busy count) p q is = moves_add segment cutoff count p q is.0
 
-are_evicted : (pass segment : ℕ) (more : List Entry) → AreEvictions pass segment more → AllByRecursion (IsOfCommand pass (command.Evict segment)) more
-are_evicted pass segment [] all = tt
-are_evicted pass segment (entry ∷ more) all = (all.0, are_evicted pass segment more all.1)
+  are_evicted : (segment : ℕ) (p q : Pass) (more : List Entry) → AreEvictions (number p) segment more → AllByRecursion (IsOfCommand shape (command.Evict segment) p q) more
+  are_evicted segment p q [] all = tt
+  are_evicted segment p q (entry ∷ more) all = (all.0, are_evicted segment p q more all.1)
 
-takes_add : (segment count : ℕ) (p q : Pass) → TakesOut segment count p q → Adds (command.Evict segment) count p q
-takes_add segment count p q out = (out.evictions, out.counted, are_evicted (number p) segment out.evictions out.all, out.entries)
+  takes_add : (segment count : ℕ) (p q : Pass) → TakesOut segment count p q → Adds shape (command.Evict segment) count p q
+  takes_add segment count p q out = (out.evictions, out.counted, are_evicted segment p q out.evictions out.all, out.entries)
 
-evict_adds : (b : Board) (segment : ℕ) (told : EvictAnswer) (p q : Pass) → IsEvictAnswer b.shape segment told p q → Adds (command.Evict segment) (entries_told (answer.Evict told)) p q
-evict_adds b segment (evict.Evicted count) p q is = elim is [
-  | inl out ↦ takes_add segment count p q out.1
-  | inr still ↦ idle (command.Evict segment) count p q still.1 still.2
-]
-evict_adds b segment evict.NotYours p q is = none (command.Evict segment) p q (ap mine is)
-evict_adds b segment (evict.Busy count) p q is = takes_add segment count p q is.1
+  evict_adds : (segment : ℕ) (told : EvictAnswer) (p q : Pass) → IsEvictAnswer shape segment told p q → Adds shape (command.Evict segment) (entries_told (answer.Evict told)) p q
+  evict_adds segment (evict.Evicted count) p q is = elim is [
+    | inl out ↦ takes_add segment count p q out.1
+    | inr still ↦ idle (command.Evict segment) count p q still.1 still.2
+  ]
+  evict_adds segment evict.NotYours p q is = none (command.Evict segment) p q (ap mine is)
+  evict_adds segment (evict.Busy count) p q is = takes_add segment count p q is.1
 
-refill_adds : (segment deadline : ℕ) (told : RefillAnswer) (p q : Pass) → IsRefillAnswer segment deadline told p q → Adds (command.Refill segment deadline) (entries_told (answer.Refill told)) p q
-refill_adds segment deadline refill.Refilled p q is = one (command.Refill segment deadline) (Refilled (number p) segment deadline) p q refl is.entry
-refill_adds segment deadline refill.NotYours p q is = none (command.Refill segment deadline) p q (ap mine is)
-refill_adds segment deadline refill.NotEvicted p q is = none (command.Refill segment deadline) p q (ap mine is)
-refill_adds segment deadline refill.Held p q is = none (command.Refill segment deadline) p q is.0.entries
+  refill_adds : (segment deadline : ℕ) (told : RefillAnswer) (p q : Pass) → IsRefillAnswer segment deadline told p q
+      → Adds shape (command.Refill segment deadline) (entries_told (answer.Refill told)) p q
+  refill_adds segment deadline refill.Refilled p q is = one (command.Refill segment deadline) (Refilled (number p) segment deadline) p q refl is.entry
+  refill_adds segment deadline refill.NotYours p q is = none (command.Refill segment deadline) p q (ap mine is)
+  refill_adds segment deadline refill.NotEvicted p q is = none (command.Refill segment deadline) p q (ap mine is)
+  refill_adds segment deadline refill.Held p q is = none (command.Refill segment deadline) p q is.0.entries
 
 pub entries : CommandAddsEntries
-entries = of_calls (λ b command told p q. Adds command (entries_told told) p q) (record {
-  writes = λ b asked told p q is. write_adds b asked told p q is.answer;
-  deletes = λ b key now told p q is. delete_adds b key now told p q is.answer;
-  gets_value = λ b key draw now told p q is. none (command.Get key now) p q is.keeps.entries;
-  gets_version = λ b key draw now told p q is. none (command.Gets key now) p q is.keeps.entries;
-  keeps = λ b segment cutoff told p q is. keep_adds b segment cutoff told p q is.answer;
-  evicts = λ b segment told p q is. evict_adds b segment told p q is.answer;
-  refills = λ b segment deadline told p q is. refill_adds segment deadline told p q is.answer;
+entries = of_calls (λ b command told p q. Adds b.shape command (entries_told told) p q) (record {
+  writes = λ b asked told p q is. write_adds b.shape asked told p q is.answer;
+  deletes = λ b key now told p q is. delete_adds b.shape key now told p q is.answer;
+  gets_value = λ b key draw now told p q is. none b.shape (command.Get key now) p q is.keeps.entries;
+  gets_version = λ b key draw now told p q is. none b.shape (command.Gets key now) p q is.keeps.entries;
+  keeps = λ b segment cutoff told p q is. keep_adds b.shape segment cutoff told p q is.answer;
+  evicts = λ b segment told p q is. evict_adds b.shape segment told p q is.answer;
+  refills = λ b segment deadline told p q is. refill_adds b.shape segment deadline told p q is.answer;
 })
 
 -- ---- segments
 
--- no key stands in a segment that isn't in use
-none_left : (b : Board) (segment count : ℕ) (p q : Pass) → EvictsSegment b segment (evict.Evicted count) p q → NoneStandsIn (after b.shape (seen q)) segment
-none_left b segment count p q is = by (state_of p segment) refl is.answer
+-- no key stands in a segment of the pass that isn't in use
+unused_empty : (b : Board) (segment : ℕ) (p q : Pass) → IsQuiet b q → q ≡ p → state_of p segment ≢ Some InUse → state_of p segment ≢ None
+    → NoneStandsIn (after b.shape (seen q)) segment
+unused_empty b segment p q quiet same unused own = by (state_of p segment) refl
   where
-    by : (state : Option SegState) → state_of p segment ≡ state → IsEvictAnswer b.shape segment (evict.Evicted count) p q → NoneStandsIn (after b.shape (seen q)) segment
-    by state at (inl out) = out.3
-    by None at (inr still) = let no : evict.Evicted count ≡ evict.NotYours = is.not_yours.1 at in cc
-    by (Some state) at (inr still) = is.on.quiet.segments.unused segment state (ap (λ r. state_of r segment) still.2 ∙ at) (λ in_use. still.0 (at ∙ ap Some in_use))
+    by : (state : Option SegState) → state_of p segment ≡ state → NoneStandsIn (after b.shape (seen q)) segment
+    by None at = absurd (own at)
+    by (Some state) at = quiet.segments.unused segment state (ap (λ r. state_of r segment) same ∙ at) (λ in_use. unused (at ∙ ap Some in_use))
 
-evict_leaves : (b : Board) (segment : ℕ) (told : EvictAnswer) (p q : Pass) → EvictsSegment b segment told p q → LeavesSegment b.shape (command.Evict segment) (answer.Evict told) q
-evict_leaves b segment (evict.Evicted count) p q is = none_left b segment count p q is
+keep_leaves : (b : Board) (segment cutoff : ℕ) (told : KeepAnswer) (p q : Pass) → KeepsItems b segment cutoff told p q
+    → LeavesSegment b.shape (command.Keep segment cutoff) (answer.Keep told) p q
+keep_leaves b segment cutoff (keep.Kept count) p q is = elim is.answer [
+  | inl moves ↦ moves.1
+  | inr still ↦ (λ key stands. absurd (
+      unused_empty b segment p q is.on.quiet still.2 still.0
+      (λ none. let no : keep.Kept count ≡ keep.NotYours = is.not_yours.1 none in cc) key stands))
+]
+keep_leaves b segment cutoff keep.NotYours p q is = tt
+keep_leaves b segment cutoff (keep.NoRoom count) p q is = tt
+keep_leaves b segment cutoff (keep.Busy count) p q is = tt
+
+evict_leaves : (b : Board) (segment : ℕ) (told : EvictAnswer) (p q : Pass) → EvictsSegment b segment told p q
+    → LeavesSegment b.shape (command.Evict segment) (answer.Evict told) p q
+evict_leaves b segment (evict.Evicted count) p q is = elim is.answer [
+  | inl out ↦ out.3
+  | inr still ↦ unused_empty b segment p q is.on.quiet still.2 still.0
+      (λ none. let no : evict.Evicted count ≡ evict.NotYours = is.not_yours.1 none in cc)
+]
 evict_leaves b segment evict.NotYours p q is = tt
 evict_leaves b segment (evict.Busy count) p q is = tt
 
 refill_leaves : (b : Board) (segment deadline : ℕ) (told : RefillAnswer) (p q : Pass) → IsRefillAnswer segment deadline told p q
-    → LeavesSegment b.shape (command.Refill segment deadline) (answer.Refill told) q
+    → LeavesSegment b.shape (command.Refill segment deadline) (answer.Refill told) p q
 refill_leaves b segment deadline refill.Refilled p q is = ap (λ (plain : PlainPart). plain.current) is.plain
 refill_leaves b segment deadline refill.NotYours p q is = tt
 refill_leaves b segment deadline refill.NotEvicted p q is = tt
 refill_leaves b segment deadline refill.Held p q is = tt
 
 pub leaves : CommandLeavesSegment
-leaves = of_calls (λ b command told p q. LeavesSegment b.shape command told q) (record {
+leaves = of_calls (λ b command told p q. LeavesSegment b.shape command told p q) (record {
   writes = λ b asked told p q is. tt;
   deletes = λ b key now told p q is. tt;
   gets_value = λ b key draw now told p q is. tt;
   gets_version = λ b key draw now told p q is. tt;
-  keeps = λ b segment cutoff told p q is. tt;
+  keeps = keep_leaves;
   evicts = evict_leaves;
   refills = λ b segment deadline told p q is. refill_leaves b segment deadline told p q is.answer;
 })

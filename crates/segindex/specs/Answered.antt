@@ -28,7 +28,7 @@ use Rattle.segstore.specs.Words.{GoesOn, has_room_for, IsBusy, memo}
 use Rattle.segread.specs.Words.{IsDisturbed, PresentLocked}
 use Rattle.segwrite.specs.Words.{rows_of, WasFull}
 use Rattle.segevict.specs.Keeping.{LacksRows}
-use Rattle.segevict.specs.Words.{IsInTheWay, IsKeepTarget, StoodIn, WasOften}
+use Rattle.segevict.specs.Words.{AreSeldom, IsInTheWay, IsKeepTarget, StoodIn, WasOften}
 use Rattle.segindex.specs.Commands.{AnswersCommand}
 use Rattle.segindex.specs.Linearizable.{Effect, effect_of_get, effect_of_gets, effect_of_write, Had}
 use Rattle.segindex.specs.Refilling.{IsBeingRead}
@@ -88,36 +88,43 @@ entries_told (answer.Evict told) = keys_evicted told
 entries_told (answer.Refill refill.Refilled) = 1
 entries_told _ = 0
 
--- the entry is of this command of the pass
-abbrev pub IsOfCommand : ℕ → Command → Entry → Type 0
-IsOfCommand pass (Write request) entry =
-    (said : Reply) × (segment : Option ℕ) × (entry ≡ Wrote pass request said segment)
-IsOfCommand pass (Keep segment cutoff) entry =
-    (key : List ℕ) × (into : ℕ) × (entry ≡ Moved pass key segment into)
-IsOfCommand pass (Evict segment) entry = (key : List ℕ) × (entry ≡ Evicted pass key segment)
-IsOfCommand pass (Refill segment deadline) entry = entry ≡ Refilled pass segment deadline
-IsOfCommand pass _ entry = ⊥
+-- the entry is of this command of the pass; an item was moved if it was read often enough
+abbrev pub IsOfCommand : Shape → Command → Pass → Pass → Entry → Type 0
+IsOfCommand shape (Write request) p q entry =
+    (said : Reply) × (segment : Option ℕ) × (entry ≡ Wrote (number p) request said segment)
+IsOfCommand shape (Keep segment cutoff) p q entry =
+    (key : List ℕ) × (into : ℕ) × (entry ≡ Moved (number p) key segment into)
+    × WasOften shape segment cutoff p q key
+IsOfCommand shape (Evict segment) p q entry =
+    (key : List ℕ) × (entry ≡ Evicted (number p) key segment)
+IsOfCommand shape (Refill segment deadline) p q entry =
+    entry ≡ Refilled (number p) segment deadline
+IsOfCommand shape _ p q entry = ⊥
 
 -- The pass adds as many entries as the answer tells of, each of the command.
 abbrev pub CommandAddsEntries : Type 0
 CommandAddsEntries = OfCommand (λ b command told p q. (more : List Entry)
     × (length more ≡ entries_told told)
-    × AllByRecursion (IsOfCommand (number p) command) more
+    × AllByRecursion (IsOfCommand b.shape command p q) more
     × (mine q ≡ more ++ mine p))
 
 -- ---- segments
 
--- no key stands in a segment that was evicted, and a segment that was refilled is current
-abbrev pub LeavesSegment : Shape → Command → Answer → Pass → Type 0
-LeavesSegment shape (Evict segment) (answer.Evict (evict.Evicted count)) q =
+-- what a keep left was read too seldom, no key stands in a segment that was evicted,
+-- and a segment that was refilled is current
+abbrev pub LeavesSegment : Shape → Command → Answer → Pass → Pass → Type 0
+LeavesSegment shape (Keep segment cutoff) (answer.Keep (keep.Kept count)) p q =
+    AreSeldom shape segment cutoff p q
+LeavesSegment shape (Evict segment) (answer.Evict (evict.Evicted count)) p q =
     NoneStandsIn (after shape (seen q)) segment
-LeavesSegment shape (Refill segment deadline) (answer.Refill refill.Refilled) q =
+LeavesSegment shape (Refill segment deadline) (answer.Refill refill.Refilled) p q =
     current_of q ≡ Some segment
-LeavesSegment shape _ _ q = Unit {0}
+LeavesSegment shape _ _ p q = Unit {0}
 
+-- What a keep that is Kept left in its segment was read too seldom.
 -- No key stands in a segment that was evicted. The pass stores into a segment that was refilled.
 abbrev pub CommandLeavesSegment : Type 0
-CommandLeavesSegment = OfCommand (λ b command told p q. LeavesSegment b.shape command told q)
+CommandLeavesSegment = OfCommand (λ b command told p q. LeavesSegment b.shape command told p q)
 
 -- ---- refusals
 

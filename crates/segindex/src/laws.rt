@@ -66,6 +66,7 @@ pub fn new_index()
 /// What is read, or replied to a write, is what a cache of one thread returns
 /// at a moment of the call.
 /// The pass adds as many entries as the answer tells of, each of the command.
+/// What a keep that is Kept left in its segment was read too seldom.
 /// No key stands in a segment that was evicted. The pass stores into a segment that was refilled.
 /// A command is refused for a reason: too few rows are left, a bucket is full or in the way,
 /// the segment isn't the pass's own, is in use, or is being read.
