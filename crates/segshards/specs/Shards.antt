@@ -4,9 +4,13 @@ use Rattle.std.specs.List.{AllZip}
 use Rattle.std.specs.Global.{Vec}
 use Rattle.segword.specs.Shape.{HasRoomFor}
 use Rattle.segword.specs.Words.{hash_of, Shape}
+use Rattle.segword.specs.declared.shape.ShapeFault.{ShapeFault}
 use Rattle.segbase.specs.Words.{Pass}
+use Rattle.segbase.specs.declared.fault.MakeFault.{MakeFault}
+use Rattle.segbase.specs.declared.fault.MakeFault.TheVariants as fault
 use Rattle.segindex.specs.Words.{AreAllQuiet, board_of, Index, IsNew, shape_of}
 use Rattle.segstore.specs.Words.{IsQuiet}
+use Rattle.segshards.specs.declared.plan.ShardPlan.{ShardPlan}
 
 -- the shard, out of so many, of the keys with this hash: by its bits 20 to 51
 abbrev pub shard_from_hash : ℕ → ℕ → ℕ
@@ -35,3 +39,14 @@ pub record HaveRoomFor (keys threads : ℕ) (indexes : List Index) : Type 0 wher
   pub room : HasRoomFor each shape
   pub passes : shape.passes ≡ threads
   pub shapes : All (λ i. shape_of i ≡ shape) indexes
+
+-- the shards are those of a plan of this kind: as many as it has, and each of its shape
+pub record AreOfPlan (IsPlan : ShardPlan → Type 0) (indexes : List Index) : Type 0 where
+  pub shape : Shape
+  pub plan : IsPlan (record { shape = shape; count = length indexes })
+  pub shapes : All (λ i. shape_of i ≡ shape) indexes
+
+-- Memory can always be in the way of shards, and a fault of a shape only if it is of this kind.
+abbrev pub IsFaultOfShards : (ShapeFault → Type 0) → MakeFault → Type 0
+IsFaultOfShards IsFault (fault.Shape found) = IsFault found
+IsFaultOfShards IsFault fault.OutOfMemory = Unit {0}

@@ -1,11 +1,14 @@
 //! A cache of several indexes, and how it is opened.
-ghost use Rattle.std.specs.Prelude.{◌≡◌, ◌≤◌, [], All, Any, IfNone, IfOk, IfSome, vec_len};
-ghost use Rattle.segword.specs.Words.{Shape};
+ghost use Rattle.std.specs.Prelude.{◌≡◌, ◌≤◌, [], All, Any, IfErr, IfNone, IfOk, IfSome, vec_len};
+ghost use Rattle.segword.specs.Words.{IsFirstFault, Shape};
 ghost use Rattle.segindex.specs.Words.{shape_of};
-ghost use Rattle.segshards.specs.Budget.{AreWithin};
+ghost use Rattle.segshards.specs.Budget.{AreWithin, IsFaultOfBudget};
 ghost use Rattle.segshards.specs.Items.{HaveRoomForItems, rows_of_mean};
-ghost use Rattle.segshards.specs.Shards.{AreNew, AreOfShards, HaveRoomFor};
-ghost use Rattle.segshards.specs.Writers.{HaveRoomForWriters};
+ghost use Rattle.segshards.specs.Items.{IsFaultOfItems, IsPlanForItems};
+ghost use Rattle.segshards.specs.Plan.{IsFaultOfPlan, IsPlanFor};
+ghost use Rattle.segshards.specs.Shards.{AreNew, AreOfPlan, AreOfShards, HaveRoomFor};
+ghost use Rattle.segshards.specs.Shards.{IsFaultOfShards};
+ghost use Rattle.segshards.specs.Writers.{HaveRoomForWriters, IsFaultOfWriters, IsPlanForWriters};
 
 use crate::client::Client;
 use crate::plan::ShardPlan;
@@ -38,6 +41,9 @@ impl Cache {
         ensures new { IfOk result (λ made.
             (shape : Shape) × AreNew shape made.0.shards.items made.1.items) }
         ensures room { IfOk result (λ made. HaveRoomFor keys threads made.0.shards.items) }
+        ensures plan { IfOk result (λ made.
+            AreOfPlan (IsPlanFor keys threads) made.0.shards.items) }
+        ensures fault { IfErr result (IsFaultOfShards (IsFaultOfPlan threads)) }
     {
         match ShardPlan::for_keys(keys, threads) {
             Ok(plan) => Cache::of_shards(alloc, plan.shape, plan.count),
@@ -58,6 +64,9 @@ impl Cache {
             (shape : Shape) × AreNew shape made.0.shards.items made.1.items) }
         ensures room { IfOk result (λ made.
             HaveRoomForWriters keys threads writers made.0.shards.items) }
+        ensures plan { IfOk result (λ made.
+            AreOfPlan (IsPlanForWriters keys threads writers) made.0.shards.items) }
+        ensures fault { IfErr result (IsFaultOfShards (IsFaultOfWriters keys threads writers)) }
     {
         match ShardPlan::for_writers(keys, threads, writers) {
             Ok(plan) => Cache::of_shards(alloc, plan.shape, plan.count),
@@ -78,6 +87,11 @@ impl Cache {
             (shape : Shape) × AreNew shape made.0.shards.items made.1.items) }
         ensures room { IfOk result (λ made.
             HaveRoomForItems items (rows_of_mean mean_bytes) threads made.0.shards.items) }
+        ensures plan { IfOk result (λ made.
+            AreOfPlan (IsPlanForItems items (rows_of_mean mean_bytes) threads)
+            made.0.shards.items) }
+        ensures fault { IfErr result
+            (IsFaultOfShards (IsFaultOfItems items (rows_of_mean mean_bytes) threads)) }
     {
         match ShardPlan::for_items(items, mean_bytes, threads) {
             Ok(plan) => Cache::of_shards(alloc, plan.shape, plan.count),
@@ -96,6 +110,7 @@ impl Cache {
         ensures new { IfOk result (λ made.
             (shape : Shape) × AreNew shape made.0.shards.items made.1.items) }
         ensures within { IfOk result (λ made. AreWithin bytes threads made.0.shards.items) }
+        ensures fault { IfErr result (IsFaultOfShards (IsFaultOfBudget bytes threads)) }
     {
         match ShardPlan::for_bytes(bytes, threads) {
             Ok(plan) => Cache::of_shards(alloc, plan.shape, plan.count),
@@ -118,6 +133,7 @@ impl Cache {
         ensures count { IfOk result (λ made. vec_len made.0.shards ≡ count) }
         ensures shapes { IfOk result (λ made.
             All (λ i. shape_of i ≡ shape) made.0.shards.items) }
+        ensures fault { IfErr result (IsFaultOfShards (IsFirstFault shape)) }
     {
         let Ok(mut shards) = Vec::with_capacity(alloc, count as usize) else {
             return Err(MakeFault::OutOfMemory);
