@@ -8,7 +8,7 @@ pub use Rattle.segindex.specs.Meeting.{Meets, MeetsPass}
 pub use Rattle.segindex.specs.Noting.{CopiesNote, LearnsNote, MakesNote}
 pub use Rattle.segindex.specs.Probing.{IsReadSince}
 pub use Rattle.segindex.specs.Refilling.{IsBeingRead, IsRefillAnswer, Refills, RefillsAside}
-pub use Rattle.segindex.specs.Sharing.{ReadsKept, ReleasesKept}
+pub use Rattle.segindex.specs.Sharing.{ReadsKept, ReadsKeptInto, ReleasesKept}
 pub use Rattle.segindex.specs.Stats.{ReturnsStats}
 pub use Rattle.segindex.specs.UnnamedRows.{EvictedIsUnnamed, MovedIsUnnamed, UnnamedStay}
 pub use Rattle.segbase.specs.Words.{IsNoteOf, IsNoteOf-prop, Note, number, Pass, seen, seen_of}

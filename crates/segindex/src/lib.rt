@@ -36,7 +36,7 @@ pub use segmodel::{
     Answer, Command, DeleteAnswer, EvictAnswer, GetAnswer, GetsAnswer, KeepAnswer, RefillAnswer,
     Request, WriteAnswer,
 };
-pub use segread::{Hold, HoldAnswer, IntoAnswer, RowAnswer, hold_stays};
+pub use segread::{GetsIntoAnswer, Hold, HoldAnswer, IntoAnswer, RowAnswer, hold_stays};
 pub use segstore::{LockAnswer, RowRef};
 pub use segword::{Key, Shape, ShapeFault, Value};
 pub use share::Share;

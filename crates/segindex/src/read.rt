@@ -2,13 +2,13 @@
 use crate::index::Index;
 use segbase::Pass;
 use segmodel::{GetAnswer, GetsAnswer};
-use segread::{Hold, HoldAnswer, IntoAnswer};
+use segread::{GetsIntoAnswer, Hold, HoldAnswer, IntoAnswer};
 use segword::{Key, Value};
 
 impl Index {
     ghost use Rattle.segstore.specs.Words.{IsQuiet};
-    ghost use Rattle.segread.specs.Words.{HoldsItem, IsHoldOf, ReadsHeld, ReadsInto, ReadsKey};
-    ghost use Rattle.segread.specs.Words.{ReadsVersion, ReleasesHold};
+    ghost use Rattle.segread.specs.Words.{HoldsItem, IsHoldOf, ReadsHeld, ReadsHeldInto, ReadsInto};
+    ghost use Rattle.segread.specs.Words.{ReadsKey, ReadsVersion, ReadsVersionInto, ReleasesHold};
     ghost use Rattle.segindex.specs.Index.{board_of, shape_of};
 
     /// The value under a key at a moment.
@@ -51,6 +51,25 @@ impl Index {
         segread::gets(&self.board, pass, key, draw, now)
     }
 
+    /// The value under a key with the version of its bucket, as `gets` reads them, but the value goes
+    /// to the front of a buffer. What is behind the value stays as it was, and so does a buffer that
+    /// is too short.
+    #[inline(always)]
+    pub fn gets_into(
+        &self,
+        pass: &mut Pass,
+        key: &Key,
+        draw: u32,
+        now: u32,
+        bytes: &mut [u8],
+    ) -> GetsIntoAnswer
+        requires pass { IsQuiet (board_of self.now) pass.old }
+        ensures reads { ReadsVersionInto (board_of self.now) key.now draw now result
+            bytes.old bytes.new pass.old pass.new }
+    {
+        segread::gets_into(&self.board, pass, key, draw, now, bytes)
+    }
+
     /// Holds the item of a key at a moment. Its value can be read until the hold is released.
     /// A pass holds one item at most. No frequency changes.
     pub fn hold<'i>(&'i self, pass: &mut Pass, key: &Key, now: u32) -> HoldAnswer<'i>
@@ -67,6 +86,23 @@ impl Index {
         ensures reads { ReadsHeld (board_of self.now) hold.now result pass.old pass.new }
     {
         segread::held_value(&self.board, pass, hold)
+    }
+
+    /// The value that is held goes to the front of a buffer. Returns its length: as an error if the
+    /// buffer is too short, and then it is as it was.
+    #[inline(always)]
+    pub fn held_into(
+        &self,
+        pass: &mut Pass,
+        hold: &Hold<'_>,
+        bytes: &mut [u8],
+    ) -> Result<usize, usize>
+        requires pass { IsQuiet (board_of self.now) pass.old }
+        requires hold { IsHoldOf (shape_of self.now) hold.now pass.old }
+        ensures reads { ReadsHeldInto (board_of self.now) hold.now result bytes.old bytes.new
+            pass.old pass.new }
+    {
+        segread::held_into(&self.board, pass, hold, bytes)
     }
 
     /// Ends a hold. Until then the segment of the held item isn't refilled.

@@ -3,7 +3,7 @@ ghost use Rattle.std.specs.Prelude.{◌≡◌, is_some, None};
 ghost use Rattle.segstore.specs.Words.{IsQuiet};
 ghost use Rattle.segread.specs.Words.{HoldsRow, IsKept};
 ghost use Rattle.segindex.specs.Index.{board_of, shape_of};
-ghost use Rattle.segindex.specs.Sharing.{ReadsKept, ReleasesKept};
+ghost use Rattle.segindex.specs.Sharing.{ReadsKept, ReadsKeptInto, ReleasesKept};
 
 use crate::index::Index;
 use segbase::Pass;
@@ -59,6 +59,19 @@ impl Share {
     {
         let row = self.held.as_ref()?;
         Some(segread::row_value(&self.index.board, pass, row))
+    }
+
+    /// The value that is held, as `held_value` reads it, but it goes to the front of a buffer.
+    /// Returns its length, if one is held: as an error if the buffer is too short.
+    #[inline(always)]
+    pub fn held_into(&self, pass: &mut Pass, bytes: &mut [u8]) -> Option<Result<usize, usize>>
+        requires pass { IsQuiet (board_of self.now.index.value) pass.old }
+        requires kept { IsKept (shape_of self.now.index.value) pass.old self.now.held }
+        ensures reads { ReadsKeptInto (board_of self.now.index.value) self.now.held result
+            bytes.old bytes.new pass.old pass.new }
+    {
+        let row = self.held.as_ref()?;
+        Some(segread::row_into(&self.index.board, pass, row, bytes))
     }
 
     /// Ends the hold, and says whether there was one.

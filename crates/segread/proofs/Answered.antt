@@ -22,7 +22,7 @@ use Rattle.segread.specs.Gets.{Strides}
 use Rattle.segread.specs.Reads.{ReadsBetween, IsGetAnswer, ReadsKey}
 use Rattle.segread.specs.Looking.{LooksFirst}
 use Rattle.segread.specs.Gets.{IsDisturbed, IsGetsAnswer, ReadsVersion}
-use Rattle.segread.specs.Hits.{GetRaises, GetsRaises, GetsRaisesFrom, GlancesFew, GlancesNothing, RaisesFrom, RaisesOne, TriesFew}
+use Rattle.segread.specs.Hits.{GetRaises, GetsRaises, GlancesFew, GlancesNothing, RaisesFrom, RaisesOne, TriesFew}
 use Rattle.segread.proofs.ComingIn.{glances_none, raises_none}
 use Rattle.segread.proofs.Looking.{out, reads_from, since_look}
 use Rattle.segread.proofs.Raising.{raises_after}
@@ -80,6 +80,11 @@ costs_of_looks b p q i few = record { takes_no_bit = reads_no_bit b p q i; draws
 abbrev pub GetRaisesFrom : Shape → List ℕ → ℕ → GetAnswer → Pass → Pass → Type 0
 GetRaisesFrom z key draw (get.Found value) p q = RaisesFrom z key value draw (trace p) p q
 GetRaisesFrom z key draw _ p q = RaisesNothing p q
+
+-- and a gets
+abbrev pub GetsRaisesFrom : Shape → List ℕ → ℕ → GetsAnswer → Pass → Pass → Type 0
+GetsRaisesFrom z key draw (gets.Found value version) p q = RaisesFrom z key value draw (trace p) p q
+GetsRaisesFrom z key draw _ p q = RaisesNothing p q
 
 -- with p before the call, m right after its first look, and q at its end
 module _ (b : Board) (key : List ℕ) (p m q : Pass) (l : LooksFirst b p m) (i : IsReader b m q) where
@@ -148,11 +153,3 @@ module _ (b : Board) (key : List ℕ) (p m q : Pass) (l : LooksFirst b p m) (i :
     unlocked = unlocked;
     costs = record { looks = costs_from few; steps = strides_from few strode; visits = strode.visits; glances = glances_from glances; raises = gets_raises draw told raised };
   }
-
--- an answer that isn't a hit
-pub unfound_raises : (z : Shape) (key : List ℕ) (draw : ℕ) (told : GetsAnswer) (p q : Pass)
-    → ((value : List ℕ) (version : ℕ) → told ≢ gets.Found value version) → RaisesNothing p q
-    → GetsRaisesFrom z key draw told p q
-unfound_raises z key draw (gets.Found value version) p q ne none = absurd (ne value version refl)
-unfound_raises z key draw gets.Miss p q ne none = none
-unfound_raises z key draw gets.Busy p q ne none = none

@@ -1,13 +1,12 @@
 -- A scan for a value with its version that begins with a look: what is so from right after it, is so of the whole scan.
-use Rattle.std.proofs.Common.{ℕ, List, [], ◌∙◌, subst, arith}
-use Rattle.segmodel.specs.declared.answer.GetsAnswer.TheVariants as gets
+use Rattle.std.proofs.Common.{ℕ, List, ◌∙◌, subst, arith}
 use Rattle.segcore.proofs.Moments.{begins_on}
 use Rattle.segcore.proofs.Searches.{key_later}
-use Rattle.segbase.specs.Words.{Board, Pass, Place, position, seen, trace}
-use Rattle.segbase.proofs.Moves.{moved_seen}
+use Rattle.segbase.specs.Words.{Board, Pass, Place, position, trace}
 use Rattle.segstore.proofs.Readers as readers
 use Rattle.segread.specs.declared.version.Attempt.{Attempt}
 use Rattle.segread.specs.declared.version.Attempt.TheVariants as attempt
+use Rattle.segread.specs.declared.version.Versioned.TheVariants as versioned
 use Rattle.segread.specs.Looking.{LooksFirst}
 use Rattle.segread.specs.Hits.{GlancesOnce}
 use Rattle.segread.specs.Scanning.{IsPlaceOf}
@@ -15,10 +14,10 @@ use Rattle.segread.specs.Gets.{Attempted, Attempts, Disturbs, IsAttempt, IsMisse
 use Rattle.segread.proofs.ComingIn.{glances_none, raises_none}
 use Rattle.segread.proofs.Disturbing.{disturbs_none, disturbs_then}
 use Rattle.segread.proofs.Looking.{ahead_from, comes_from, out, reads_from, same_at, up}
-use Rattle.segread.proofs.Raising.{raises_after}
+use Rattle.segread.proofs.Versions.{version_from}
 
 -- with p before the scan, m right after its first look, and q after it
-module _ (b : Board) (key : List ℕ) (now draw : ℕ) (p m q : Pass) (l : LooksFirst b p m) where
+module _ (b : Board) (key : List ℕ) (now : ℕ) (p m q : Pass) (l : LooksFirst b p m) where
   attempts_from : (from to some more : ℕ) → Attempts from to some more m q → Attempts from to some more p q
   attempts_from from to some more i = record {
     comes_in = comes_from b key p m l from to some more q i.comes_in;
@@ -52,19 +51,16 @@ module _ (b : Board) (key : List ℕ) (now draw : ℕ) (p m q : Pass) (l : Looks
     onward = x.onward;
   }
 
-  told_from : (from tries : ℕ) (told : Attempt) → IsAttempt b.shape key now draw from tries told m q → IsAttempt b.shape key now draw from tries told p q
-  told_from from tries (attempt.Answered (gets.Found value version)) x = (
-    (x.0.0, (begins_on (seen p) (seen m) x.0.0 (moved_seen b [] p m l.look.did.moved) x.0.1.0, x.0.1.1), x.0.2),
-    raises_after b.shape key value draw (trace p) (trace m) p m q l.look.did.moved.same (up b key p m l) (raises_none p m (out b key p m l).1) x.1,
+  told_from : (from tries : ℕ) (told : Attempt) → IsAttempt b key now from tries told m q → IsAttempt b key now from tries told p q
+  told_from from tries (attempt.Answered (versioned.Found hit version)) x = (
+    readers.enter_then b p m q hit.item.seg (readers.looks b p m l.look) x.0,
+    version_from b key now hit version p m q (up b key p m l) (raises_none p m (out b key p m l).1) x.1,
     comes_from b key p m l from 32 tries 63 q x.2,
     once_from x.3,
   )
-  told_from from tries (attempt.Answered gets.Miss) x = missed_from from tries x
-  told_from from tries (attempt.Answered gets.Busy) x = (disturbs_from tries 64 x.0, attempts_from from 32 tries 63 x.1, once_from x.2)
-  told_from from tries (attempt.GoesOn place counted) x = moves_from from tries place counted x
+  told_from from tries (attempt.Answered versioned.Miss) x = (reads_from b key p m l q x.0, missed_from from tries x.1)
+  told_from from tries (attempt.Answered versioned.Busy) x = (reads_from b key p m l q x.0, disturbs_from tries 64 x.1, attempts_from from 32 tries 63 x.2, once_from x.3)
+  told_from from tries (attempt.GoesOn place counted) x = (reads_from b key p m l q x.0, moves_from from tries place counted x.1)
 
-  pub attempt_from : (from : Place) (tries : ℕ) (told : Attempt) → IsPlaceOf b.shape (trace p) key from → Attempted b key now draw from tries told m q → Attempted b key now draw from tries told p q
-  attempt_from from tries told of x = (
-    reads_from b key p m l q x.0,
-    subst (λ n. IsAttempt b.shape key now draw n tries told p q) (same_at b key p m l from of) (told_from (position b.shape (trace m) from) tries told x.1),
-  )
+  pub attempt_from : (from : Place) (tries : ℕ) (told : Attempt) → IsPlaceOf b.shape (trace p) key from → Attempted b key now from tries told m q → Attempted b key now from tries told p q
+  attempt_from from tries told of x = subst (λ n. IsAttempt b key now n tries told p q) (same_at b key p m l from of) (told_from (position b.shape (trace m) from) tries told x)

@@ -10,7 +10,7 @@ use Rattle.segbase.specs.Words.{view}
 use Rattle.segbase.proofs.Moves.{moved_count}
 use Rattle.segstore.specs.Words.{RaisesNothing}
 use Rattle.segread.specs.Gets.{Attempts}
-use Rattle.segread.specs.Hits.{GlancesNothing, GlancesOnce, OnlyScans, TriesFew}
+use Rattle.segread.specs.Hits.{GlancesFew, GlancesNothing, GlancesOnce, OnlyScans, TriesFew}
 use Rattle.segread.specs.Scanning.{words_below, IsTry, Tries}
 
 -- it came into no segment, and did nothing beside
@@ -121,16 +121,19 @@ attempts from to some more p q i = record {
   raises_nothing = raises_none p q i.only_scans;
 }
 
-pub once_between : (p q r s : Pass) → StaysOut p q → LooksOnce q r → StaysOut r s → LooksOnce p s
-once_between p q r s i once j = (
-  j.0 ∙ (once.0 ∙ i.0),
-  raises_none r s j.1 ∙ (once.1 ∙ raises_none p q i.1),
-  λ bucket. let first = glances_none p q i.1 bucket in let then = glances_none r s j.1 bucket in let one = once.2 bucket in omega arith,
+pub once_then : (p q r : Pass) → LooksOnce p q → StaysOut q r → LooksOnce p r
+once_then p q r once j = (
+  j.0 ∙ once.0,
+  raises_none q r j.1 ∙ once.1,
+  λ bucket. let then = glances_none q r j.1 bucket in let one = once.2 bucket in omega arith,
 )
 
 -- nothing but scans, and one look at a bit
 pub scans_once : (p q : Pass) → OnlyScans p q → GlancesOnce p q
 scans_once p q only bucket = let same = glances_none p q only bucket in omega arith
+
+pub scans_few : (p q : Pass) → OnlyScans p q → GlancesFew p q
+scans_few p q only bucket = let same = glances_none p q only bucket in omega arith
 
 pub glances_one : (p q r : Pass) → OnlyScans p q → LooksOnce q r → GlancesOnce p r
 glances_one p q r only once bucket = let same = glances_none p q only bucket in let one = once.2 bucket in omega arith

@@ -1,23 +1,23 @@
 -- Scans for a value with its version, one after another: what they add up to, and the answer.
 use Rattle.std.proofs.Common.{◌≡◌, ℕ, ◌+◌, ◌-◌, ◌<◌, ◌≤◌, ◌⊎◌, List, refl, sym, ◌∙◌, subst, inl, inr, arith}
-use Rattle.segmodel.specs.declared.answer.GetsAnswer.TheVariants as gets
-use Rattle.segmodel.specs.Words.{Begins, bucket_of, GetsAnswer}
+use Rattle.segmodel.specs.Words.{Begins, bucket_of}
 use Rattle.segcore.specs.Words.{glanced, KeyAhead}
-use Rattle.segcore.proofs.Moments.{begins_on}
 use Rattle.segcore.proofs.Searches.{key_first}
-use Rattle.segbase.specs.Words.{Board, count, IsPassOf, Pass, Place, position, seen, trace}
-use Rattle.segbase.proofs.Moves.{moved_on, moved_seen}
+use Rattle.segbase.specs.Words.{Board, count, IsPassOf, Pass, Place, position, trace}
+use Rattle.segbase.proofs.Moves.{moved_on}
 use Rattle.segstore.specs.Words.{IsReader}
-use Rattle.segstore.proofs.Readers.{stays, reader_then}
+use Rattle.segstore.proofs.Readers.{enter_then, reader_then, stays}
 use Rattle.segread.specs.declared.version.Attempt.TheVariants.{Answered}
-use Rattle.segread.specs.Hits.{GetsRaisesFrom, GlancesFew, GlancesOnce, TriesFew}
+use Rattle.segread.specs.declared.version.Versioned.{Versioned}
+use Rattle.segread.specs.declared.version.Versioned.TheVariants as versioned
+use Rattle.segread.specs.Hits.{GlancesFew, GlancesOnce, TriesFew}
 use Rattle.segread.specs.Scanning.{ComesIn, place_of, words_below, IsPlaceOf}
 use Rattle.segread.specs.Looking.{AfterLook, LooksFirst}
-use Rattle.segread.specs.Gets.{Attempts, FindsVersion, IsGetsAnswer, Disturbs, MovesOn, IsAttempt}
+use Rattle.segread.specs.Gets.{Attempts, FindsVersion, Disturbs, MovesOn, IsAttempt}
 use Rattle.segread.proofs.Looking.{reads_from, same_at}
 use Rattle.segread.proofs.ComingIn.{attempts, attempts_then, tries_none, words_few}
 use Rattle.segread.proofs.Disturbing.{disturbs_none, disturbs_then, is_disturbed}
-use Rattle.segread.proofs.Raising.{raises_later}
+use Rattle.segread.proofs.Versions.{version_from}
 use Rattle.segread.proofs.Scans.{in_chain, first_place}
 
 -- the next scan begins at this place, with so many tries counted
@@ -81,43 +81,53 @@ module _ (b : Board) (key : List ℕ) (now : ℕ) (next : Place) (tries : ℕ) (
   fewer_left other counted x =
       let on = x.onward in let few = t.few in let most = words_few at (in_chain b.shape (trace q) next t.reads.reads.moved.pass.lawful t.place.0).1 in omega (arith, on, few, most)
 
-  -- one look more
-  few_glances : tries < 64 → GlancesOnce q r → GlancesFew p r
-  few_glances few one bucket = let before = t.glances bucket in let more = one bucket in omega arith
+-- the answer of the scan that comes next
+module _ (b : Board) (key : List ℕ) (now : ℕ) (next : Place) (tries : ℕ) (p q r : Pass) (t : HasTried b key now next tries p q) (more : tries < 64) where
+  abbrev from : ℕ
+  from = position b.shape (trace q) next
 
-  pub told_by : (draw : ℕ) (told : GetsAnswer) → tries < 64
-      → IsAttempt b.shape key now draw at tries (Answered told) q r → TriesFew p r
-      × GetsRaisesFrom b.shape key draw told p r × IsGetsAnswer b.shape key now told (seen p) p r × GlancesFew p r
-  told_by draw (gets.Found value version) more x = (
-    (let before = t.tried.comes_in in let then = x.2 in omega (arith, before, then)),
-    raises_later b.shape key value draw p q r t.reads.reads.moved.same up t.tried.raises_nothing x.1,
-    (let v = x.0 in (v.0, (begins_on (seen p) (seen q) v.0 (moved_seen b t.reads.reads.own p q t.reads.reads.moved) v.1.0, v.1.1), v.2)),
-    few_glances more x.3,
-  )
-  told_by draw gets.Miss more x = (
-    few_attempts 1 32 63 p r refl (omega arith) (attempts_then 1 at 32 0 tries 63 p q r t.tried x.tried),
-    x.tried.raises_nothing ∙ t.tried.raises_nothing,
-    x.missed (trace p) up t.ahead,
-    few_glances more x.glances,
-  )
-  told_by draw gets.Busy more x = (
-    few_attempts 1 32 63 p r refl (omega arith) (attempts_then 1 at 32 0 tries 63 p q r t.tried x.1),
-    x.1.raises_nothing ∙ t.tried.raises_nothing,
-    inl (is_disturbed b key now p r reads_on (disturbs_then b.shape key now 0 tries 64 p q r t.disturbs x.0)),
-    few_glances more x.2,
-  )
+  to_q : Begins (trace p) (trace q)
+  to_q = moved_on b t.reads.reads.own p q t.reads.reads.moved
+
+  -- one look more
+  few_glances : GlancesOnce q r → GlancesFew p r
+  few_glances one bucket = let before = t.glances bucket in let then = one bucket in omega (arith, before, then, more)
+
+  few_tries : Attempts from 32 tries 63 q r → TriesFew p r
+  few_tries x = few_attempts 1 32 63 p r refl (omega arith) (attempts_then 1 from 32 0 tries 63 p q r t.tried x)
+
+  pub told_by : (told : Versioned) → IsAttempt b key now from tries (Answered told) q r → FindsVersion b key now told p r
+  told_by (versioned.Found hit version) x = record {
+    reads = enter_then b p q r hit.item.seg t.reads x.0;
+    tries = let before = t.tried.comes_in in let then = x.2 in omega (arith, before, then);
+    glances = few_glances x.3;
+    answer = version_from b key now hit version p q r to_q t.tried.raises_nothing x.1;
+  }
+  told_by versioned.Miss x = record {
+    reads = reader_then b p q r t.reads x.0;
+    tries = few_tries x.1.tried;
+    glances = few_glances x.1.glances;
+    answer = (x.1.missed (trace p) to_q t.ahead, x.1.tried.raises_nothing ∙ t.tried.raises_nothing);
+  }
+  told_by versioned.Busy x = let reads = reader_then b p q r t.reads x.0 in record {
+    reads = reads;
+    tries = few_tries x.2;
+    glances = few_glances x.3;
+    answer = (inl (is_disturbed b key now p r reads (disturbs_then b.shape key now 0 tries 64 p q r t.disturbs x.1)), x.2.raises_nothing ∙ t.tried.raises_nothing);
+  }
 
 -- all tries are counted
-pub tried_all : (b : Board) (key : List ℕ) (now : ℕ) (next : Place) (tries draw : ℕ) (p q : Pass)
-    → HasTried b key now next tries p q → 64 ≤ tries → TriesFew p q × GetsRaisesFrom b.shape key draw gets.Busy p q
-    × IsGetsAnswer b.shape key now gets.Busy (seen p) p q × GlancesFew p q
-tried_all b key now next tries draw p q t all =
-    let few = t.few in let most = words_few (position b.shape (trace q) next) (in_chain b.shape (trace q) next t.reads.reads.moved.pass.lawful t.place.0).1 in (
-      few_attempts 1 (position b.shape (trace q) next) tries p q refl (omega (arith, few, most)) t.tried,
-      t.tried.raises_nothing,
-      inl (is_disturbed b key now p q t.reads (subst (λ n. Disturbs b.shape key now 0 n p q) (let e : tries ≡ 64 = omega (arith, few, all) in e) t.disturbs)),
-      (λ bucket. let looks = t.glances bucket in omega (arith, few, looks)),
-    )
+pub tried_all : (b : Board) (key : List ℕ) (now : ℕ) (next : Place) (tries : ℕ) (p q : Pass) → HasTried b key now next tries p q → 64 ≤ tries → FindsVersion b key now versioned.Busy p q
+tried_all b key now next tries p q t all =
+    let few = t.few in let most = words_few (position b.shape (trace q) next) (in_chain b.shape (trace q) next t.reads.reads.moved.pass.lawful t.place.0).1 in record {
+      reads = t.reads;
+      tries = few_attempts 1 (position b.shape (trace q) next) tries p q refl (omega (arith, few, most)) t.tried;
+      glances = λ bucket. let looks = t.glances bucket in omega (arith, few, looks);
+      answer = (
+        inl (is_disturbed b key now p q t.reads (subst (λ n. Disturbs b.shape key now 0 n p q) (let e : tries ≡ 64 = omega (arith, few, all) in e) t.disturbs)),
+        t.tried.raises_nothing,
+      );
+    }
 
 -- ---- from the first look on
 
@@ -155,13 +165,12 @@ pub begun_by : (b : Board) (key : List ℕ) (now home : ℕ) (next : Place) (tri
     → LooksFirst b p first → HasTried b key now next tries first q → HasBegun b key now home next tries p q
 begun_by b key now home next tries p first q l t = record { reads = reads_from b key p first l q t.reads; few = t.few; place = t.place; so = inr (first, l, t) }
 
-pub find_none : (b : Board) (key : List ℕ) (now home : ℕ) (next : Place) (tries draw : ℕ) (p q : Pass)
-    → HasBegun b key now home next tries p q → 64 ≤ tries
-    → AfterLook b p (λ first. FindsVersion b key draw now gets.Busy first q)
-find_none b key now home next tries draw p q s all = found_by s.so
+pub find_none : (b : Board) (key : List ℕ) (now home : ℕ) (next : Place) (tries : ℕ) (p q : Pass) → HasBegun b key now home next tries p q → 64 ≤ tries
+    → AfterLook b p (λ first. FindsVersion b key now versioned.Busy first q)
+find_none b key now home next tries p q s all = found_by s.so
   where
     found_by : ((q ≡ p) × (next ≡ place_of home 1) × (tries ≡ 0))
         ⊎ ((first : Pass) × LooksFirst b p first × HasTried b key now next tries first q)
-        → AfterLook b p (λ first. FindsVersion b key draw now gets.Busy first q)
+        → AfterLook b p (λ first. FindsVersion b key now versioned.Busy first q)
     found_by (inl none) = absurd (let zero = none.2 in omega (arith, zero, all))
-    found_by (inr t) = let told = tried_all b key now next tries draw t.0 q t.2 all in (t.0, t.1, record { reads = t.2.reads; tries = told.0; glances = told.3; raises = told.1; answer = told.2 })
+    found_by (inr t) = (t.0, t.1, tried_all b key now next tries t.0 q t.2 all)

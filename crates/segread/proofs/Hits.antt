@@ -11,7 +11,7 @@ use Rattle.segbase.proofs.Staying.{none_both}
 use Rattle.segstore.specs.Words.{FoundItem, FoundKey, HoldsPair, IsReadable, IsReader, IsReaderIn}
 use Rattle.segstore.specs.Words.{LeavesSegment, RaisesNothing, ReadsRow, row_part, segment_part}
 use Rattle.segstore.proofs.Readers.{looks, then_reader, leave_then}
-use Rattle.segstore.proofs.Seconds.{segment_of_item, found_holds, found_readable, found_value}
+use Rattle.segstore.proofs.Seconds.{segment_of_item, found_holds, found_readable, found_value, row_of_item}
 use Rattle.segread.specs.Hits.{RaisesFrom}
 use Rattle.segread.proofs.ItemRows.{found_rows, item_stays}
 use Rattle.segread.proofs.Raising.{raises_after, raises_sooner}
@@ -61,6 +61,20 @@ found_on b p q place item key value h there m f =
           (found_rows b.shape h (trace p) place (item_word item) key value m.pass.valid (lawful_before b.shape m.more (trace p) lawful) f) ∙ f.still);
       alone = λ one. moved_alone b [] p q m one ∙ f.alone one;
     }
+
+-- the row of an item, by the item's word
+pub same_row : (item : Item) (h : List Event) → row_after h item.seg item.row ≡ row_after h (segment_part (item_word item)) (row_part (item_word item))
+same_row item h = λ j. row_after h (segment_of_item item j) (row_of_item item j)
+
+unfoldable pub key_on : (b : Board) (p q : Pass) (place : Place) (item : Item) (header : ℕ) (key : List ℕ) (h : List Event)
+    → 0 < inside (trace p) (number p) item.seg → AddsEvents b [] p q
+    → FoundKey b.shape place item header key h (trace p) → FoundKey b.shape place item header key h (trace q)
+unfolding found_on
+key_on b p q place item header key h there m f = let on = found_on b p q place item key f.value h there m f.found in record {
+  value = f.value;
+  found = on;
+  begins = f.begins ∙ ap (λ (row : Row). row.words 0) (same_row item (trace p) ∙ (f.found.still ∙ (sym on.still ∙ sym (same_row item (trace q)))));
+}
 
 -- the row holds what was found, and the item was found for that value
 pub still_holds : (b : Board) (p q v : Pass) (place : Place) (item : Item) (header : ℕ) (key : List ℕ)

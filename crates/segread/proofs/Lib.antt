@@ -12,6 +12,7 @@ pub mod Deadlines
 pub mod Disturbing
 pub mod OneMoment
 pub mod Versions
+pub mod Endings
 pub mod Finding
 pub mod Attempts
 pub mod Holding

@@ -298,11 +298,6 @@ raises_after z key value draw h g p q r same up none (inl i) =
     )
 raises_after z key value draw h g p q r same up none (inr i) = inr (i.0 ∙ none, none_wider z key value draw h g (trace r) (trace r) up ([], refl) i.1)
 
-pub raises_later : (z : Shape) (key value : List ℕ) (draw : ℕ) (p q r : Pass) → number q ≡ number p
-    → Begins (trace p) (trace q) → RaisesNothing p q → RaisesFrom z key value draw (trace q) q r
-    → RaisesFrom z key value draw (trace p) p r
-raises_later z key value draw p q r same up none i = raises_after z key value draw (trace p) (trace q) p q r same up none i
-
 pub raises_sooner : (z : Shape) (key value : List ℕ) (draw : ℕ) (h : List Event) (p q r : Pass)
     → Begins (trace q) (trace r) → RaisesFrom z key value draw h p q → RaisesNothing q r
     → RaisesFrom z key value draw h p r

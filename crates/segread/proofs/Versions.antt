@@ -1,40 +1,39 @@
 -- One scan for a value with its version: what is known once the item's word was looked at again, and what the scan comes to.
 use Rattle.std.proofs.Common.{◌≡◌, ◌≢◌, ℕ, ◌+◌, ◌%◌, ◌^◌, ◌<◌, ◌≤◌, Bool, true, false, List, [], Some, None, refl, sym, ◌∙◌, subst, arith}
-use Rattle.segword.specs.Words.{Info, IsKey, IsSameItem, IsValid, IsValue, item_word, Shape}
+use Rattle.segword.specs.Words.{Info, IsSameItem, IsValid, item_word, Shape}
 use Rattle.segword.specs.Words.{tag_part}
 use Rattle.segmodel.specs.Words.{Begins, bucket_of, entries_of, tag_of}
 use Rattle.segcore.specs.Event as event
-use Rattle.segcore.specs.Words.{bucket_after, entered, Holds, inside, IsLawful, row_after}
+use Rattle.segcore.specs.Words.{bucket_after, inside, IsLawful, IsSegment}
 use Rattle.segcore.proofs.Moments.{begins_on, seen_begins}
 use Rattle.segcore.proofs.Searches.{key_later}
-use Rattle.segbase.specs.Words.{Board, count, Glances, number, Pass, Place, position, seen, sight}
+use Rattle.segbase.specs.Words.{Board, Glances, number, Pass, Place, position, seen, sight}
 use Rattle.segbase.specs.Words.{trace}
 use Rattle.segbase.proofs.Moves.{moved_on, is_inside}
-use Rattle.segstore.specs.Words.{segment_part, FoundItem, IsReader, IsReaderIn, LeavesSegment, OnlyLooks}
-use Rattle.segstore.specs.Words.{IsNext, ReadsRow, word_of_place}
+use Rattle.segstore.specs.Words.{segment_part, FoundItem, FoundKey, IsReader, IsReaderIn}
+use Rattle.segstore.specs.Words.{IsNext, LeavesSegment, OnlyLooks, RaisesNothing, word_of_place}
 use Rattle.segstore.proofs.Words.{same_place, chained_later}
 use Rattle.segstore.proofs.Seconds.{segment_of_item}
 use Rattle.segstore.proofs.Readers.{looks, reader_then, then_reader, leave_then}
 use Rattle.segread.specs.declared.scan.Hit.{Hit}
-use Rattle.segread.specs.Hits.{GlancesNothing, GlancesOnce, RaisesFrom}
+use Rattle.segread.specs.Hits.{GlancesOnce}
 use Rattle.segread.specs.Scanning.{HasDeadline, words_below, IsPlaceOf, ComesIn, CountsTries, AdvancesSearch, HasPassed, IsHit, IsEnded}
-use Rattle.segread.specs.Gets.{Attempts, ReadsVersionBetween, HasNoBit, Disturbs, IsMissed, IsSeen, MovesOn}
+use Rattle.segread.specs.Gets.{Attempts, ReadsVersionBetween, HasNoBit, HasVersion, Disturbs, IsMissed, IsSeen, MovesOn}
 use Rattle.segread.proofs.Answered.{gone_reads}
-use Rattle.segread.proofs.Deadlines.{by_word, read_deadline, found_reads, found_expired}
-use Rattle.segread.proofs.ComingIn.{StaysOut, LooksOnce, looked, leaves, raises_none, glances_none, glances_one, glances_then, glance_once, once_between, out_then, scans_once, tries_out, at_most, attempts, attempts_once, attempts_out, attempts_at_most, word_more, words_few}
+use Rattle.segread.proofs.Deadlines.{by_word, found_reads, found_expired}
+use Rattle.segread.proofs.ComingIn.{StaysOut, LooksOnce, looked, leaves, glances_none, glances_one, glances_then, glance_once, once_then, out_then, scans_once, tries_out, at_most, attempts, attempts_once, attempts_out, attempts_at_most, word_more, words_few}
 use Rattle.segread.proofs.Disturbing.{still_no_bit, glances_grow, set_reads, clear_reads, by_entries, by_bit}
-use Rattle.segread.proofs.Hits.{read_in, read_value, found_on, hit_raises}
+use Rattle.segread.proofs.Hits.{key_on}
 use Rattle.segread.proofs.OneMoment.{one_moment}
 use Rattle.segread.proofs.Scans.{in_chain, place_later, hit_place, next_of, end_of}
-use Rattle.segread.proofs.Tries.{has_tag, counts_later, one_entry, passed_word}
+use Rattle.segread.proofs.Tries.{has_tag, counts_later, hit_from, one_entry, passed_word}
 
--- with p the pass before the scan, q in the item's segment, v after its value was read, g after the look at the information, and l after the third look
-module _ (b : Board) (key : List ℕ) (now from tries : ℕ) (hit : Hit) (value : List ℕ) (info : Info) (third : ℕ)
-    (p q v g l : Pass) (valid : IsValid b.shape) (few : b.shape.first_version < 2 ^ 32)
+-- with p the pass before the scan, q in the item's segment, g after the look at the information, and l after the third look
+module _ (b : Board) (key : List ℕ) (now from tries : ℕ) (hit : Hit) (info : Info) (third : ℕ)
+    (p q g l : Pass) (valid : IsValid b.shape) (few : b.shape.first_version < 2 ^ 32)
     (free : HasNoBit b.shape key p)
-    (scan : IsReaderIn b p q hit.item.seg) (x : IsHit b.shape key from tries hit p q) (row : ReadsRow b q v hit.item.seg hit.item.row)
-    (is_value : (k w : List ℕ) → IsKey k → IsValue w → Holds (row_after (trace v) hit.item.seg hit.item.row) k w → value ≡ w)
-    (glance : Glances b (bucket_of b.shape key) info v g) (plain : g.plain ≡ v.plain) (memo : (sight g).memo ≡ (sight v).memo)
+    (scan : IsReaderIn b p q hit.item.seg) (x : IsHit b.shape key from tries hit p q)
+    (glance : Glances b (bucket_of b.shape key) info q g) (plain : g.plain ≡ q.plain) (memo : (sight g).memo ≡ (sight q).memo)
     (version : info.version ≡ (b.shape.first_version +
     (bucket_after b.shape (trace g) (bucket_of b.shape key)).version) % 2 ^ 32) (look : OnlyLooks b g l)
     (stands : third ≡ word_of_place b.shape (trace l) hit.place) (before : now < hit.deadline) where
@@ -44,36 +43,36 @@ module _ (b : Board) (key : List ℕ) (now from tries : ℕ) (hit : Hit) (value 
   abbrev c : ℕ
   c = bucket_of b.shape key
 
-  in_v : IsReaderIn b p v hit.item.seg
-  in_v = read_in b p q v hit.item.seg hit.item.row scan row
+  abbrev value : List ℕ
+  value = x.found.value
 
-  found_v : FoundItem z hit.place (item_word hit.item) key value (trace p) (trace v)
-  found_v = read_value b p q v hit.place hit.item hit.header key value scan x.found row is_value
+  found_q : FoundItem z hit.place (item_word hit.item) key value (trace p) (trace q)
+  found_q = x.found.found
 
-  deadline_v : HasDeadline z (segment_part (item_word hit.item)) hit.deadline (trace v)
-  deadline_v = read_deadline b p q v hit.item hit.deadline scan row x.deadline
+  there : 0 < inside (trace q) (number q) hit.item.seg
+  there = is_inside b p q hit.item.seg scan.reads
 
-  still_free : HasNoBit z key v
-  still_free = still_no_bit b key in_v.reads.own p v in_v.reads.moved in_v.reads.only free
+  deadline_q : HasDeadline z (segment_part (item_word hit.item)) hit.deadline (trace q)
+  deadline_q = by_word z hit.item hit.deadline (trace q) x.deadline
 
-  glance_by : (held : Bool) → info.held ≡ held → IsReader b v g
-  glance_by true is = (set_reads b key v g info valid still_free glance is plain memo).0
-  glance_by false is = (clear_reads b c v g info glance is plain memo).0
+  still_free : HasNoBit z key q
+  still_free = still_no_bit b key scan.reads.own p q scan.reads.moved scan.reads.only free
 
-  at_g : IsReader b v g
+  glance_by : (held : Bool) → info.held ≡ held → IsReader b q g
+  glance_by true is = (set_reads b key q g info valid still_free glance is plain memo).0
+  glance_by false is = (clear_reads b c q g info glance is plain memo).0
+
+  at_g : IsReader b q g
   at_g = glance_by info.held refl
 
   at_l : IsReader b g l
   at_l = looks b g l look
 
-  from_v : IsReader b v l
-  from_v = reader_then b v g l at_g at_l
-
   from_q : IsReader b q l
-  from_q = reader_then b q v l (looks b q v row.looked) from_v
+  from_q = reader_then b q g l at_g at_l
 
   in_l : IsReaderIn b p l hit.item.seg
-  in_l = then_reader b p v l hit.item.seg in_v from_v
+  in_l = then_reader b p q l hit.item.seg scan from_q
 
   lawful : IsLawful z (trace l)
   lawful = in_l.reads.moved.pass.lawful
@@ -91,11 +90,11 @@ module _ (b : Board) (key : List ℕ) (now from tries : ℕ) (hit : Hit) (value 
   same_at = sym (same_place z (trace q) (trace l) hit.place lawful on at_q.0).1
 
   once : LooksOnce q l
-  once = once_between q v g l (looked b q v row.looked.did.moved) (glance_once b c info v g glance) (looked b g l look.did.moved)
+  once = once_then q g l (glance_once b c info q g glance) (looked b g l look.did.moved)
 
   -- the bit was clear
   out : info.held ≡ false → StaysOut q l
-  out clear = out_then q v l (looked b q v row.looked.did.moved) (out_then v g l (looked b v g (glance.0 clear).0.moved) (looked b g l look.did.moved))
+  out clear = out_then q g l (looked b q g (glance.0 clear).0.moved) (looked b g l look.did.moved)
 
   -- another item came in since this one stood
   one_more : ¬ (IsSameItem (item_word hit.item) third) → 1 ≤ tag_part third → CountsTries z key tries (hit.tries + 1) (trace p) (trace l)
@@ -107,28 +106,27 @@ module _ (b : Board) (key : List ℕ) (now from tries : ℕ) (hit : Hit) (value 
       let more' : entries_of z c (event.seen saw.at) + 1 ≤ entries_of z c (seen l) = subst (λ n. entries_of z n (event.seen saw.at) + 1 ≤ entries_of z n (seen l)) (sym saw.was.here.0) more in
       let counted = x.counted in omega (arith, more', counted)
 
-  found_l : info.held ≡ false → FoundItem z hit.place (item_word hit.item) key value (trace p) (trace l)
-  found_l clear = found_on b g l hit.place hit.item key value (trace p) (is_inside b p g hit.item.seg (then_reader b p v g hit.item.seg in_v at_g).reads) look.did.moved
-      (found_on b v g hit.place hit.item key value (trace p) (is_inside b p v hit.item.seg in_v.reads) (glance.0 clear).0.moved found_v)
+  found_l : info.held ≡ false → FoundKey z hit.place hit.item hit.header key (trace p) (trace l)
+  found_l clear = key_on b g l hit.place hit.item hit.header key (trace p) (is_inside b p g hit.item.seg (then_reader b p q g hit.item.seg scan at_g).reads) look.did.moved
+      (key_on b q g hit.place hit.item hit.header key (trace p) there (glance.0 clear).0.moved x.found)
 
   one_version : info.held ≡ false → IsSameItem (item_word hit.item) third → ReadsVersionBetween z key now (seen p) (seen l) (Some (value, info.version))
-  one_version clear same = let i = clear_reads b c v g info glance clear plain memo in (
+  one_version clear same = let i = clear_reads b c q g info glance clear plain memo in (
     seen g,
     (
-      seen_begins (trace p) (trace g) (begins_on (trace p) (trace v) (trace g)
-          (moved_on b in_v.reads.own p v in_v.reads.moved) (moved_on b at_g.reads.own v g at_g.reads.moved)),
+      seen_begins (trace p) (trace g) (begins_on (trace p) (trace q) (trace g) up (moved_on b at_g.reads.own q g at_g.reads.moved)),
       seen_begins (trace g) (trace l) (moved_on b at_l.reads.own g l at_l.reads.moved),
     ),
-    one_moment b p v g l hit.place (item_word hit.item) third key value now info.version hit.deadline deadline_v before few valid found_v
-        (subst (λ s. 0 < inside (trace v) (number v) s) (segment_of_item hit.item)
-        (is_inside b p v hit.item.seg in_v.reads)) at_g at_l
+    one_moment b p q g l hit.place (item_word hit.item) third key value now info.version hit.deadline deadline_q before few valid found_q
+        (subst (λ s. 0 < inside (trace q) (number q) s) (segment_of_item hit.item) there) at_g at_l
         (chained_later z (trace q) (trace l) hit.place lawful on at_q.0) (sym stands) same i.1 version,
   )
 
-  pub is_seen : IsSeen b key now from tries hit value info third p l
+  pub is_seen : IsSeen b key now from tries hit info third p l
+  unfolding found_l key_on
   is_seen = record {
     reads = in_l;
-    in_table = row.readable.0;
+    in_table = subst (IsSegment z) (sym (segment_of_item hit.item)) found_q.saw.was.in_segment.0;
     few = x.few;
     up = x.up;
     glances = glances_one p q l x.tried.only_scans once;
@@ -142,17 +140,17 @@ module _ (b : Board) (key : List ℕ) (now from tries : ℕ) (hit : Hit) (value 
     counted = counts_later z key tries hit.tries (trace p) x.found.found.saw.at (trace l) (begins_on x.found.found.saw.at (trace q) (trace l) x.found.found.saw.between.1 on) x.counted;
     stood = (
       value,
-      found_reads z hit.place (item_word hit.item) key value (trace p) (trace v) found_v hit.deadline
-          deadline_v (trace l) (moved_on b from_v.reads.own v l from_v.reads.moved) now before,
+      found_reads z hit.place (item_word hit.item) key value (trace p) (trace q) found_q hit.deadline
+          deadline_q (trace l) on now before,
     );
     stands = stands;
-    glanced = λ held. let one = (set_reads b key v g info valid still_free glance held plain memo).1 in
-        let before = glances_grow b in_v.reads.own p v c in_v.reads.moved in
+    glanced = λ held. let one = (set_reads b key q g info valid still_free glance held plain memo).1 in
+        let before = glances_grow b scan.reads.own p q c scan.reads.moved in
         let after = glances_grow b at_l.reads.own g l c at_l.reads.moved in
         omega (arith, one, before, after);
     changed = one_more;
-    version = one_version;
     found = found_l;
+    version = one_version;
   }
 
 -- the chain ended
@@ -187,8 +185,8 @@ expires_missed b key now from tries hit p q r i x gone past =
     )
 
 -- with l after the third look, and r after it left the segment
-module _ (b : Board) (key : List ℕ) (now from tries : ℕ) (hit : Hit) (value : List ℕ) (info : Info) (third : ℕ)
-    (p l r : Pass) (s : IsSeen b key now from tries hit value info third p l)
+module _ (b : Board) (key : List ℕ) (now from tries : ℕ) (hit : Hit) (info : Info) (third : ℕ)
+    (p l r : Pass) (s : IsSeen b key now from tries hit info third p l)
     (gone : LeavesSegment b l r hit.item.seg) where
   pub left : IsReader b p r
   left = leave_then b p l r hit.item.seg s.reads gone
@@ -277,31 +275,26 @@ module _ (b : Board) (key : List ℕ) (now from tries : ℕ) (hit : Hit) (value 
       glances = glances_then p l r s.glances out_r;
     }
 
--- a hit: with l after the third look, t after it was counted, and r after the pass left the segment
-module _ (b : Board) (key : List ℕ) (now from tries draw : ℕ) (hit : Hit) (value : List ℕ) (info : Info) (third : ℕ)
-    (p l t r : Pass) (s : IsSeen b key now from tries hit value info third p l) (clear : info.held ≡ false)
-    (same : IsSameItem (item_word hit.item) third)
-    (counted : IsReader b l t) (out : count entered t ≡ count entered l) (unset : GlancesNothing l t)
-    (raises : RaisesFrom b.shape key value draw (trace p) l t) (gone : LeavesSegment b t r hit.item.seg) where
-  in_t : IsReaderIn b p t hit.item.seg
-  in_t = then_reader b p l t hit.item.seg s.reads counted
+-- a hit: with l after the third look
+pub hit_told : (b : Board) (key : List ℕ) (now from tries : ℕ) (hit : Hit) (info : Info) (third : ℕ) (p l : Pass)
+    → IsSeen b key now from tries hit info third p l → info.held ≡ false → IsSameItem (item_word hit.item) third
+    → IsReaderIn b p l hit.item.seg × HasVersion b key now hit info.version p l × ComesIn from 32 tries 63 p l
+    × GlancesOnce p l
+hit_told b key now from tries hit info third p l s clear same = (
+  s.reads,
+  record { found = s.found clear; told = s.version clear same; raises_nothing = s.tried.raises_nothing },
+  (let few = s.few in let came = s.tried.comes_in in
+      let most = words_few (position b.shape (trace l) hit.place)
+      (in_chain b.shape (trace l) hit.place s.reads.reads.moved.pass.lawful s.place.0).1 in
+      omega (arith, few, came, most)),
+  s.glances,
+)
 
-  pub hit_left : IsReader b p r
-  hit_left = leave_then b p t r hit.item.seg in_t gone
-
-  to_end : Begins (trace l) (trace r)
-  to_end = begins_on (trace l) (trace t) (trace r) (moved_on b counted.reads.own l t counted.reads.moved) (moved_on b _ t r gone.moved)
-
-  pub hit_told : ReadsVersionBetween b.shape key now (seen p) (seen r) (Some (value, info.version)) × RaisesFrom b.shape key value draw (trace p) p r × ComesIn from 32 tries 63 p r
-      × GlancesOnce p r
-  hit_told = let x = s.version clear same in let away = leaves b hit.item.seg t r gone.moved in (
-    (x.0, (x.1.0, begins_on x.0 (seen l) (seen r) x.1.1 (seen_begins (trace l) (trace r) to_end)), x.2),
-    hit_raises b key value draw p l t r s.reads.reads.moved.same
-        (moved_on b s.reads.reads.own p l s.reads.reads.moved) (moved_on b _ t r gone.moved) s.tried.raises_nothing
-        raises (raises_none t r away.1),
-    (let few = s.few in let came = s.tried.comes_in in
-        let most = words_few (position b.shape (trace l) hit.place)
-        (in_chain b.shape (trace l) hit.place s.reads.reads.moved.pass.lawful s.place.0).1 in let none = away.0 in
-        omega (arith, few, came, most, out, none)),
-    (λ bucket. let looks = s.glances bucket in let hit_none = unset bucket in let none = glances_none t r away.1 bucket in omega (arith, looks, hit_none, none)),
-  )
+-- the same from an earlier moment on
+pub version_from : (b : Board) (key : List ℕ) (now : ℕ) (hit : Hit) (version : ℕ) (p m q : Pass) → Begins (trace p) (trace m) → RaisesNothing p m
+    → HasVersion b key now hit version m q → HasVersion b key now hit version p q
+version_from b key now hit version p m q up none x = record {
+  found = hit_from b.shape hit.place hit.item hit.header key (trace m) (trace q) (trace p) up x.found;
+  told = (x.told.0, (begins_on (seen p) (seen m) x.told.0 (seen_begins (trace p) (trace m) up) x.told.1.0, x.told.1.1), x.told.2);
+  raises_nothing = x.raises_nothing ∙ none;
+}

@@ -1,7 +1,7 @@
 -- What a gets answers: a value and a version of one moment. What each of its scans finds:
 -- if a scan was disturbed, the next one goes on where that one stopped.
 use Rattle.std.specs.Prelude.{◌≡◌, ◌≢◌, ◌⊎◌, true, false, ℕ, ◌+◌, ◌*◌, ◌-◌, ◌<◌, ◌≤◌, List, Option, Some, None}
-use Rattle.segword.specs.Words.{Info, IsSameItem, item_word, Shape, tag_part}
+use Rattle.segword.specs.Words.{Info, IsSameItem, item_word, Shape, tag_part, value_width}
 use Rattle.segmodel.specs.declared.answer.GetsAnswer.TheVariants as gets
 use Rattle.segmodel.specs.Words.{after, Begins, bucket_of, entries_of, Entry, GetsAnswer, IsBetween}
 use Rattle.segmodel.specs.Words.{reads_version, stirred}
@@ -9,7 +9,7 @@ use Rattle.segcore.specs.Event as event
 use Rattle.segcore.specs.Words.{entered, Event, glanced, HasBit, IsSegment, KeyAhead}
 use Rattle.segbase.specs.Words.{Board, count, locked_of, number, Pass, Place, position, seen}
 use Rattle.segbase.specs.Words.{SinceFirst, trace}
-use Rattle.segstore.specs.Words.{ChangesNothing, FoundItem, GoesOn, IsReader, IsReaderIn}
+use Rattle.segstore.specs.Words.{ChangesNothing, FoundKey, GoesOn, IsReader, IsReaderIn}
 use Rattle.segstore.specs.Words.{RaisesNothing, step_count, word_of_place}
 use Rattle.segread.specs.Loads.{look_steps}
 use Rattle.segread.specs.declared.scan.Hit.{Hit}
@@ -17,10 +17,11 @@ use Rattle.segread.specs.declared.version.VersionLook.{VersionLook}
 use Rattle.segread.specs.declared.version.VersionLook.TheVariants as look
 use Rattle.segread.specs.declared.version.Attempt.{Attempt}
 use Rattle.segread.specs.declared.version.Attempt.TheVariants as attempt
+use Rattle.segread.specs.declared.version.Versioned.{Versioned}
+use Rattle.segread.specs.declared.version.Versioned.TheVariants as versioned
 use Rattle.segread.specs.Costs.{CostsOfGets}
 use Rattle.segread.specs.Reads.{ReadsBetween}
-use Rattle.segread.specs.Hits.{GetsRaisesFrom, GlancesFew, GlancesNothing, GlancesOnce, OnlyScans}
-use Rattle.segread.specs.Hits.{PaysForGlances, RaisesFrom, TriesFew}
+use Rattle.segread.specs.Hits.{GlancesFew, GlancesNothing, GlancesOnce, PaysForGlances, TriesFew}
 use Rattle.segread.specs.Scanning.{IsPlaceOf, words_below, ComesIn, CountsTries, AdvancesSearch, GivesUp}
 
 -- ---- the answer
@@ -124,14 +125,21 @@ pub record Strides (from to left : ℕ) (p q : Pass) : Type 0 where
       ≤ step_count p + words_below to + look_steps * count entered q
   pub visits : PaysForGlances p q
 
--- where one scan stopped, and the step that is left: to leave the segment of what was found
+-- The steps that are left where the key's item was found: the loads of its value, and to leave its
+-- segment. At the end one exchange comes to them, for the frequency.
+abbrev pub left_of_version : Versioned → ℕ
+left_of_version (versioned.Found hit version) = 2 + value_width
+left_of_version versioned.Miss = 0
+left_of_version versioned.Busy = 0
+
+-- where one scan stopped, and the steps that are left without that exchange
 abbrev pub end_of_sight : Shape → VersionLook → Pass → ℕ
-end_of_sight shape (look.Found hit value info word) q = position shape (trace q) hit.place
+end_of_sight shape (look.Found hit info word) q = position shape (trace q) hit.place
 end_of_sight shape look.Absent q = 32
 end_of_sight shape look.Busy q = 32
 
 abbrev pub left_of_sight : VersionLook → ℕ
-left_of_sight (look.Found hit value info word) = 1
+left_of_sight (look.Found hit info word) = 1 + value_width
 left_of_sight look.Absent = 0
 left_of_sight look.Busy = 0
 
@@ -143,16 +151,37 @@ abbrev pub end_of_attempt : Shape → Attempt → Pass → ℕ
 end_of_attempt shape (attempt.Answered told) q = 32
 end_of_attempt shape (attempt.GoesOn place tries) q = position shape (trace q) place
 
+abbrev pub left_of_attempt : Attempt → ℕ
+left_of_attempt (attempt.Answered told) = left_of_version told
+left_of_attempt (attempt.GoesOn place tries) = 0
+
 abbrev pub StridesTo : Board → Place → Attempt → Pass → Pass → Type 0
 StridesTo b from told p q =
-    Strides (position b.shape (trace p) from) (end_of_attempt b.shape told q) 0 p q
+    Strides (position b.shape (trace p) from) (end_of_attempt b.shape told q)
+    (left_of_attempt told) p q
+
+-- ---- the key's item with its version
+
+-- The key's item was found, and its value with this version was read by a gets at one moment.
+-- No frequency was raised yet.
+pub record HasVersion (b : Board) (key : List ℕ) (now : ℕ) (hit : Hit) (version : ℕ) (p q : Pass)
+    : Type 0 where
+  pub found : FoundKey b.shape hit.place hit.item hit.header key (trace p) (trace q)
+  pub told : ReadsVersionBetween b.shape key now (seen p) (seen q) (Some (found.value, version))
+  pub raises_nothing : RaisesNothing p q
+
+-- the pass is in the segment of the item that was found
+abbrev pub StaysAtVersion : Board → Versioned → Pass → Pass → Type 0
+StaysAtVersion b (versioned.Found hit version) p q = IsReaderIn b p q hit.item.seg
+StaysAtVersion b versioned.Miss p q = IsReader b p q
+StaysAtVersion b versioned.Busy p q = IsReader b p q
 
 -- ---- one scan for the key and its version, from a position on, after some tries were counted
 
 -- The key's item was found, and the pass is still in the item's segment.
 -- The pass looked at the bucket's information, and after that at the word in the item's place.
-pub record IsSeen (b : Board) (key : List ℕ) (now from tries : ℕ) (hit : Hit) (value : List ℕ)
-    (info : Info) (word : ℕ) (p q : Pass) : Type 0 where
+pub record IsSeen (b : Board) (key : List ℕ) (now from tries : ℕ) (hit : Hit) (info : Info)
+    (word : ℕ) (p q : Pass) : Type 0 where
   pub reads : IsReaderIn b p q hit.item.seg
   pub in_table : IsSegment b.shape hit.item.seg
   pub few : hit.tries < 64
@@ -174,15 +203,17 @@ pub record IsSeen (b : Board) (key : List ℕ) (now from tries : ℕ) (hit : Hit
   -- another item stood there
   pub changed : ¬ (IsSameItem (item_word hit.item) word) → 1 ≤ tag_part word
       → CountsTries b.shape key tries (hit.tries + 1) (trace p) (trace q)
-  -- the bit was clear, and the item stood there still
-  pub version : info.held ≡ false → IsSameItem (item_word hit.item) word
-      → ReadsVersionBetween b.shape key now (seen p) (seen q) (Some (value, info.version))
+  -- the bit was clear
   pub found : info.held ≡ false
-      → FoundItem b.shape hit.place (item_word hit.item) key value (trace p) (trace q)
+      → FoundKey b.shape hit.place hit.item hit.header key (trace p) (trace q)
+  -- and the item stood there still
+  pub version : (clear : info.held ≡ false) → IsSameItem (item_word hit.item) word
+      → ReadsVersionBetween b.shape key now (seen p) (seen q)
+      (Some ((found clear).value, info.version))
 
 abbrev pub IsVersionSight : Board → List ℕ → ℕ → ℕ → ℕ → VersionLook → Pass → Pass → Type 0
-IsVersionSight b key now from tries (look.Found hit value info word) p q =
-    IsSeen b key now from tries hit value info word p q
+IsVersionSight b key now from tries (look.Found hit info word) p q =
+    IsSeen b key now from tries hit info word p q
 IsVersionSight b key now from tries look.Absent p q =
     IsReader b p q × IsMissed b.shape key now from tries p q
 IsVersionSight b key now from tries look.Busy p q =
@@ -201,23 +232,22 @@ pub record MovesOn (shape : Shape) (key : List ℕ) (now from tries : ℕ) (next
   pub onward : words_below from + tries < words_below (position shape (trace q) next) + counted
 
 -- one scan gives an answer, or the place from which the next one goes on
-abbrev pub IsAttempt : Shape → List ℕ → ℕ → ℕ → ℕ → ℕ → Attempt → Pass → Pass → Type 0
-IsAttempt shape key now draw from tries (attempt.Answered (gets.Found value version)) p q =
-    ReadsVersionBetween shape key now (seen p) (seen q) (Some (value, version))
-    × RaisesFrom shape key value draw (trace p) p q × ComesIn from 32 tries 63 p q
+abbrev pub IsAttempt : Board → List ℕ → ℕ → ℕ → ℕ → Attempt → Pass → Pass → Type 0
+IsAttempt b key now from tries (attempt.Answered (versioned.Found hit version)) p q =
+    IsReaderIn b p q hit.item.seg × HasVersion b key now hit version p q
+    × ComesIn from 32 tries 63 p q × GlancesOnce p q
+IsAttempt b key now from tries (attempt.Answered versioned.Miss) p q =
+    IsReader b p q × IsMissed b.shape key now from tries p q
+IsAttempt b key now from tries (attempt.Answered versioned.Busy) p q =
+    IsReader b p q × Disturbs b.shape key now tries 64 p q × Attempts from 32 tries 63 p q
     × GlancesOnce p q
-IsAttempt shape key now draw from tries (attempt.Answered gets.Miss) p q =
-    IsMissed shape key now from tries p q
-IsAttempt shape key now draw from tries (attempt.Answered gets.Busy) p q =
-    Disturbs shape key now tries 64 p q × Attempts from 32 tries 63 p q × GlancesOnce p q
-IsAttempt shape key now draw from tries (attempt.GoesOn place counted) p q =
-    MovesOn shape key now from tries place counted p q
+IsAttempt b key now from tries (attempt.GoesOn place counted) p q =
+    IsReader b p q × MovesOn b.shape key now from tries place counted p q
 
 -- one scan from a place on
-abbrev pub Attempted : Board → List ℕ → ℕ → ℕ → Place → ℕ → Attempt → Pass → Pass → Type 0
-Attempted b key now draw from tries told p q =
-    IsReader b p q
-    × IsAttempt b.shape key now draw (position b.shape (trace p) from) tries told p q
+abbrev pub Attempted : Board → List ℕ → ℕ → Place → ℕ → Attempt → Pass → Pass → Type 0
+Attempted b key now from tries told p q =
+    IsAttempt b key now (position b.shape (trace p) from) tries told p q
 
 -- what one scan from a place on saw
 abbrev pub Sees : Board → List ℕ → ℕ → Place → ℕ → VersionLook → Pass → Pass → Type 0
@@ -226,19 +256,18 @@ Sees b key now from tries told p q =
 
 -- ---- all scans
 
--- a scan for a key whose bucket the pass itself has locked
-pub record FindsLocked (b : Board) (key : List ℕ) (now : ℕ) (told : GetsAnswer) (p q : Pass)
-    : Type 0 where
-  pub reads : IsReader b p q
-  pub tries : TriesFew p q
-  pub only_scans : OnlyScans p q
-  pub answer : IsGetsAnswer b.shape key now told (seen p) p q
+-- what was found for a key, or the answer that a gets has without it
+abbrev pub IsVersionAnswer : Board → List ℕ → ℕ → Versioned → Pass → Pass → Type 0
+IsVersionAnswer b key now (versioned.Found hit version) p q = HasVersion b key now hit version p q
+IsVersionAnswer b key now versioned.Miss p q =
+    IsGetsAnswer b.shape key now gets.Miss (seen p) p q × RaisesNothing p q
+IsVersionAnswer b key now versioned.Busy p q =
+    IsGetsAnswer b.shape key now gets.Busy (seen p) p q × RaisesNothing p q
 
 -- scans for a key and its version, from the first word of the chain on
-pub record FindsVersion (b : Board) (key : List ℕ) (draw now : ℕ) (told : GetsAnswer) (p q : Pass)
+pub record FindsVersion (b : Board) (key : List ℕ) (now : ℕ) (told : Versioned) (p q : Pass)
     : Type 0 where
-  pub reads : IsReader b p q
+  pub reads : StaysAtVersion b told p q
   pub tries : TriesFew p q
   pub glances : GlancesFew p q
-  pub raises : GetsRaisesFrom b.shape key draw told p q
-  pub answer : IsGetsAnswer b.shape key now told (seen p) p q
+  pub answer : IsVersionAnswer b key now told p q

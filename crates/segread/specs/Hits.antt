@@ -124,12 +124,7 @@ abbrev pub GetRaises : Shape → List ℕ → ℕ → GetAnswer → Pass → Pas
 GetRaises shape key draw (get.Found value) p q = RaisesOne shape key value draw p q
 GetRaises shape key draw _ p q = RaisesNothing p q
 
--- on the way a gets does so from what the pass had seen
-abbrev pub GetsRaisesFrom : Shape → List ℕ → ℕ → GetsAnswer → Pass → Pass → Type 0
-GetsRaisesFrom shape key draw (gets.Found value version) p q =
-    RaisesFrom shape key value draw (trace p) p q
-GetsRaisesFrom shape key draw _ p q = RaisesNothing p q
-
+-- and so does a gets
 abbrev pub GetsRaises : Shape → List ℕ → ℕ → GetsAnswer → Pass → Pass → Type 0
 GetsRaises shape key draw (gets.Found value version) p q = RaisesOne shape key value draw p q
 GetsRaises shape key draw _ p q = RaisesNothing p q

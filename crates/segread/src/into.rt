@@ -1,10 +1,14 @@
 //! Values read without any bit, straight into the bytes of a caller.
 ghost use Rattle.std.specs.Prelude.{◌≡◌};
 ghost use Rattle.segstore.specs.Words.{IsQuiet};
-ghost use Rattle.segread.specs.Into.{ReadsInto, told_of};
+ghost use Rattle.segread.specs.Holds.{IsHeldRow, IsHoldOf};
+ghost use Rattle.segread.specs.Into.{ReadsHeldInto, ReadsInto, ReadsRowInto, ReadsVersionInto};
+ghost use Rattle.segread.specs.Into.{told_of, told_with};
 
+use crate::held::{HeldRow, Hold};
 use crate::read::count_hit;
 use crate::scan::{Scan, scan_for};
+use crate::version::{Versioned, version_for};
 use segbase::{Board, Pass};
 use segstore::{RowRef, leave_segment, value_into};
 use segword::Key;
@@ -18,6 +22,19 @@ pub enum IntoAnswer {
     Short(usize),
     Miss,
     /// As of a `GetAnswer`.
+    Busy,
+}
+
+/// The answer to a gets whose value goes into a buffer.
+#[derive(Clone, Copy, Debug, PartialEq, Eq, Drop)]
+pub enum GetsIntoAnswer {
+    /// The value has this length, and is at the front of the buffer. The version is that of the
+    /// key's bucket.
+    Found(usize, u32),
+    /// The value has this length and its bucket this version. The buffer is shorter, and as it was.
+    Short(usize, u32),
+    Miss,
+    /// As of a `GetsAnswer`.
     Busy,
 }
 
@@ -65,4 +82,81 @@ fn told_of(copied: Result<usize, usize>) -> IntoAnswer
         Ok(length) => IntoAnswer::Found(length),
         Err(length) => IntoAnswer::Short(length),
     }
+}
+
+/// The value under a key with the version of the key's bucket, as `gets` reads them at a moment,
+/// but the value goes into a buffer. The bytes go there from the words of the row, once it is known
+/// that value and version are of one moment. What is behind them stays as it was.
+#[inline(always)]
+pub fn gets_into(
+    board: &Board,
+    pass: &mut Pass,
+    key: &Key,
+    draw: u32,
+    now: u32,
+    bytes: &mut [u8],
+) -> GetsIntoAnswer
+    requires pass { IsQuiet board.now pass.old }
+    ensures reads { ReadsVersionInto board.now key.now draw now result bytes.old bytes.new
+        pass.old pass.new }
+{
+    match version_for(board, pass, key, now) {
+        Versioned::Found { hit, version } => {
+            let row = RowRef {
+                segment: hit.item.seg,
+                row: hit.item.row,
+            };
+            let copied = value_into(board, pass, row, hit.header, bytes);
+            count_hit(board, pass, hit.place, hit.item, draw);
+            leave_segment(board, pass, hit.item.seg);
+            told_with(copied, version)
+        }
+        Versioned::Miss => GetsIntoAnswer::Miss,
+        Versioned::Busy => GetsIntoAnswer::Busy,
+    }
+}
+
+// What is told of a copy of a value with this version.
+#[inline(always)]
+fn told_with(copied: Result<usize, usize>, version: u32) -> GetsIntoAnswer
+    ensures { result ≡ told_with version copied }
+{
+    match copied {
+        Ok(length) => GetsIntoAnswer::Found(length, version),
+        Err(length) => GetsIntoAnswer::Short(length, version),
+    }
+}
+
+/// The value that is held goes to the front of a buffer. Returns its length: as an error if the
+/// buffer is shorter, and then it is as it was.
+pub fn held_into(
+    board: &Board,
+    pass: &mut Pass,
+    hold: &Hold<'_>,
+    bytes: &mut [u8],
+) -> Result<usize, usize>
+    requires pass { IsQuiet board.now pass.old }
+    requires hold { IsHoldOf board.now.shape hold.now pass.old }
+    ensures reads { ReadsHeldInto board.now hold.now result bytes.old bytes.new pass.old pass.new }
+{
+    row_into(board, pass, &hold.row, bytes)
+}
+
+/// The value in a row that is held, as `held_into` copies it.
+pub fn row_into(
+    board: &Board,
+    pass: &mut Pass,
+    row: &HeldRow,
+    bytes: &mut [u8],
+) -> Result<usize, usize>
+    requires pass { IsQuiet board.now pass.old }
+    requires row { IsHeldRow board.now.shape row.now pass.old }
+    ensures reads { ReadsRowInto board.now row.now result bytes.old bytes.new pass.old pass.new }
+{
+    let header = board.row_load(pass, row.segment, row.row, 0);
+    let held = RowRef {
+        segment: row.segment,
+        row: row.row,
+    };
+    value_into(board, pass, held, header, bytes)
 }

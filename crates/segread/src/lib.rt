@@ -12,6 +12,6 @@ pub use held::{
     HeldRow, Hold, HoldAnswer, RowAnswer, held_value, hold_item, hold_row, hold_stays, release,
     release_row, row_value,
 };
-pub use into::{IntoAnswer, get_into};
+pub use into::{GetsIntoAnswer, IntoAnswer, get_into, gets_into, held_into, row_into};
 pub use read::get;
 pub use version::gets;

@@ -1,34 +1,46 @@
-use Rattle.std.proofs.Common.{◌≡◌, ◌≢◌, ℕ, eqb, List, Some, refl, sym, ap, ◌∙◌, arith, subst}
-use Rattle.std.proofs.lemmas.Bool.{eq-eqb, false≢true}
-use Rattle.std.specs.Option.{option_eq}
+use Rattle.std.proofs.Common.{refl, sym, subst}
 use Rattle.segmodel.specs.declared.answer.GetsAnswer.TheVariants as gets
-use Rattle.segmodel.specs.Words.{bucket_of}
-use Rattle.segbase.specs.Words.{locked_of, Pass}
-use Rattle.segread.specs.Looking.{AfterLook}
-use Rattle.segread.specs.Gets.{FindsVersion}
-use Rattle.segread.proofs.Answered.{reads_version, unfound_raises}
-use Rattle.segread.proofs.ComingIn.{glances_none, raises_none}
+use Rattle.segread.specs.Gets.{ReadsVersion}
+use Rattle.segread.proofs.Endings.{ends, ends_busy, ends_holds, ends_inside, ends_missed, ends_pair, ends_place, ends_readable}
 use Rattle.segread.proofs.version.gets.Goals as goal
 
-pub returns-then-eq : goal.returns-then-eq
-returns-then-eq c = let b = c.args.board.now in let key = c.args.key.now in let p = c.args.pass.now in
-    let f = c.find_locked in let q = f.new.pass in let none = f.ensures.none in let s = f.ensures.answer in
-    let m = s.0 in let x = s.2 in record {
-      reads = reads_version b key p m q s.1 x.reads c.args.draw c.args.now f.result c.requires.pass f.ensures.steps
-          x.tries (λ bucket. let same = glances_none m q x.only_scans bucket in
-          omega arith) (unfound_raises b.shape key c.args.draw f.result m q none (raises_none m q x.only_scans))
-          x.answer
-          (λ value version told. absurd (none value version told));
+pub value_of_pair-value-requires-clause-readable : goal.value_of_pair-value-requires-clause-readable
+value_of_pair-value-requires-clause-readable c = let f = c.in-Found in let s = f.ensures.answer in
+    ends_readable c.args.board.now c.args.key.now c.args.now f.hit f.version c.args.pass.now s.0 c.version_for.new.pass s.2
+
+pub value_of_pair-value-requires-clause-header : goal.value_of_pair-value-requires-clause-header
+value_of_pair-value-requires-clause-header c = c.in-Found.ensures.answer.2.answer.found.begins
+
+pub value_of_pair-value-requires-clause-pair : goal.value_of_pair-value-requires-clause-pair
+value_of_pair-value-requires-clause-pair c = let f = c.in-Found in let s = f.ensures.answer in
+    ends_pair c.args.board.now c.args.key.now c.args.now f.hit f.version c.args.pass.now s.0 c.version_for.new.pass s.2
+
+pub count_hit-requires-clause-place : goal.count_hit-requires-clause-place
+count_hit-requires-clause-place c = let f = c.in-Found in let s = f.ensures.answer in let v = c.value_of_pair-value in
+    ends_place c.args.board.now c.args.key.now c.args.now f.hit f.version c.args.pass.now s.0 c.version_for.new.pass s.2 v.new.pass v.ensures.reads
+
+pub leave_segment-requires-clause-inside : goal.leave_segment-requires-clause-inside
+leave_segment-requires-clause-inside c = let f = c.in-Found in let s = f.ensures.answer in let v = c.value_of_pair-value in
+    ends_inside c.args.board.now c.args.key.now c.args.now f.hit f.version c.args.pass.now s.0 c.version_for.new.pass s.2 v.new.pass v.ensures.reads
+    c.count_hit.new.pass c.count_hit.ensures.reads
+
+pub returns-in-Found : goal.returns-in-Found
+returns-in-Found c = let b = c.args.board.now in let key = c.args.key.now in let p = c.args.pass.now in let f = c.in-Found in
+    let s = f.ensures.answer in let x = s.2 in let q = c.version_for.new.pass in let v = c.value_of_pair-value in let t = c.count_hit in let r = c.leave_segment in
+    let found = x.answer.found in let valid = found.found.saw.was.valid in
+    let is = v.ensures.value key found.value valid.0 valid.1 (ends_holds b key c.args.now f.hit f.version p s.0 q x v.new.pass v.ensures.reads) in record {
+      reads = subst (λ value. ReadsVersion b key c.args.draw c.args.now (gets.Found value f.version) p r.new.pass) (sym is)
+          (ends b key c.args.now f.hit f.version p s.0 q x v.new.pass v.ensures.reads t.new.pass t.ensures.reads c.args.draw r.new.pass
+          s.1 c.requires.pass f.ensures.steps (f.ensures.unlocked f.hit f.version refl) v.ensures.steps t.ensures.steps t.ensures.stays_out t.ensures.glances
+          t.ensures.raises r.ensures);
     }
 
-pub returns : goal.returns
-returns c = let b = c.args.board.now in let key = c.args.key.now in let p = c.args.pass.now in let v = c.find_version in let q = v.new.pass in
-    let unlocked : (value : List ℕ) (version : ℕ) → v.result ≡ gets.Found value version → locked_of p ≢ Some (bucket_of b.shape key) =
-    λ value version told at.
-    let sought = c.of-sought in
-    let home = sought.ensures.sought.bucket ∙ ap (bucket_of b.shape) sought.ensures.key in
-    let same = c.locked.ensures ∙ (at ∙ ap Some (sym home)) in
-    false≢true (c.if-eq.ensures ∙ (ap (λ o. option_eq eqb o (Some sought.result.bucket)) same ∙ eq-eqb sought.result.bucket sought.result.bucket refl)) in
-    let s = subst (λ k. AfterLook b p (λ (first : Pass). FindsVersion b k c.args.draw c.args.now v.result first q)) c.of-sought.ensures.key v.ensures.answer in let m = s.0 in let x = s.2 in record {
-      reads = reads_version b key p m q s.1 x.reads c.args.draw c.args.now v.result c.requires.pass v.ensures.steps x.tries x.glances x.raises x.answer unlocked;
-    }
+pub returns-in-Miss : goal.returns-in-Miss
+returns-in-Miss c = let f = c.in-Miss in let s = f.ensures.answer in record {
+  reads = ends_missed c.args.board.now c.args.key.now c.args.draw c.args.now c.args.pass.now s.0 c.version_for.new.pass s.1 c.requires.pass f.ensures.steps s.2;
+}
+
+pub returns-in-Busy : goal.returns-in-Busy
+returns-in-Busy c = let f = c.in-Busy in let s = f.ensures.answer in record {
+  reads = ends_busy c.args.board.now c.args.key.now c.args.draw c.args.now c.args.pass.now s.0 c.version_for.new.pass s.1 c.requires.pass f.ensures.steps s.2;
+}

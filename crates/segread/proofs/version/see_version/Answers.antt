@@ -1,54 +1,42 @@
 use Rattle.segcore.proofs.Moments.{begins_on}
 use Rattle.std.proofs.Common.{arith, ◌≡◌, ◌+◌, ◌%◌, ◌^◌, [], subst}
+use Rattle.segmodel.specs.Words.{bucket_of}
 use Rattle.segcore.specs.Words.{bucket_after}
 use Rattle.segbase.specs.Words.{Glances, position, trace}
 use Rattle.segbase.proofs.Moves.{is_inside, moved_on}
 use Rattle.segstore.proofs.Looks.{one_step}
-use Rattle.segread.proofs.ComingIn.{glance_once, looked, once_between}
+use Rattle.segread.proofs.ComingIn.{glance_once, looked, once_then}
 use Rattle.segread.proofs.Striding.{hit_end, scan_unset, strides, strides_left, strides_seen}
 use Rattle.segstore.proofs.Seconds.{looked_at}
 use Rattle.segread.proofs.Disturbing.{still_no_bit}
-use Rattle.segread.proofs.Hits.{hit_readable, holds_pair}
 use Rattle.segread.proofs.Versions.{is_seen, ends_missed, expires_missed}
 use Rattle.segread.proofs.version.see_version.Goals as goal
-
-pub value_of_pair-value-requires-clause-readable : goal.value_of_pair-value-requires-clause-readable
-value_of_pair-value-requires-clause-readable c = let f = c.in-Found in let hit = f.hit in let s = f.ensures.scan in
-    hit_readable c.args.board.now s.0 c.scan_from.new.pass hit.place hit.item hit.header c.args.call.now.sought.key s.2.0 s.2.1.found
-
-pub value_of_pair-value-requires-clause-pair : goal.value_of_pair-value-requires-clause-pair
-value_of_pair-value-requires-clause-pair c = let hit = c.in-Found.hit in let s = c.in-Found.ensures.scan in
-    holds_pair hit.place hit.item hit.header c.args.call.now.sought.key c.args.board.now.shape _ _ s.2.1.found
 
 pub returns-else-hit-call : goal.returns-else-hit-call
 returns-else-hit-call c =
     let b = c.args.board.now in let z = b.shape in let p = c.args.pass.now in
     let key = c.args.call.now.sought.key in let f = c.in-Found in let s = f.ensures.scan in let m = s.0 in
-    let v = c.value_of_pair-value in let g = c.glance-info in let l = c.look-word in
-    let step = g.ensures.step in record {
+    let q = c.scan_from.new.pass in let g = c.glance-info in let l = c.look-word in
+    let step = g.ensures.step in let glances = subst (λ n. Glances b n g.result q g.new.pass) c.requires.sought.bucket g.ensures.glances in record {
       sight = (
         m,
         s.1,
-        is_seen b key c.args.call.now.clock (position z (trace m) c.args.place) c.args.tries f.hit v.result g.result
-            l.result m c.scan_from.new.pass v.new.pass g.new.pass l.new.pass c.requires.pass.valid
+        is_seen b key c.args.call.now.clock (position z (trace m) c.args.place) c.args.tries f.hit g.result
+            l.result m q g.new.pass l.new.pass c.requires.pass.valid
             c.requires.versions
             (still_no_bit b key [] p m s.1.look.did.moved tt c.requires.free)
-            s.2.0 s.2.1 v.ensures.reads v.ensures.value (subst (λ n. Glances b n g.result v.new.pass g.new.pass) c.requires.sought.bucket g.ensures.glances) step.plain step.memo
+            s.2.0 s.2.1 glances step.plain step.memo
             (subst (λ n. g.result.version ≡ (z.first_version + (bucket_after z (trace g.new.pass) n).version) % 2 ^ 32) c.requires.sought.bucket g.ensures.version)
             (looked_at b g.new.pass l.new.pass f.hit.place l.result l.ensures.step) l.ensures.found c.if-hit-call.false,
       );
       steps =
-          let q = c.scan_from.new.pass in let read = v.ensures.reads.looked.did.moved in let glanced = step.did.moved in let looks = l.ensures.did.moved in
-          let on = begins_on (trace q) (trace v.new.pass) (trace l.new.pass) (moved_on b _ q v.new.pass read)
-          (begins_on (trace v.new.pass) (trace g.new.pass) (trace l.new.pass)
-          (moved_on b _ v.new.pass g.new.pass glanced) (moved_on b _ g.new.pass l.new.pass looks)) in
-          let once = once_between q v.new.pass g.new.pass l.new.pass (looked b q v.new.pass read)
-          (glance_once b c.args.call.now.sought.bucket g.result v.new.pass g.new.pass g.ensures.glances)
-          (looked b g.new.pass l.new.pass looks) in
+          let looks = l.ensures.did.moved in
+          let on = begins_on (trace q) (trace g.new.pass) (trace l.new.pass) (moved_on b _ q g.new.pass step.did.moved) (moved_on b _ g.new.pass l.new.pass looks) in
+          let once = once_then q g.new.pass l.new.pass (glance_once b (bucket_of z key) g.result q g.new.pass glances) (looked b g.new.pass l.new.pass looks) in
           strides_seen b key (position z (trace p) c.args.place) (position z (trace m) c.args.place) c.args.tries
           f.hit p m q l.new.pass s.2.0 s.2.1 on looks.pass.lawful f.ensures.steps
           (scan_unset b key p m q s.1 s.2.1.tried.only_scans) once
-          (let four = v.ensures.steps in let one = one_step b v.new.pass g.new.pass _ _ step in let last = one_step b g.new.pass l.new.pass _ _ l.ensures.step in omega (arith, four, one, last));
+          (let one = one_step b q g.new.pass _ _ step in let last = one_step b g.new.pass l.new.pass _ _ l.ensures.step in omega (arith, one, last));
     }
 
 pub returns-then-hit-call : goal.returns-then-hit-call
