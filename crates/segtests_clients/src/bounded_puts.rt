@@ -2,7 +2,9 @@
 //! whatever the shape.
 use crate::only_client::only_client;
 use crate::same::{check_that, same};
-use segclient::{Client, GetAnswer, Index, Key, PutAnswer, Shape, Stats, Value};
+use segclient::{
+    Client, GetAnswer, HoldAnswer, Index, Key, PutAnswer, Shape, Stats, Value, clients,
+};
 use std::alloc::AllocGlobal;
 use std::process::Abort;
 
@@ -93,6 +95,29 @@ fn a_put_on_a_miss_goes_over_few_rows(rt: HostRuntime) {
 fn a_put_of_what_is_read_twice_goes_over_few_rows(rt: HostRuntime) {
     let stats = stats_after(&rt, true);
     check_that(&rt, stats.items_kept > 1_000 && stats.keys_evicted > 0);
+}
+
+// Puts new numbers while the reader holds the item of another one.
+fn put_beside_a_hold(rt: &impl Abort, writer: &mut Client<'_>, reader: &mut Client<'_>) {
+    let hold = match reader.hold(&key_of(rt, 1_000)) {
+        HoldAnswer::Holding(hold) => hold,
+        HoldAnswer::Miss | HoldAnswer::Busy | HoldAnswer::AlreadyHolding => panic!(rt; "no hold"),
+    };
+    put_new(rt, writer);
+    reader.release(hold);
+}
+
+// What is read moves on all the same: the segment that is held doesn't count as a free one.
+#[test]
+fn what_is_read_moves_on_beside_a_held_item(rt: HostRuntime) {
+    let shape = Shape { passes: 2, ..SHAPE };
+    let (index, passes) = Index::new(rt.alloc(), shape).expect(&rt, "an index");
+    let mut both = clients(rt.alloc(), &index, passes).expect(&rt, "clients");
+    let mut reader = both.pop().expect(&rt, "a reader");
+    let mut writer = both.pop().expect(&rt, "a writer");
+    put(&rt, &mut writer, 1_000);
+    put_beside_a_hold(&rt, &mut writer, &mut reader);
+    check_that(&rt, writer.stats().items_kept > 1_000);
 }
 
 // While more than one segment is free, nothing is cleared.

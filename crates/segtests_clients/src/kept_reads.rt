@@ -99,3 +99,29 @@ fn an_item_moves_as_often_as_it_was_read_enough(rt: HostRuntime) {
         assert!(rt; least <= moves && moves <= most, "{reads}: {moves}");
     }
 }
+
+// New numbers, of which each eighth comes once more after so many others: if it is missed it is put
+// again, and read once. How many items moved.
+fn moves_after<R: AllocGlobal + Abort>(rt: &R, others: u32) -> u64 {
+    let (index, passes) = Index::new(rt.alloc(), MANY_SEGMENTS).expect(rt, "an index");
+    let mut client = only_client(rt, &index, passes);
+    for number in 1_000..5_000u32 {
+        put(rt, &mut client, number);
+        let again = number.saturating_sub(others);
+        if number % 8 == 0 && !is_there(rt, &mut client, again) {
+            put(rt, &mut client, again);
+            is_there(rt, &mut client, again);
+        }
+    }
+    client.stats().items_kept
+}
+
+// A key that was put lately needs less to move on, if it comes again, than one that is new.
+#[test]
+fn what_was_put_lately_moves_more_often(rt: HostRuntime) {
+    let (lately, long_ago) = (moves_after(&rt, 64), moves_after(&rt, 512));
+    assert!(rt;
+        lately.saturating_mul(2) > long_ago.saturating_mul(3),
+        "{lately} {long_ago}"
+    );
+}
