@@ -261,12 +261,18 @@ static void test_items(uint32_t items, uint32_t threads) {
   give_back(&cache, clients, threads);
 }
 
-/* The same for items of one length, from those of one row to the longest. */
+/* The same for items of one length, from those of one row to the longest. The cache takes 134 bytes for each planned
+ * row, 40 to 80 for each item, and some for the client. */
 static void test_items_of(uint32_t items, size_t length) {
-  enum { KEY = 24 };
+  enum { KEY = 24, CLIENT = 26000 };
   segcache cache;
   segcache_client client;
+  long planned = (long)((KEY + length + 8 + 63) / 64), before = bytes_out;
   EXPECT(segcache_open_items(items, (uint32_t)(KEY + length), 1, &cache, &client), SEGCACHE_OK);
+  if (OF_LIBRARY) {
+    CHECK(bytes_out - before >= (long)items * (134 * planned + 40));
+    CHECK(bytes_out - before <= (long)items * (134 * planned + 80) + CLIENT);
+  }
   for (uint32_t number = 0; number < items; number++) EXPECT(put_sized(&client, number, KEY, length), SEGCACHE_OK);
   for (uint32_t number = 0; number < items; number++) CHECK(is_sized(&client, number, KEY, length));
   CHECK(counts_of(&client, 1).keys_evicted == 0);
