@@ -16,6 +16,7 @@ pub mod Endings
 pub mod Finding
 pub mod Attempts
 pub mod Holding
+pub mod RowValues
 pub mod Hits
 pub mod HoldCalls
 pub mod ReadsFacts

@@ -68,13 +68,11 @@ pub fn hold_item<'i>(board: &'i Board, pass: &mut Pass, key: &Key, now: u32) -> 
                 leave_segment(board, pass, hit.item.seg);
                 return HoldAnswer::Miss;
             }
-            let item = hit.item;
-            let value = value_of_pair(board, pass, item.seg, item.row, hit.header);
-            set_hold(board, pass, Some((key, &value, item.seg)));
             let row = HeldRow {
-                segment: item.seg,
-                row: item.row,
+                segment: hit.item.seg,
+                row: hit.item.row,
             };
+            set_hold(board, pass, Some((key, &row)));
             HoldAnswer::Holding(Hold { board, row })
         }
         Scan::Passed { .. } => HoldAnswer::Miss,
@@ -150,9 +148,8 @@ pub fn release_row(board: &Board, pass: &mut Pass, row: HeldRow)
     set_hold(board, pass, None);
 }
 
-// Names what the pass holds: the item of this key, which stood with the value in the segment,
-// or nothing.
-fn set_hold(board: &Board, pass: &mut Pass, item: Option<(&Key, &Value, u32)>)
+// Names what the pass holds: the item of this key, whose row this is, or nothing.
+fn set_hold(board: &Board, pass: &mut Pass, item: Option<(&Key, &HeldRow)>)
     ghost held: { Option Held }
     requires pass { IsPassOf board.now pass.old }
     requires held { IfSome held (HasHeld board.now.shape (trace pass.old)) }

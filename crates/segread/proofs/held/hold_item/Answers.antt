@@ -1,4 +1,4 @@
-use Rattle.segbase.proofs.Moves.{is_inside}
+use Rattle.segcore.specs.Words.{row_after}
 use Rattle.segmodel.specs.Words.{stirred}
 use Rattle.segword.specs.Words.{item_word}
 use Rattle.segcore.specs.Event as event
@@ -9,34 +9,23 @@ use Rattle.segread.specs.declared.held.HoldAnswer.TheVariants.{Busy, Miss}
 use Rattle.segread.specs.Reads.{ReadsBetween}
 use Rattle.segread.proofs.Looking.{look_starts, out, since_look, up}
 use Rattle.segread.proofs.Tries.{found_from}
-use Rattle.segread.proofs.Deadlines.{expired_reads, deadline_lasts}
+use Rattle.segread.proofs.Deadlines.{expired_reads}
 use Rattle.std.proofs.Common.{◌≤◌, None, Some, refl, ◌∙◌, arith, rules}
 use Rattle.segbase.specs.Words.{seen, trace}
 use Rattle.segstore.proofs.Idling.{goes_same}
 use Rattle.segread.proofs.Answered.{gone_reads}
-use Rattle.segread.proofs.ComingIn.{glances_none, leaves, looked, raises_none, same_view, out_then, few_out}
-use Rattle.segread.proofs.Hits.{hit_readable, holds_pair, read_in, read_value}
+use Rattle.segread.proofs.ComingIn.{glances_none, leaves, raises_none, same_view, few_out}
 use Rattle.segread.proofs.HoldCalls.{has_found, takes_hold, holds_none, takes_no_bit, draws_nothing}
 use Rattle.segread.proofs.Pacing.{paced_from, same_steps}
 use Rattle.segread.proofs.Holding.{held_at}
+use Rattle.segread.proofs.RowValues.{found_in, value_in}
 use Rattle.segread.proofs.held.hold_item.Goals as goal
 
-pub value_of_pair-value-requires-clause-readable : goal.value_of_pair-value-requires-clause-readable
-value_of_pair-value-requires-clause-readable c = let f = c.in-Found in let hit = f.hit in let m = f.ensures.scan.0 in let x = f.ensures.scan.2 in
-    hit_readable c.args.board.now m c.scan_for.new.pass hit.place hit.item hit.header c.args.key.now x.reads x.answer.0
-
-pub value_of_pair-value-requires-clause-pair : goal.value_of_pair-value-requires-clause-pair
-value_of_pair-value-requires-clause-pair c = let hit = c.in-Found.hit in let x = c.in-Found.ensures.scan.2 in
-    holds_pair hit.place hit.item hit.header c.args.key.now c.args.board.now.shape _ _ x.answer.0
-
-pub value_of_pair-value-requires-clause-header : goal.value_of_pair-value-requires-clause-header
-value_of_pair-value-requires-clause-header c = c.in-Found.ensures.scan.2.answer.0.begins
-
 pub set_hold-requires : goal.set_hold-requires
-set_hold-requires c = let b = c.args.board.now in let f = c.in-Found in let hit = f.hit in let m = f.ensures.scan.0 in let x = f.ensures.scan.2 in let v = c.value_of_pair-value in
-    let read = read_in b m c.scan_for.new.pass v.new.pass hit.item.seg hit.item.row x.reads v.ensures.reads in
-    let found = read_value b m c.scan_for.new.pass v.new.pass hit.place hit.item hit.header c.args.key.now v.result x.reads x.answer.0 v.ensures.reads v.ensures.value in
-    (read.reads.moved.pass, (has_found b m v.new.pass hit.place hit.item c.args.key.now v.result read found, refl))
+set_hold-requires c = let b = c.args.board.now in let key = c.args.key.now in let q = c.scan_for.new.pass in
+    let f = c.in-Found in let hit = f.hit in let m = f.ensures.scan.0 in let x = f.ensures.scan.2 in
+    let found = found_in b.shape hit.place hit.item hit.header key (trace m) (trace q) x.answer.0 in
+    (x.reads.reads.moved.pass, (has_found b m q hit.place hit.item key (value_in (row_after (trace q) hit.item.seg hit.item.row)) x.reads found, refl))
 
 pub returns-then-is_holding : goal.returns-then-is_holding
 returns-then-is_holding c = record {
@@ -73,19 +62,18 @@ returns-then-hit-now c = let b = c.args.board.now in let p = c.args.pass.now in 
 
 pub returns-else-hit-now : goal.returns-else-hit-now
 returns-else-hit-now c =
-    let b = c.args.board.now in let p = c.args.pass.now in let q = c.scan_for.new.pass in let v = c.value_of_pair-value in let t = v.new.pass in let r = c.set_hold.new.pass in
+    let b = c.args.board.now in let p = c.args.pass.now in let q = c.scan_for.new.pass in let r = c.set_hold.new.pass in
     let f = c.in-Found in let hit = f.hit in let key = c.args.key.now in let set = c.set_hold.ensures in let s = f.ensures.scan in let m = s.0 in let x = s.2 in
-    let late = read_in b m q t hit.item.seg hit.item.row x.reads v.ensures.reads in
-    let later = read_value b m q t hit.place hit.item hit.header key v.result x.reads x.answer.0 v.ensures.reads v.ensures.value in
-    let read = enter_then b p m t hit.item.seg (looks b p m s.1.look) late in
-    let found = found_from b.shape hit.place (item_word hit.item) key v.result (trace m) (trace t) (trace p) (up b key p m s.1) later in
-    let starts = starts_on p m r (trace m) (look_starts b p m s.1) (steps_to m t r set.view late.reads.moved.steps) in
-    let holds = takes_hold b p t r hit.place hit.item key v.result
+    let value = value_in (row_after (trace q) hit.item.seg hit.item.row) in
+    let later = found_in b.shape hit.place hit.item hit.header key (trace m) (trace q) x.answer.0 in
+    let read = enter_then b p m q hit.item.seg (looks b p m s.1.look) x.reads in
+    let found = found_from b.shape hit.place (item_word hit.item) key value (trace m) (trace q) (trace p) (up b key p m s.1) later in
+    let starts = starts_on p m r (trace m) (look_starts b p m s.1) (steps_to m q r set.view x.reads.reads.moved.steps) in
+    let holds = takes_hold b p q r hit.place hit.item key value
     (record { segment = hit.item.seg; row = hit.item.row }) c.requires.pass c.if-is_holding.ensures read found
-    refl refl set.pass set.view set.sets c.args.now hit.deadline
-    (deadline_lasts b q t hit.item.seg hit.deadline v.ensures.reads.looked.did.moved (is_inside b m q hit.item.seg x.reads.reads) x.answer.1) c.if-hit-now.false (trace m) starts later.saw.between.0 in
-    let held = Some (held_at b.shape (trace t) key v.result hit.item.seg) in
-    let still = out_then q t r (looked b q t v.ensures.reads.looked.did.moved) (same_view t r set.view) in
+    refl refl set.pass set.view set.sets c.args.now hit.deadline x.answer.1 c.if-hit-now.false (trace m) starts later.saw.between.0 in
+    let held = Some (held_at b.shape (trace q) key value hit.item.seg) in
+    let still = same_view q r set.view in
     let first = out b key p m s.1 in record {
       holds = record {
         on = holds.0;
@@ -93,11 +81,11 @@ returns-else-hit-now c =
         already = search rules;
         costs = record {
           looks = record {
-            takes_no_bit = takes_no_bit b read.reads.own held p t r c.requires.pass read.reads.moved read.reads.only read.plain read.memo set.pass set.view set.sets;
-            draws_nothing = draws_nothing b read.reads.own held p t r c.requires.pass read.reads.moved read.reads.only read.plain read.memo set.pass set.view set.sets;
+            takes_no_bit = takes_no_bit b read.reads.own held p q r c.requires.pass read.reads.moved read.reads.only read.plain read.memo set.pass set.view set.sets;
+            draws_nothing = draws_nothing b read.reads.own held p q r c.requires.pass read.reads.moved read.reads.only read.plain read.memo set.pass set.view set.sets;
             tries = let few = few_out m q r x.tries still in let same = first.0 in omega (arith, few, same);
           };
-          steps = (let most = paced_from b key p m q 1 s.1 x.tries f.ensures.steps in let read = v.ensures.steps in let same = same_steps t r set.view in omega (arith, most, read, same));
+          steps = (let most = paced_from b key p m q 1 s.1 x.tries f.ensures.steps in let same = same_steps q r set.view in omega (arith, most, same));
           glances_nothing = glances_none p r (still.1 ∙ (x.only_scans ∙ first.1));
           raises_nothing = raises_none p r (still.1 ∙ (x.only_scans ∙ first.1));
         };
