@@ -1,6 +1,7 @@
 pub mod All
 pub mod Calls
 pub mod Closing
+pub mod Copying
 pub mod Ending
 pub mod Exports
 pub mod Guest

@@ -3,8 +3,6 @@ use Rattle.std.specs.Prelude.{◌≡◌, ℕ, List, Bool, true, false, Option, S
 use Rattle.segmodel.specs.Words.{GetAnswer, GetsAnswer}
 use Rattle.segmodel.specs.declared.answer.GetAnswer.TheVariants as get
 use Rattle.segmodel.specs.declared.answer.GetsAnswer.TheVariants as gets
-use Rattle.segread.specs.declared.into.IntoAnswer.TheVariants as into
-use Rattle.segread.specs.Words.{IntoAnswer}
 use Rattle.segclient.specs.Made.{Gets, GetsVersion}
 use Rattle.segcache.specs.declared.client.SharedClient.{SharedClient}
 use Rattle.segcache.specs.declared.kept.Kept.{Kept}
@@ -20,14 +18,6 @@ abbrev pub ReturnsGet : GetAnswer → Status → Out → Out → Type 0
 ReturnsGet (get.Found value) returned out next = CopiesOut value returned out next
 ReturnsGet get.Miss returned out next = WritesNothing out next returned status.Miss
 ReturnsGet get.Busy returned out next = WritesNothing out next returned status.Busy
-
--- what is written of a get whose value is in the buffer already, or doesn't fit: its length
-abbrev pub TellsLength : IntoAnswer → Status → ℕ → ℕ → Type 0
-TellsLength (into.Found length) returned len next = (returned ≡ status.Ok) × (next ≡ length)
-TellsLength (into.Short length) returned len next =
-    (returned ≡ status.ShortBuffer) × (next ≡ length)
-TellsLength into.Miss returned len next = (returned ≡ status.Miss) × (next ≡ len)
-TellsLength into.Busy returned len next = (returned ≡ status.Busy) × (next ≡ len)
 
 -- the client's get of the key had an answer, and this status was returned
 pub record MakesGet (key : List ℕ) (now : ℕ) (out next : Out) (returned : Status)

@@ -1,9 +1,10 @@
 //! What a client does in the shard of its hold, or where room is wanted.
 use crate::client::SharedClient;
 use crate::status::Status;
-use segclient::{Key, Value};
+use segclient::Key;
 
 impl SharedClient {
+    ghost use Rattle.segcache.specs.Copying.{HeldCopied};
     ghost use Rattle.segcache.specs.Holding.{HoldsAt, ReadsHeld, Releases};
     ghost use Rattle.segcache.specs.Room.{MakesRoom, MakesRoomInAll};
 
@@ -51,15 +52,16 @@ impl SharedClient {
         status
     }
 
-    /// A copy of the value that it holds.
-    pub(crate) fn held_value(&mut self) -> Option<Value>
-        ensures { ReadsHeld result self.old self.new }
+    /// The value that it holds, if it holds one, goes to the front of a buffer with room for it.
+    pub(crate) fn held_into(&mut self, bytes: &mut [u8]) -> Option<Result<usize, usize>>
+        ensures { HeldCopied (λ value. ReadsHeld value self.old self.new) result
+            bytes.old bytes.new }
     {
         let Some(place) = self.holds else {
             return None;
         };
         let guest = &mut self.guests[place];
-        guest.held_value()
+        guest.held_into(bytes)
     }
 
     /// Ends its hold, and says whether there was one.

@@ -6,11 +6,11 @@ ghost use Rattle.segcache.specs.Made.{WritesWhen};
 use crate::guest::Guest;
 use crate::when::When;
 use segclient::{
-    DeleteAnswer, GetsAnswer, Index, IntoAnswer, Key, Member, PutAnswer, Value, WriteAnswer,
+    DeleteAnswer, GetsIntoAnswer, Index, IntoAnswer, Key, Member, PutAnswer, Value, WriteAnswer,
 };
 
 impl Guest {
-    ghost use Rattle.segclient.specs.Made.{DeletesKey, GetsInto, GetsVersion};
+    ghost use Rattle.segclient.specs.Made.{DeletesKey, GetsInto, GetsVersionInto};
     ghost use Rattle.segclient.specs.Puts.{Puts, PutsFor};
     ghost use Rattle.segcache.specs.Guest.{At, MakesCall};
 
@@ -23,12 +23,13 @@ impl Guest {
         self.member.get_into(self.share.index(), key, bytes)
     }
 
-    /// The value under a key, with the version of its bucket.
-    pub(crate) fn gets(&mut self, key: &Key, now: u32) -> GetsAnswer
-        ensures { MakesCall (At now (GetsVersion key.now result)) self.old self.new }
+    /// The value under a key, with the version of its bucket. The value goes to the buffer so, too.
+    pub(crate) fn gets_into(&mut self, key: &Key, now: u32, bytes: &mut [u8]) -> GetsIntoAnswer
+        ensures { MakesCall (At now (GetsVersionInto key.now result bytes.old bytes.new))
+            self.old self.new }
     {
         self.member.set_now(now);
-        self.member.gets(self.share.index(), key)
+        self.member.gets_into(self.share.index(), key, bytes)
     }
 
     /// Stores the value under the key, and makes room for it if there is none.

@@ -5,7 +5,7 @@ ghost use Rattle.segcache.specs.Wants.{put_wants, write_wants};
 
 use crate::guest::Guest;
 use crate::when::When;
-use segclient::{DeleteAnswer, GetsAnswer, IntoAnswer, Key, PutAnswer, Value, WriteAnswer};
+use segclient::{DeleteAnswer, GetsIntoAnswer, IntoAnswer, Key, PutAnswer, Value, WriteAnswer};
 use segshards::shard_of;
 use segword::hash;
 
@@ -25,7 +25,7 @@ pub struct SharedClient {
 
 impl SharedClient {
     ghost use Rattle.std.specs.Prelude.{length, None};
-    ghost use Rattle.segclient.specs.Made.{DeletesKey, GetsInto, GetsVersion};
+    ghost use Rattle.segclient.specs.Made.{DeletesKey, GetsInto, GetsVersionInto};
     ghost use Rattle.segclient.specs.Puts.{Puts, PutsFor};
     ghost use Rattle.segshards.specs.Shards.{shard_of};
     ghost use Rattle.segcache.specs.Calls.{CallsKey, MakesCall};
@@ -67,13 +67,15 @@ impl SharedClient {
         guest.get_into(key, now, bytes)
     }
 
-    /// The value under a key, with the version of its bucket.
-    pub(crate) fn gets(&mut self, key: &Key, now: u32) -> GetsAnswer
-        ensures { MakesCall key.now (At now (GetsVersion key.now result)) self.old self.new }
+    /// The value under a key, with the version of its bucket. The value goes to the buffer so, too.
+    #[inline(always)]
+    pub(crate) fn gets_into(&mut self, key: &Key, now: u32, bytes: &mut [u8]) -> GetsIntoAnswer
+        ensures { MakesCall key.now (At now (GetsVersionInto key.now result bytes.old bytes.new))
+            self.old self.new }
     {
         let place = self.place_of(key);
         let guest = &mut self.guests[place];
-        guest.gets(key, now)
+        guest.gets_into(key, now, bytes)
     }
 
     /// Stores the value under the key, and makes room for it in its shard if there is none.

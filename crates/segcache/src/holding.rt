@@ -1,11 +1,11 @@
 //! The exports of holds: a value that is read again and again until it is released.
 ghost use Rattle.std.specs.Prelude.{Some};
+ghost use Rattle.segcache.specs.Copying.{TellsHeld};
 ghost use Rattle.segcache.specs.Exports.{Answers};
 ghost use Rattle.segcache.specs.Reading.{GotHeld, Held, Released};
 
 use crate::handle::Handle;
 use crate::kept::Kept;
-use crate::reading::copy_out;
 use crate::status::Status;
 use segclient::Key;
 use std::alloc::Global;
@@ -74,8 +74,22 @@ fn held_value(kept: &mut Kept, value: &mut [u8], value_len: &mut usize) -> Statu
     let Kept::Client(client) = kept else {
         return Status::NoHandle;
     };
-    match client.held_value() {
-        Some(found) => copy_out(&found, value, value_len),
+    tell_held(client.held_into(value), value_len)
+}
+
+// Writes the length of the value that is held, and returns the status of a read of it.
+fn tell_held(told: Option<Result<usize, usize>>, value_len: &mut usize) -> Status
+    ensures { TellsHeld told result value_len.old value_len.new }
+{
+    match told {
+        Some(Ok(length)) => {
+            *value_len = length;
+            Status::Ok
+        }
+        Some(Err(length)) => {
+            *value_len = length;
+            Status::ShortBuffer
+        }
         None => Status::NotHolding,
     }
 }

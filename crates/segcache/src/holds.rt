@@ -6,10 +6,11 @@ ghost use Rattle.segcache.specs.Guest.{hold_status};
 
 use crate::guest::Guest;
 use crate::status::Status;
-use segclient::{Key, Note, RowAnswer, Value};
+use segclient::{Key, Note, RowAnswer};
 
 impl Guest {
     ghost use Rattle.segclient.specs.Made.{Learns, Notes};
+    ghost use Rattle.segcache.specs.Copying.{HeldCopied};
     ghost use Rattle.segcache.specs.Guest.{EndsItsHold, HoldsAt, MakesCall, ReadsHeld};
 
     /// Holds the item of a key.
@@ -20,11 +21,12 @@ impl Guest {
         hold_status(self.member.hold_by(&mut self.share, key))
     }
 
-    /// A copy of the value that it holds.
-    pub(crate) fn held_value(&mut self) -> Option<Value>
-        ensures { ReadsHeld result self.old self.new }
+    /// The value that it holds, if it holds one, goes to the front of a buffer with room for it.
+    pub(crate) fn held_into(&mut self, bytes: &mut [u8]) -> Option<Result<usize, usize>>
+        ensures { HeldCopied (λ value. ReadsHeld value self.old self.new) result
+            bytes.old bytes.new }
     {
-        self.member.value_by(&self.share)
+        self.member.value_into_by(&self.share, bytes)
     }
 
     /// Ends its hold, and says whether there was one.

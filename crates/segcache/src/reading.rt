@@ -1,14 +1,14 @@
 //! The exports that read.
 ghost use Rattle.std.specs.Prelude.{Some};
-ghost use Rattle.segcache.specs.Exports.{Answers, CopiesOut};
+ghost use Rattle.segcache.specs.Copying.{TellsLength, TellsVersion};
+ghost use Rattle.segcache.specs.Exports.{Answers};
 ghost use Rattle.segcache.specs.Reading.{Got, GotKey, GotKeyVersion, GotVersion};
-ghost use Rattle.segcache.specs.Reading.{ReturnsGets, TellsLength};
 
 use crate::client::SharedClient;
 use crate::handle::Handle;
 use crate::kept::Kept;
 use crate::status::Status;
-use segclient::{GetsAnswer, IntoAnswer, Key, Value};
+use segclient::{GetsIntoAnswer, IntoAnswer, Key};
 use std::alloc::Global;
 
 /// Looks up a key at a moment, and copies its value to the buffer.
@@ -53,20 +53,6 @@ pub extern "C" fn segcache_raw_gets(
     let status = gets(&mut kept, key, value, value_len, version, now);
     client.fill(alloc, kept);
     status.number()
-}
-
-// Copies a value to the buffer, if it has room for it.
-pub(crate) fn copy_out(found: &Value, value: &mut [u8], value_len: &mut usize) -> Status
-    ensures { CopiesOut found.now result (value.old, value_len.old) (value.new, value_len.new) }
-{
-    let bytes = found.as_bytes();
-    let len = bytes.len();
-    *value_len = len;
-    if value.len() < len {
-        return Status::ShortBuffer;
-    }
-    value[..len].copy_from_slice(bytes);
-    Status::Ok
 }
 
 fn get(kept: &mut Kept, key: &[u8], value: &mut [u8], value_len: &mut usize, now: u32) -> Status
@@ -148,25 +134,25 @@ pub(crate) fn gets_key(
     let Some(key) = Key::new(key) else {
         return Status::BadKey;
     };
-    copy_gets(client.gets(&key, now), value, value_len, version)
+    tell_version(client.gets_into(&key, now, value), value_len, version)
 }
 
-// Copies out what a gets found, with the version.
-fn copy_gets(
-    answer: GetsAnswer,
-    value: &mut [u8],
-    value_len: &mut usize,
-    version: &mut u32,
-) -> Status
-    ensures { ReturnsGets answer result (value.old, value_len.old) (value.new, value_len.new)
-        version.old version.new }
+// Writes the length of the value that a gets found, and the version, and returns its status.
+fn tell_version(told: GetsIntoAnswer, value_len: &mut usize, version: &mut u32) -> Status
+    ensures { TellsVersion told result value_len.old value_len.new version.old version.new }
 {
-    match answer {
-        GetsAnswer::Found(found, of) => {
+    match told {
+        GetsIntoAnswer::Found(length, of) => {
+            *value_len = length;
             *version = of;
-            copy_out(&found, value, value_len)
+            Status::Ok
         }
-        GetsAnswer::Miss => Status::Miss,
-        GetsAnswer::Busy => Status::Busy,
+        GetsIntoAnswer::Short(length, of) => {
+            *value_len = length;
+            *version = of;
+            Status::ShortBuffer
+        }
+        GetsIntoAnswer::Miss => Status::Miss,
+        GetsIntoAnswer::Busy => Status::Busy,
     }
 }

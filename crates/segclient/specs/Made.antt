@@ -1,13 +1,14 @@
 -- What each call of a client is, in one record: over the index's board and what it has
 -- beside the index.
-use Rattle.std.specs.Prelude.{◌≡◌, ◌≢◌, ◌⊎◌, ℕ, ◌≤◌, Bool, true, false, not, is_some, List, [], length, Option, Some, None, IsSomeAnd}
+use Rattle.std.specs.Prelude.{◌≡◌, ◌≢◌, ◌⊎◌, ℕ, ◌≤◌, Bool, true, false, not, is_some, List, [], length, Option, Some, None, IsSomeAnd, Result}
 use Rattle.segmodel.specs.declared.answer.WriteAnswer.TheVariants as write
 use Rattle.segmodel.specs.Words.{DeleteAnswer, GetAnswer, GetsAnswer, Request, WriteAnswer}
 use Rattle.segbase.specs.Words.{Board, Pass}
 use Rattle.segstore.specs.Words.{memo}
 use Rattle.segread.specs.declared.held.HoldAnswer.{HoldAnswer}
-use Rattle.segread.specs.Words.{HeldRow, Hold, HoldsItem, HoldsRow, Into, IntoAnswer, ReadsKey}
-use Rattle.segread.specs.Words.{ReadsRow, ReadsVersion, ReleasesHold, RowAnswer}
+use Rattle.segread.specs.Words.{GetsIntoAnswer, HeldInto, HeldRow, Hold, HoldsItem, HoldsRow, Into}
+use Rattle.segread.specs.Words.{IntoAnswer, ReadsKey, ReadsRow, ReadsVersion, ReleasesHold}
+use Rattle.segread.specs.Words.{RowAnswer, VersionInto}
 use Rattle.segwrite.specs.Words.{Deletes, Writes}
 use Rattle.segindex.specs.Words.{LearnsNote, MakesNote, MeetsPass, Note, ReturnsStats}
 use Rattle.segindex.specs.declared.table_stats.IndexStats.{IndexStats}
@@ -48,6 +49,12 @@ pub record GetsVersion (key : List ℕ) (told : GetsAnswer) (b : Board) (old new
   pub counts : new.stats ≡ counted (gets_tally told) old.stats
   pub draws : DrawsOnce old new
   pub keeps : Keeps old new
+
+-- a get of the key with its version had an answer, and its value went into a buffer
+abbrev pub GetsVersionInto : List ℕ → GetsIntoAnswer → List ℕ → List ℕ → Board → Member → Member
+    → Type 0
+GetsVersionInto key told bytes next b old new =
+    VersionInto (λ answer. GetsVersion key answer b old new) told bytes next
 
 -- ---- calls that write
 
@@ -143,6 +150,15 @@ pub record ReadsHeldRow (row : HeldRow) (told : List ℕ) (b : Board) (old new :
 abbrev pub ReadsHold : Hold → List ℕ → Board → Member → Member → Type 0
 ReadsHold hold told b old new = ReadsHeldRow hold.row told b old new
 
+-- the value in the row that is held was read, and went into a buffer
+abbrev pub ReadsHeldRowInto : HeldRow → Result ℕ ℕ → List ℕ → List ℕ → Board → Member → Member
+    → Type 0
+ReadsHeldRowInto row told bytes next b old new =
+    HeldInto (λ value. ReadsHeldRow row value b old new) told bytes next
+
+abbrev pub ReadsHoldInto : Hold → Result ℕ ℕ → List ℕ → List ℕ → Board → Member → Member → Type 0
+ReadsHoldInto hold told bytes next b old new = ReadsHeldRowInto hold.row told bytes next b old new
+
 -- the hold ended
 pub record EndsHold (b : Board) (old new : Member) : Type 0 where
   pub releases : ReleasesHold b old.pass new.pass
@@ -161,6 +177,13 @@ abbrev pub ReadsKept : Option HeldRow → Option (List ℕ) → Board → Member
 ReadsKept (Some row) told b old new =
     IsSomeAnd told (λ value. ReadsHeldRow row value b old new)
 ReadsKept None told b old new = (told ≡ None) × (new ≡ old)
+
+-- the value that is kept went into a buffer, if there is one; without one nothing was done
+abbrev pub ReadsKeptInto : Option HeldRow → Option (Result ℕ ℕ) → List ℕ → List ℕ → Board → Member
+    → Member → Type 0
+ReadsKeptInto (Some row) told bytes next b old new =
+    IsSomeAnd told (λ copied. ReadsHeldRowInto row copied bytes next b old new)
+ReadsKeptInto None told bytes next b old new = (told ≡ None) × (next ≡ bytes) × (new ≡ old)
 
 -- the hold that is kept ended, if there was one; without one nothing was done
 abbrev pub EndsKept : Option HeldRow → Board → Member → Member → Type 0

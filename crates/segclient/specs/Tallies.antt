@@ -8,8 +8,9 @@ use Rattle.segmodel.specs.declared.answer.GetAnswer.TheVariants as get
 use Rattle.segmodel.specs.declared.answer.GetsAnswer.TheVariants as gets
 use Rattle.segmodel.specs.declared.answer.RefillAnswer.TheVariants as refill
 use Rattle.segmodel.specs.declared.answer.WriteAnswer.TheVariants as write
+use Rattle.segread.specs.declared.into.GetsIntoAnswer.TheVariants as gets_into
 use Rattle.segread.specs.declared.into.IntoAnswer.TheVariants as into
-use Rattle.segread.specs.Words.{IntoAnswer}
+use Rattle.segread.specs.Words.{GetsIntoAnswer, IntoAnswer}
 use Rattle.segclient.specs.declared.put.PutAnswer.{PutAnswer}
 use Rattle.segclient.specs.declared.put.PutAnswer.TheVariants as put
 use Rattle.segclient.specs.declared.tally.Tally.{Tally}
@@ -31,6 +32,13 @@ abbrev pub gets_tally : GetsAnswer → Tally
 gets_tally (gets.Found value version) = tally.Hit
 gets_tally gets.Miss = tally.Miss
 gets_tally gets.Busy = tally.Busy
+
+-- as of the gets, also where the buffer was too short
+abbrev pub gets_into_tally : GetsIntoAnswer → Tally
+gets_into_tally (gets_into.Found length version) = tally.Hit
+gets_into_tally (gets_into.Short length version) = tally.Hit
+gets_into_tally gets_into.Miss = tally.Miss
+gets_into_tally gets_into.Busy = tally.Busy
 
 abbrev pub write_tally : WriteAnswer → Tally
 write_tally write.Stored = tally.Stored

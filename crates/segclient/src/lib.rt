@@ -33,9 +33,9 @@ pub use note::{what_a_put_adds, what_is_put_stands, what_room_is_made_for};
 pub use put::PutAnswer;
 pub use ring::own_ring;
 pub use segindex::{
-    DeleteAnswer, GetAnswer, GetsAnswer, Hold, HoldAnswer, Index, IndexStats, IntoAnswer, Key,
-    MakeFault, Note, OutOfMemory, Pass, RowAnswer, Shape, ShapeFault, Share, Value, WriteAnswer,
-    hold_stays,
+    DeleteAnswer, GetAnswer, GetsAnswer, GetsIntoAnswer, Hold, HoldAnswer, Index, IndexStats,
+    IntoAnswer, Key, MakeFault, Note, OutOfMemory, Pass, RowAnswer, Shape, ShapeFault, Share,
+    Value, WriteAnswer, hold_stays,
 };
 pub use stats::Stats;
 pub use tally::Tally;

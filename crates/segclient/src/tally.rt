@@ -1,10 +1,10 @@
 //! How an answer is counted, by clients and by loads.
 ghost use Rattle.std.specs.Prelude.{◌≡◌};
-ghost use Rattle.segclient.specs.Tallies.{delete_tally, get_tally, gets_tally, into_tally};
-ghost use Rattle.segclient.specs.Tallies.{put_tally, write_tally};
+ghost use Rattle.segclient.specs.Tallies.{delete_tally, get_tally, gets_into_tally, gets_tally};
+ghost use Rattle.segclient.specs.Tallies.{into_tally, put_tally, write_tally};
 
 use crate::put::PutAnswer;
-use segindex::IntoAnswer;
+use segindex::{GetsIntoAnswer, IntoAnswer};
 use segmodel::{DeleteAnswer, GetAnswer, GetsAnswer, WriteAnswer};
 
 /// The outcome of a call.
@@ -56,6 +56,17 @@ impl Tally {
             GetsAnswer::Found(_, _) => Tally::Hit,
             GetsAnswer::Miss => Tally::Miss,
             GetsAnswer::Busy => Tally::Busy,
+        }
+    }
+
+    /// How an answer to a gets is counted whose value goes into a buffer.
+    pub fn of_gets_into(told: &GetsIntoAnswer) -> Tally
+        ensures { result ≡ gets_into_tally told.now }
+    {
+        match told {
+            GetsIntoAnswer::Found(_, _) | GetsIntoAnswer::Short(_, _) => Tally::Hit,
+            GetsIntoAnswer::Miss => Tally::Miss,
+            GetsIntoAnswer::Busy => Tally::Busy,
         }
     }
 

@@ -2,7 +2,7 @@
 ghost use Rattle.std.specs.Prelude.{◌≤◌, vec_len};
 
 use crate::shard::shard_of;
-use segclient::{GetAnswer, GetsAnswer, Index, IntoAnswer, Key};
+use segclient::{GetAnswer, GetsAnswer, GetsIntoAnswer, Index, IntoAnswer, Key};
 use segword::hash;
 
 /// A client of each shard of a cache, for one thread at a time, with one clock.
@@ -24,7 +24,7 @@ pub struct Client<'c> {
 
 impl<'c> Client<'c> {
     ghost use Rattle.std.specs.Prelude.{◌≡◌, ◌<◌, length};
-    ghost use Rattle.segclient.specs.Made.{Gets, GetsInto, GetsVersion};
+    ghost use Rattle.segclient.specs.Made.{Gets, GetsInto, GetsVersion, GetsVersionInto};
     ghost use Rattle.segshards.specs.Client.{MakesCall};
     ghost use Rattle.segshards.specs.Clients.{IsSame};
     ghost use Rattle.segshards.specs.Shards.{shard_of};
@@ -73,5 +73,18 @@ impl<'c> Client<'c> {
         let shard = &mut self.shards[place];
         shard.set_now(self.clock);
         shard.gets(key)
+    }
+    /// The value under a key with the version of its bucket, as `gets` reads them, but the value goes
+    /// to the front of a buffer, as by `get_into`.
+    #[inline(always)]
+    pub fn gets_into(&mut self, key: &Key, bytes: &mut [u8]) -> GetsIntoAnswer
+        ensures reads { MakesCall key.now (GetsVersionInto key.now result bytes.old bytes.new)
+            self.old self.new }
+        ensures same { IsSame self.old self.new }
+    {
+        let place = self.place_of(key);
+        let shard = &mut self.shards[place];
+        shard.set_now(self.clock);
+        shard.gets_into(key, bytes)
     }
 }

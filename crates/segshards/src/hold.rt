@@ -5,7 +5,7 @@ use crate::client::Client;
 use segclient::{Hold, HoldAnswer, Key, Value};
 
 impl<'c> Client<'c> {
-    ghost use Rattle.segclient.specs.Made.{EndsHold, ReadsHold};
+    ghost use Rattle.segclient.specs.Made.{EndsHold, ReadsHold, ReadsHoldInto};
     ghost use Rattle.segshards.specs.Client.{CallsShard};
     ghost use Rattle.segshards.specs.Clients.{IsSame};
     ghost use Rattle.segshards.specs.Holding.{HasHold, HoldsKey, IsHoldOf};
@@ -50,6 +50,24 @@ impl<'c> Client<'c> {
         let shard = &mut self.shards[place];
         shard.set_now(self.clock);
         shard.held_value(hold)
+    }
+
+    /// The value that is held goes to the front of a buffer. Returns its length: as an error if the
+    /// buffer is too short, and then it is as it was.
+    pub fn held_into(&mut self, hold: &Hold<'_>, bytes: &mut [u8]) -> Result<usize, usize>
+        requires hold { IsHoldOf hold.now self.old }
+        ensures reads { IfSome self.old.holds (λ shard.
+            CallsShard shard (ReadsHoldInto hold.now result bytes.old bytes.new) self.old self.new) }
+        ensures holds { self.new.holds ≡ self.old.holds }
+        ensures held { IsHoldOf hold.now self.new }
+        ensures same { IsSame self.old self.new }
+    {
+        let Some(place) = self.holds else {
+            unreachable!()
+        };
+        let shard = &mut self.shards[place];
+        shard.set_now(self.clock);
+        shard.held_into(hold, bytes)
     }
 
     /// Ends a hold.

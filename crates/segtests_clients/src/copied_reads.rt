@@ -1,9 +1,11 @@
-//! Gets whose value goes into a buffer, at each length and each room near it: the value's bytes are
+//! Reads whose value goes into a buffer, at each length and each room near it: the value's bytes are
 //! at the front, and no other byte is written.
 use crate::numbered::key_of;
 use crate::only_client::only_client;
 use crate::same::same;
-use segclient::{Client, Index, IntoAnswer, PutAnswer, Shape, Value};
+use segclient::{
+    Client, GetsIntoAnswer, HoldAnswer, Index, IntoAnswer, PutAnswer, Shape, Value, hold_stays,
+};
 use segword::VALUE_BYTES;
 use std::process::Abort;
 
@@ -110,4 +112,57 @@ fn a_miss_leaves_the_buffer_and_a_short_one_is_a_hit(rt: HostRuntime) {
     }
     let stats = client.stats();
     same(&rt, &(stats.hits, stats.misses), &(2, 1));
+}
+
+// What a gets of the number says that goes into the first bytes of a new buffer, and the buffer.
+fn read_version(
+    rt: &impl Abort,
+    client: &mut Client<'_>,
+    number: u32,
+    room: usize,
+) -> (GetsIntoAnswer, [u8; ROOM]) {
+    let mut buffer = [BEFORE; ROOM];
+    let told = client.gets_into(&key_of(rt, number), &mut buffer[..room.min(ROOM)]);
+    (told, buffer)
+}
+
+// Each put of the bucket's only key counts its version on by one.
+#[test]
+fn a_gets_copies_the_value_and_tells_the_version(rt: HostRuntime) {
+    let (index, passes) = Index::new(rt.alloc(), SHAPE).expect(&rt, "an index");
+    let mut client = only_client(&rt, &index, passes);
+    let miss = read_version(&rt, &mut client, 1, ROOM);
+    same(&rt, &miss, &(GetsIntoAnswer::Miss, buffer_with(0)));
+    for (length, version) in [(9, 1), (1, 2), (VALUE_BYTES, 3)] {
+        put_long(&rt, &mut client, 1, length);
+        let found = read_version(&rt, &mut client, 1, length);
+        let wanted = (GetsIntoAnswer::Found(length, version), buffer_with(length));
+        same(&rt, &found, &wanted);
+        let short = read_version(&rt, &mut client, 1, length.saturating_sub(1));
+        let wanted = (GetsIntoAnswer::Short(length, version), buffer_with(0));
+        same(&rt, &short, &wanted);
+    }
+    let stats = client.stats();
+    same(&rt, &(stats.hits, stats.misses), &(6, 1));
+}
+
+// What is held is copied after a delete of its key, too, and reads of it count nothing.
+#[test]
+fn what_is_held_goes_to_a_buffer(rt: HostRuntime) {
+    let (index, passes) = Index::new(rt.alloc(), SHAPE).expect(&rt, "an index");
+    let mut client = only_client(&rt, &index, passes);
+    put_long(&rt, &mut client, 1, 9);
+    let hold = match client.hold(&key_of(&rt, 1)) {
+        HoldAnswer::Holding(hold) => hold,
+        HoldAnswer::Miss | HoldAnswer::Busy | HoldAnswer::AlreadyHolding => panic!(&rt; "no hold"),
+    };
+    hold_stays();
+    client.delete(&key_of(&rt, 1));
+    let mut buffer = [BEFORE; ROOM];
+    let short = client.held_into(&hold, &mut buffer[..8]);
+    same(&rt, &(short, buffer), &(Err(9), buffer_with(0)));
+    let whole = client.held_into(&hold, &mut buffer[..9]);
+    same(&rt, &(whole, buffer), &(Ok(9), buffer_with(9)));
+    client.release(hold);
+    same(&rt, &client.stats().hits, &0);
 }

@@ -1,23 +1,19 @@
-use Rattle.std.proofs.Common.{Some, None, refl}
+use Rattle.std.proofs.Common.{refl}
 use Rattle.segcache.specs.declared.client.SharedClient.{SharedClient}
 use Rattle.segcache.specs.declared.kept.Kept.TheVariants as kept
 use Rattle.segcache.specs.declared.status.Status.{Status}
-use Rattle.segcache.specs.declared.status.Status.TheVariants as status
-use Rattle.segcache.specs.Exports.{WritesNothing}
+use Rattle.segcache.specs.Exports.{Out, WritesNothing}
 use Rattle.segcache.specs.Reading.{MakesHeldRead}
 use Rattle.segcache.proofs.Answering.{by_client}
+use Rattle.segcache.proofs.Copied.{returns_held}
 use Rattle.segcache.proofs.holding.held_value.Goals as goal
 
-pub returns-in-Some : goal.returns-in-Some
-returns-in-Some c =
-    let R : Status → Type 0 = WritesNothing (c.args.value.now, c.args.value_len.now) (c.copy_out.new.value, c.copy_out.new.value_len) c.copy_out.result in
-    let Does : SharedClient → SharedClient → Type 0 = MakesHeldRead (c.args.value.now, c.args.value_len.now) (c.copy_out.new.value, c.copy_out.new.value_len) c.copy_out.result in
-    by_client R Does c.args.kept.now (kept.Client c.held_value.new.self) c.in-Client.client c.held_value.new.self c.in-Client.is refl
-    (record { value = Some c.in-Some.found; reads = c.in-Some.ensures; returns = c.copy_out.ensures })
-
-pub returns-in-None : goal.returns-in-None
-returns-in-None c =
-    let R : Status → Type 0 = WritesNothing (c.args.value.now, c.args.value_len.now) (c.args.value.now, c.args.value_len.now) status.NotHolding in
-    let Does : SharedClient → SharedClient → Type 0 = MakesHeldRead (c.args.value.now, c.args.value_len.now) (c.args.value.now, c.args.value_len.now) status.NotHolding in
-    by_client R Does c.args.kept.now (kept.Client c.held_value.new.self) c.in-Client.client c.held_value.new.self c.in-Client.is refl
-    (record { value = None; reads = c.in-None.ensures; returns = (refl, refl) })
+pub returns : goal.returns
+returns c =
+    let out : Out = (c.args.value.now, c.args.value_len.now) in
+    let next : Out = (c.held_into.new.bytes, c.tell_held.new.value_len) in
+    let R : Status → Type 0 = WritesNothing out next c.tell_held.result in
+    let Does : SharedClient → SharedClient → Type 0 = MakesHeldRead out next c.tell_held.result in
+    let x = c.held_into.ensures in
+    by_client R Does c.args.kept.now (kept.Client c.held_into.new.self) c.in-Client.client c.held_into.new.self c.in-Client.is refl
+    (record { value = x.value; reads = x.reads; returns = returns_held x.value c.held_into.result c.tell_held.result out.0 next.0 out.1 next.1 x.copies c.tell_held.ensures })

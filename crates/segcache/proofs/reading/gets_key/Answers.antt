@@ -7,6 +7,7 @@ use Rattle.segcache.specs.Guest.{At}
 use Rattle.segclient.specs.Made.{GetsVersion}
 use Rattle.segcache.specs.Reading.{MakesGets, WritesNoVersion}
 use Rattle.segcache.proofs.Answering.{bad_key, good_key}
+use Rattle.segcache.proofs.Copied.{returns_version, version_answer_of, version_call_of, version_copies_of}
 use Rattle.segcache.proofs.reading.gets_key.Goals as goal
 
 pub returns-in_default : goal.returns-in_default
@@ -19,14 +20,19 @@ returns-in_default c =
 pub returns : goal.returns
 returns c =
     let out : Out = (c.args.value.now, c.args.value_len.now) in
-    let next : Out = (c.copy_gets.new.value, c.copy_gets.new.value_len) in
+    let next : Out = (c.gets_into.new.bytes, c.tell_version.new.value_len) in
     let version : ℕ = c.args.version.now in
-    let next_version : ℕ = c.copy_gets.new.version in
-    good_key (WritesNoVersion out next version next_version c.copy_gets.result) c.args.key.now
-    (MakesGets c.args.key.now c.args.now out next version next_version c.copy_gets.result) c.args.client.now
-    c.gets.new.self (c.in-Some.ensures.variant.0 refl)
+    let next_version : ℕ = c.tell_version.new.version in
+    let old = c.args.client.now in let new = c.gets_into.new.self in
+    let told = c.gets_into.result in
+    let answer = version_answer_of _ c.args.now told out.0 next.0 old new c.gets_into.ensures in
+    good_key (WritesNoVersion out next version next_version c.tell_version.result) c.args.key.now
+    (MakesGets c.args.key.now c.args.now out next version next_version c.tell_version.result) old new
+    (c.in-Some.ensures.variant.0 refl)
     (record {
-      answer = c.gets.result;
-      calls = subst (λ (k : List ℕ). MakesCall k (At c.args.now (GetsVersion k c.gets.result)) c.args.client.now c.gets.new.self) c.in-Some.ensures.some c.gets.ensures;
-      returns = c.copy_gets.ensures;
+      answer = answer;
+      calls = subst (λ (k : List ℕ). MakesCall k (At c.args.now (GetsVersion k answer)) old new) c.in-Some.ensures.some
+          (version_call_of _ c.args.now told out.0 next.0 old new c.gets_into.ensures);
+      returns = returns_version answer told c.tell_version.result out.0 next.0 out.1 next.1 version next_version
+          (version_copies_of _ c.args.now told out.0 next.0 old new c.gets_into.ensures) c.tell_version.ensures;
     })
