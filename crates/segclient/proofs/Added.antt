@@ -26,7 +26,7 @@ use Rattle.segclient.specs.declared.stats.Stats.{Stats}
 use Rattle.segclient.specs.PutParts.{AreOpen, effort_from, effort_of, IsEffort, with_effort}
 use Rattle.segstore.specs.Words.{GoesOn, IsQuiet, memo}
 use Rattle.segstore.proofs.Idling.{goes_same}
-use Rattle.segclient.specs.declared.segments.Span.{Span}
+use Rattle.segclient.specs.declared.segments.Window.{Window}
 use Rattle.segclient.proofs.Order.{busy_stored, full_stored, no_room_stored, room_open}
 use Rattle.segclient.proofs.Steps.{clears_come, unasked_same}
 use Rattle.segclient.proofs.Ways.{calls_come, so_many}
@@ -50,8 +50,8 @@ chosen_on b p q quiet (inr (segment, made)) = record {
 }
 
 module _ (i : Index) (time : ℕ) (key value : List ℕ) (old new : Member) (member : IsMember i old) where
-  abbrev plan : ℕ → Span → Plan
-  plan until span = record { request = Some (Set key value old.clock); cutoff = old.cutoff; deadline = until; span = span }
+  abbrev plan : ℕ → Window → Plan
+  plan until window = record { request = Some (Set key value old.clock); cutoff = old.cutoff; deadline = until; window = window }
 
   abbrev Adds : ℕ → PutAnswer → List PutCall → List Step → Type 0
   Adds until told calls steps = AddsForPut (shape_of i) (number old.pass) old.cutoff (Set key value old.clock) until told (effort_of calls) (effort_of_steps steps) (mine old.pass) (mine new.pass)
@@ -64,17 +64,17 @@ module _ (i : Index) (time : ℕ) (key value : List ℕ) (old new : Member) (mem
       (subst (λ l. AddsRoom (shape_of i) (number chosen) old.cutoff (IsOnly until) r k e l (mine q)) from.entries adds)
 
   -- a put that isn't Stored made no steps
-  unstored : (until : ℕ) (span : Span) (calls : List PutCall) (chosen between : Pass) (steps : List Step)
+  unstored : (until : ℕ) (window : Window) (calls : List PutCall) (chosen between : Pass) (steps : List Step)
       → AreOpen calls → Chooses (board_of i) old.pass chosen
-      → Makes (board_of i) (plan until span) calls chosen between → steps ≡ []
+      → Makes (board_of i) (plan until window) calls chosen between → steps ≡ []
       → Clears (board_of i) old.cutoff steps between new.pass
       → AddsRoom (shape_of i) (number old.pass) old.cutoff (IsOnly until) (sum_by (came_to refilled_segments) calls)
       (sum_by (came_to kept_items) calls) (sum_by (came_to evicted_keys) calls) (mine old.pass) (mine new.pass)
-  unstored until span calls chosen between steps are chooses makes none clears =
+  unstored until window calls chosen between steps are chooses makes none clears =
       let b = board_of i in
       let from = chosen_on b old.pass chosen member.0 chooses in
       let same = unasked_same b old.cutoff steps between new.pass none clears in
-      let came = calls_come b (plan until span) calls chosen new.pass from.on.quiet are (subst (Makes b (plan until span) calls chosen) (sym same) makes) in
+      let came = calls_come b (plan until window) calls chosen new.pass from.on.quiet are (subst (Makes b (plan until window) calls chosen) (sym same) makes) in
       from_old until chosen new.pass (sum_by (came_to refilled_segments) calls) (sum_by (came_to kept_items) calls) (sum_by (came_to evicted_keys) calls) from came.adds
 
   pub put_adds : (told : PutAnswer) → (puts : PutsFor time key value told (board_of i) old new) → Adds puts.until told puts.calls puts.steps
@@ -82,7 +82,7 @@ module _ (i : Index) (time : ℕ) (key value : List ℕ) (old new : Member) (mem
       let b = board_of i in
       let between = puts.between in
       let until = puts.until in
-      let asks = plan until puts.span in
+      let asks = plan until puts.window in
       let from = chosen_on b old.pass puts.chosen member.0 puts.chooses in
       let earlier = puts.answer.0 in
       let is = puts.answer.1 in
@@ -118,11 +118,11 @@ module _ (i : Index) (time : ℕ) (key value : List ℕ) (old new : Member) (mem
               (sum_by (came_to_step evicted_keys) puts.steps) l (mine new.pass)) entry cleared.adds),
         ),
       )
-  put_adds put.NoRoom puts = unstored puts.until puts.span puts.calls puts.chosen puts.between puts.steps
+  put_adds put.NoRoom puts = unstored puts.until puts.window puts.calls puts.chosen puts.between puts.steps
       (puts.not_stored no_room_stored) puts.chooses puts.makes (puts.unasked no_room_stored) puts.clears
-  put_adds put.BucketFull puts = unstored puts.until puts.span puts.calls puts.chosen puts.between puts.steps
+  put_adds put.BucketFull puts = unstored puts.until puts.window puts.calls puts.chosen puts.between puts.steps
       (puts.not_stored full_stored) puts.chooses puts.makes (puts.unasked full_stored) puts.clears
-  put_adds put.Busy puts = unstored puts.until puts.span puts.calls puts.chosen puts.between puts.steps (puts.not_stored busy_stored) puts.chooses puts.makes (puts.unasked busy_stored) puts.clears
+  put_adds put.Busy puts = unstored puts.until puts.window puts.calls puts.chosen puts.between puts.steps (puts.not_stored busy_stored) puts.chooses puts.makes (puts.unasked busy_stored) puts.clears
 
 pub room_adds : (i : Index) (made : Bool) (old new : Member) → IsMember i old → (room : MakesRoomFor made (board_of i) old new)
     → AddsRoom (shape_of i) (number old.pass) old.cutoff (IsOnly (deadline_of old))

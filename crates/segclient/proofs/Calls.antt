@@ -14,7 +14,7 @@ use Rattle.segevict.specs.Words.{EvictsSegment, KeepsItem}
 use Rattle.segevict.proofs.RowsOut.{goes_then}
 use Rattle.segindex.specs.Refilling.{RefillsSegment}
 use Rattle.segclient.specs.declared.effort.Effort.{Effort}
-use Rattle.segclient.specs.PutCalls.{PutCall, sets, evicts, keeps, refills, Plan, came_to, refilled_segments, kept_items, evicted_keys, IsRefused, IsCall, IsInSpan, Makes, room_plan}
+use Rattle.segclient.specs.PutCalls.{PutCall, sets, evicts, keeps, refills, Plan, came_to, refilled_segments, kept_items, evicted_keys, IsRefused, IsCall, IsInWindow, Makes, room_plan}
 use Rattle.segclient.specs.PutParts.{Arranges, effort_from, IsEffort}
 use Rattle.segclient.specs.Tallies.{evicted_by, refilled_by}
 
@@ -80,7 +80,7 @@ pub record IsWithin (from to : Plan) : Type 0 where
   pub request : (request : Request) → from.request ≡ Some request → to.request ≡ Some request
   pub cutoff : (cutoff : ℕ) → from.cutoff ≡ Some cutoff → to.cutoff ≡ Some cutoff
   pub deadline : from.deadline ≡ to.deadline
-  pub span : (request : Request) → from.request ≡ Some request → from.span ≡ to.span
+  pub window : (request : Request) → from.request ≡ Some request → from.window ≡ to.window
 
 -- those that make room, for a client that keeps too, and for a put too
 pub room_within : (deadline : ℕ) (to : Plan) (cutoff : Option ℕ) → cutoff ≡ to.cutoff → deadline ≡ to.deadline → IsWithin (room_plan cutoff deadline) to
@@ -88,7 +88,7 @@ room_within deadline to cutoff same late = record {
   request = λ request none. absurd (none-some request none);
   cutoff = λ least is. sym same ∙ is;
   deadline = late;
-  span = λ request none. absurd (none-some request none);
+  window = λ request none. absurd (none-some request none);
 }
 
 pub bare_within : (deadline : ℕ) (cutoff : Option ℕ) → IsWithin (room_plan None deadline) (room_plan cutoff deadline)
@@ -96,7 +96,7 @@ bare_within deadline cutoff = record {
   request = λ request none. absurd (none-some request none);
   cutoff = λ least none. absurd (none-some least none);
   deadline = refl;
-  span = λ request none. absurd (none-some request none);
+  window = λ request none. absurd (none-some request none);
 }
 
 module _ (b : Board) (from to : Plan) (within : IsWithin from to) where
@@ -106,7 +106,7 @@ module _ (b : Board) (from to : Plan) (within : IsWithin from to) where
     value,
     now,
     within.request (Set key value now) is,
-    (λ until stores. subst (λ span. IsInSpan span until) (within.span (Set key value now) is)
+    (λ until stores. subst (λ window. IsInWindow window until) (within.window (Set key value now) is)
         (fresh until stores)),
     set,
     writes,

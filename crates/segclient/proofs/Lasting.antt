@@ -12,8 +12,8 @@ use Rattle.segstore.specs.Words.{IsQuiet}
 use Rattle.segwrite.specs.Words.{more, rows_of, Writes}
 use Rattle.segclient.specs.declared.put.PutAnswer.{PutAnswer}
 use Rattle.segclient.specs.declared.put.PutAnswer.TheVariants as put
-use Rattle.segclient.specs.declared.segments.Span.{Span}
-use Rattle.segclient.specs.PutCalls.{IsCall, IsInSpan, Makes, Plan, PutCall, sets, StoresUntil}
+use Rattle.segclient.specs.declared.segments.Window.{Window}
+use Rattle.segclient.specs.PutCalls.{IsCall, IsInWindow, Makes, Plan, PutCall, sets, StoresUntil}
 use Rattle.segclient.specs.Puts.{StoredFor}
 use Rattle.segclient.specs.Putting.{IsPutAnswer}
 use Rattle.segclient.proofs.Calls.{last_of, makes_on}
@@ -27,9 +27,9 @@ used_deadline rows None = refl
 used_deadline rows (Some own) = refl
 
 -- the segment that a write stored into has a deadline that is asked
-pub write_for : (b : Board) (span : Span) (request : Request) (p q : Pass) → IsQuiet b p
-    → ((until : ℕ) → StoresUntil until p → IsInSpan span until) → Writes b request write.Stored p q → StoredFor span q
-write_for b span request p q quiet within writes =
+pub write_for : (b : Board) (window : Window) (request : Request) (p q : Pass) → IsQuiet b p
+    → ((until : ℕ) → StoresUntil until p → IsInWindow window until) → Writes b request write.Stored p q → StoredFor window q
+write_for b window request p q quiet within writes =
     let segment = writes.answer.0 in
     let uses = writes.answer.2 in
     let has = has_deadline (own_segment p.plain segment) (quiet.segments.in_use segment uses.current) in (
@@ -43,12 +43,12 @@ write_for b span request p q quiet within writes =
       within has.0 (segment, uses.current, has.1),
     )
 
-set_for : (b : Board) (plan : Plan) (p q : Pass) → IsQuiet b p → IsCall b plan (sets write.Stored) p q → StoredFor plan.span q
-set_for b plan p q quiet (key, value, now, is, within, set, writes) = write_for b plan.span (Set key value now) p q quiet within writes
+set_for : (b : Board) (plan : Plan) (p q : Pass) → IsQuiet b p → IsCall b plan (sets write.Stored) p q → StoredFor plan.window q
+set_for b plan p q quiet (key, value, now, is, within, set, writes) = write_for b plan.window (Set key value now) p q quiet within writes
 
 pub put_for : (b : Board) (plan : Plan) (pass rows : ℕ) (told : PutAnswer) (calls : List PutCall) (p q : Pass)
     → IsQuiet b p → IsPutAnswer b.shape pass rows told calls → Makes b plan calls p q → told ≡ put.Stored
-    → StoredFor plan.span q
+    → StoredFor plan.window q
 put_for b plan pass rows told calls p q quiet answer makes stored =
     let last = subst (λ t. IsPutAnswer b.shape pass rows t calls) stored answer in
     let made = last_of b plan (sets write.Stored) last.0 p q (subst (λ l. Makes b plan l p q) last.1 makes) in

@@ -189,7 +189,7 @@ module _ (b : Board) (plan : Plan) where
     pub few : length calls ≤ most
     pub all_open : AreOpen calls
     pub comes : IsEffort calls effort
-    pub lacks : is_outside plan.span p ≡ false → has_room_to p ≡ true → ⊥
+    pub lacks : is_outside plan.window p ≡ false → has_room_to p ≡ true → ⊥
     pub tries : SetsAtMost16 calls
     pub apart : (last_sets calls ≡ 0) ⊎ (has_room_to q ≡ false)
 

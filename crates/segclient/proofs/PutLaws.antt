@@ -20,12 +20,12 @@ use Rattle.segindex.specs.Words.{board_of, Index, shape_of}
 use Rattle.segclient.specs.declared.member.Member.{Member}
 use Rattle.segclient.specs.declared.put.PutAnswer.{PutAnswer}
 use Rattle.segclient.specs.declared.put.PutAnswer.TheVariants as put
-use Rattle.segclient.specs.declared.segments.Span.{Span}
+use Rattle.segclient.specs.declared.segments.Window.{Window}
 use Rattle.segclient.specs.Clearing.{effort_of_steps}
-use Rattle.segclient.specs.Lives.{life_span}
+use Rattle.segclient.specs.Lives.{life_window}
 use Rattle.segclient.specs.Member.{IsMember}
-use Rattle.segclient.specs.PutCalls.{evicts, IsCall, IsInSpan, IsRefused, keeps, Makes, Plan, PutCall, refills, sets}
-use Rattle.segclient.specs.PutLaws.{FoundFull, IsDenied, IsPutReason, PutCounts, PutGoesOn, PutIsRefused, PutLasts, Somewhen, StoresInSpan}
+use Rattle.segclient.specs.PutCalls.{evicts, IsCall, IsInWindow, IsRefused, keeps, Makes, Plan, PutCall, refills, sets}
+use Rattle.segclient.specs.PutLaws.{FoundFull, IsDenied, IsPutReason, PutCounts, PutGoesOn, PutIsRefused, PutLasts, Somewhen, StoresInWindow}
 use Rattle.segclient.specs.PutParts.{effort_of}
 use Rattle.segclient.specs.Puts.{PutsFor, StoredFor}
 use Rattle.segclient.specs.Putting.{IsPutAnswer}
@@ -38,7 +38,7 @@ use Rattle.segclient.proofs.Steps.{clears_on}
 module _ (i : Index) (time : ℕ) (key value : List ℕ) (told : PutAnswer) (old new : Member)
     (member : IsMember i old) (puts : PutsFor time key value told (board_of i) old new) where
   abbrev pub put_plan : Plan
-  put_plan = record { request = Some (Set key value old.clock); cutoff = old.cutoff; deadline = puts.until; span = puts.span }
+  put_plan = record { request = Some (Set key value old.clock); cutoff = old.cutoff; deadline = puts.until; window = puts.window }
 
   pub from : Chosen (board_of i) old.pass puts.chosen
   from = chosen_on (board_of i) old.pass puts.chosen member.0 puts.chooses
@@ -96,9 +96,9 @@ last_set i time key value old new member puts =
       writes = subst (λ r. Writes b r write.Stored last.0 puts.between) asked last.2.6;
     }
 
-stores_in : (b : Board) (asked : Request) (span : Span) (n : ℕ) (q : Pass) → IsQuiet b q → number q ≡ n → LastSet b asked q → StoredFor span q
-    → StoresInSpan b.shape n asked span (seen q)
-stores_in b asked span n q quiet is last (until, (segment, current, deadline), within) =
+stores_in : (b : Board) (asked : Request) (window : Window) (n : ℕ) (q : Pass) → IsQuiet b q → number q ≡ n → LastSet b asked q → StoredFor window q
+    → StoresInWindow b.shape n asked window (seen q)
+stores_in b asked window n q quiet is last (until, (segment, current, deadline), within) =
     let writes = last.writes in
     let at = writes.answer.0 in
     let there : segment ≡ at = same_Some segment at (sym current ∙ ap (λ (x : PlainPart). x.current) writes.answer.2.plain ∙ writes.answer.2.current) in
@@ -108,12 +108,12 @@ stores_in b asked span n q quiet is last (until, (segment, current, deadline), w
       earlier = mine last.before;
       newest = subst (λ m. mine_in m (seen q) ≡ Wrote m asked Stored (Some at) ∷ mine last.before) is
           (writes.answer.1 ∙ ap (λ m. Wrote m asked Stored (Some at) ∷ mine last.before) last.same);
-      lasts = subst (IsInSpan span) (sym known ∙ ap (λ s. (after b.shape (seen q)).deadline s) there) within;
+      lasts = subst (IsInWindow window) (sym known ∙ ap (λ s. (after b.shape (seen q)).deadline s) there) within;
     }
 
-wider : (shape : Shape) (n : ℕ) (asked : Request) (span life : Span) (history : List Entry) → life.earliest ≤ span.earliest → span.latest ≤ life.latest
-    → StoresInSpan shape n asked span history → StoresInSpan shape n asked life history
-wider shape n asked span life history early late is = record {
+wider : (shape : Shape) (n : ℕ) (asked : Request) (window life : Window) (history : List Entry) → life.earliest ≤ window.earliest → window.latest ≤ life.latest
+    → StoresInWindow shape n asked window history → StoresInWindow shape n asked life history
+wider shape n asked window life history early late is = record {
   segment = is.segment;
   earlier = is.earlier;
   newest = is.newest;
@@ -122,14 +122,14 @@ wider shape n asked span life history early late is = record {
 
 stored : (i : Index) (time : ℕ) (key value : List ℕ) (old new : Member) → IsMember i old → PutsFor time key value put.Stored (board_of i) old new
     → (history : List Entry) × IsBetween (seen old.pass) (seen new.pass) history
-    × StoresInSpan (shape_of i) (number old.pass) (Set key value old.clock) (life_span old.clock time) history
+    × StoresInWindow (shape_of i) (number old.pass) (Set key value old.clock) (life_window old.clock time) history
 stored i time key value old new member puts =
     let to = until_stored i time key value put.Stored old new member puts in
     let asked = Set key value old.clock in
-    let in_span = stores_in (board_of i) asked puts.span (number old.pass) puts.between to.quiet to.same (last_set i time key value old new member puts) (puts.stored refl) in (
+    let in_window = stores_in (board_of i) asked puts.window (number old.pass) puts.between to.quiet to.same (last_set i time key value old new member puts) (puts.stored refl) in (
       seen puts.between,
       (to.seen, (cleared i time key value put.Stored old new member puts).seen),
-      wider (shape_of i) (number old.pass) asked puts.span (life_span old.clock time) (seen puts.between) puts.life.earliest puts.life.latest in_span,
+      wider (shape_of i) (number old.pass) asked puts.window (life_window old.clock time) (seen puts.between) puts.life.earliest puts.life.latest in_window,
     )
 
 pub lasts : PutLasts

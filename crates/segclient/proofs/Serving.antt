@@ -11,10 +11,10 @@ use Rattle.segstore.specs.Words.{has_room_for}
 use Rattle.segwrite.specs.Words.{or_one, rows_of, Writes}
 use Rattle.segevict.specs.Rows.{IfSeveral}
 use Rattle.segclient.specs.declared.member.Member.{Member}
-use Rattle.segclient.specs.Lives.{deadline_by, life_span}
+use Rattle.segclient.specs.Lives.{deadline_by, life_window}
 use Rattle.segclient.specs.Made.{life_of, MakesWrite}
 use Rattle.segclient.specs.Member.{IsMember}
-use Rattle.segclient.specs.PutCalls.{IsInSpan}
+use Rattle.segclient.specs.PutCalls.{IsInWindow}
 use Rattle.segclient.specs.PutParts.{is_outside}
 use Rattle.segclient.specs.Puts.{deadline_of, MakesRoomFor}
 use Rattle.segclient.proofs.Left.{most_some, of_several, one_alone, one_several, room_for_fewer, room_for_one, rows_alone}
@@ -34,7 +34,7 @@ module _ (now time : ℕ) where
   ends false = omega arith
 
   -- what is refilled for a time has a deadline that comes in it
-  in_life : IsInSpan (life_span now time) (deadline_by now time (time / 8))
+  in_life : IsInWindow (life_window now time) (deadline_by now time (time / 8))
   in_life = (starts (nat_lt (now + time) (2 ^ 32 - 1)), ends (nat_lt (now + time) (2 ^ 32 - 1)))
 
 module _ (i : Index) (request : ℕ → Request) (old made new : Member) (member : IsMember i old)
@@ -43,8 +43,8 @@ module _ (i : Index) (request : ℕ → Request) (old made new : Member) (member
   timely : is_outside (life_of made) made.pass ≡ false
   timely =
       not_outside (life_of made) (deadline_of old) made.pass (room.deadline refl)
-      (subst (λ time. IsInSpan (life_span made.clock time) (deadline_of old)) (sym room.settings.time_to_live)
-      (subst (λ now. IsInSpan (life_span now old.time_to_live) (deadline_of old)) (sym room.settings.clock) (in_life old.clock old.time_to_live)))
+      (subst (λ time. IsInWindow (life_window made.clock time) (deadline_of old)) (sym room.settings.time_to_live)
+      (subst (λ now. IsInWindow (life_window now old.time_to_live) (deadline_of old)) (sym room.settings.clock) (in_life old.clock old.time_to_live)))
 
   abbrev rows : ℕ
   rows = or_one (min most_span (shape_of i).rows)

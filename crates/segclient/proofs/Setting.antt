@@ -9,8 +9,8 @@ use Rattle.segbase.specs.Words.{Board, Pass}
 use Rattle.segstore.specs.Words.{has_room_for}
 use Rattle.segwrite.specs.Words.{IsSetAnswer, Writes}
 use Rattle.segclient.specs.declared.put.Order.{Order}
-use Rattle.segclient.specs.declared.segments.Span.{Span}
-use Rattle.segclient.specs.PutCalls.{sets, IsInSpan, Makes, StoresUntil}
+use Rattle.segclient.specs.declared.segments.Window.{Window}
+use Rattle.segclient.specs.PutCalls.{sets, IsInWindow, Makes, StoresUntil}
 use Rattle.segclient.specs.PutParts.{busy_sets, current_deadline, deadline_at, is_outside, misses, plan_of}
 use Rattle.segclient.proofs.Calls.{none_made, one_more}
 
@@ -30,22 +30,22 @@ pub until_is : (until : ℕ) (p : Pass) → StoresUntil until p → current_dead
 until_is until p stores = ap (deadline_at p) stores.1 ∙ stores.2
 
 -- a deadline that isn't missed is one of these
-in_span : (span : Span) (until : ℕ) → misses span (Some until) ≡ false → IsInSpan span until
-in_span span until none =
-    let parts = or_parts (nat_lt until span.earliest) (nat_lt span.latest until) none in
-    (ltb-false until span.earliest parts.0, ltb-false span.latest until parts.1)
+in_window : (window : Window) (until : ℕ) → misses window (Some until) ≡ false → IsInWindow window until
+in_window window until none =
+    let parts = or_parts (nat_lt until window.earliest) (nat_lt window.latest until) none in
+    (ltb-false until window.earliest parts.0, ltb-false window.latest until parts.1)
 
 -- and one of these isn't missed
-pub not_outside : (span : Span) (until : ℕ) (p : Pass) → StoresUntil until p → IsInSpan span until → is_outside span p ≡ false
-not_outside span until p stores within = ap (misses span) (until_is until p stores)
-    ∙ or_from (nat_lt until span.earliest) (nat_lt span.latest until) (le-ltb until span.earliest within.0) (le-ltb span.latest until within.1)
+pub not_outside : (window : Window) (until : ℕ) (p : Pass) → StoresUntil until p → IsInWindow window until → is_outside window p ≡ false
+not_outside window until p stores within = ap (misses window) (until_is until p stores)
+    ∙ or_from (nat_lt until window.earliest) (nat_lt window.latest until) (le-ltb until window.earliest within.0) (le-ltb window.latest until within.1)
 
-pub timely_span : (span : Span) (p : Pass) → is_outside span p ≡ false → (until : ℕ) → StoresUntil until p → IsInSpan span until
-timely_span span p timely until stores = in_span span until (ap (misses span) (sym (until_is until p stores)) ∙ timely)
+pub timely_window : (window : Window) (p : Pass) → is_outside window p ≡ false → (until : ℕ) → StoresUntil until p → IsInWindow window until
+timely_window window p timely until stores = in_window window until (ap (misses window) (sym (until_is until p stores)) ∙ timely)
 
 module _ (b : Board) (order : Order) where
   abbrev IsTimely : Pass → Type 0
-  IsTimely p = is_outside order.policy.span p ≡ false
+  IsTimely p = is_outside order.policy.window p ≡ false
 
   pub no_sets : (p : Pass) → Makes b (plan_of order) (busy_sets 0) p p
   unfolding busy_sets
@@ -59,7 +59,7 @@ module _ (b : Board) (order : Order) where
   set_more told busy p q r timely were same set writes =
       let until = same_until p q same in
       one_more b (plan_of order) (sets told) (busy_sets busy) p q r were
-      (order.key.now, order.value.now, order.policy.moment, refl, timely_span order.policy.span q (ap (misses order.policy.span) until ∙ timely), set, writes)
+      (order.key.now, order.value.now, order.policy.moment, refl, timely_window order.policy.window q (ap (misses order.policy.window) until ∙ timely), set, writes)
 
   pub busy_more : (busy : ℕ) (p q r : Pass) → IsTimely p → Makes b (plan_of order) (busy_sets busy) p q
       → q.plain ≡ p.plain → Writes b (Set order.key.now order.value.now order.policy.moment) write.Busy q r

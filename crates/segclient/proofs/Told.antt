@@ -81,7 +81,7 @@ put_stands i time key value old new member puts = by on.steps
           request = Some (Set key value old.clock);
           cutoff = old.cutoff;
           deadline = puts.until;
-          span = puts.span;
+          window = puts.window;
         }) puts.calls puts.chosen puts.between from.on.quiet puts.makes
         in
         goes_then b old.pass puts.between new.pass (goes_then b old.pass puts.chosen puts.between from.on made)

@@ -16,7 +16,7 @@ use Rattle.segclient.specs.Puts.{StoredFor}
 use Rattle.segclient.specs.Tallies.{write_tally}
 use Rattle.segclient.proofs.Added.{chosen_on}
 use Rattle.segclient.proofs.Lasting.{write_for}
-use Rattle.segclient.proofs.Setting.{timely_span}
+use Rattle.segclient.proofs.Setting.{timely_window}
 use Rattle.segclient.proofs.Steps.{clears_come}
 
 answer_keeps : (shape : Shape) (request : Request) (told : WriteAnswer) (p q : Pass) → IsWriteAnswer shape request told p q → memo q ≡ memo p
@@ -69,7 +69,7 @@ module _ (b : Board) (request : ℕ → Request) (old begun : Member) (new : Mem
       let made = subst (λ now. Writes b (request now) told begun.pass q) begins.counts.keeps.settings.clock writes in
       let inside = not-true (is_outside (life_of old) begun.pass) (sym begins.timely) in
       ended told true q begins ends made.on.quiet made.on.same (answer_keeps b.shape (request old.clock) told begun.pass q made.answer) (inr (inside, made))
-      (λ is. write_for b (life_of old) (request old.clock) begun.pass q going (timely_span (life_of old) begun.pass inside)
+      (λ is. write_for b (life_of old) (request old.clock) begun.pass q going (timely_window (life_of old) begun.pass inside)
       (subst (λ t. Writes b (request old.clock) t begun.pass q) is made))
 
   pub refused_write : (told : WriteAnswer) → told ≡ write.NoRoom → IsQuiet b begun.pass → BeginsWrite false b old begun → EndsWrite write.NoRoom b begun new → MakesWrite request told b old new

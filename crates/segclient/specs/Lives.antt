@@ -1,7 +1,7 @@
 -- How long what is put can be read, and the deadlines of segments by which it is so.
 use Rattle.std.specs.Prelude.{◌≡◌, ◌⊎◌, ℕ, ◌+◌, ◌-◌, ◌/◌, ◌%◌, ◌^◌, ◌≤◌, Bool, true, max, cond, nat_lt}
-use Rattle.segclient.specs.declared.segments.Span.{Span}
-use Rattle.segclient.specs.PutCalls.{IsInSpan}
+use Rattle.segclient.specs.declared.segments.Window.{Window}
+use Rattle.segclient.specs.PutCalls.{IsInWindow}
 
 -- the number, or the largest moment if that comes first
 abbrev pub until_last : ℕ → ℕ → ℕ
@@ -20,8 +20,8 @@ abbrev pub earliest_of : ℕ → ℕ → ℕ
 earliest_of now time = until_last (now + time) (now + time - time / 8)
 
 -- all deadlines that come in this time, and not before seven eighths of it
-abbrev pub life_span : ℕ → ℕ → Span
-life_span now time = record { earliest = earliest_of now time; latest = latest_of now time }
+abbrev pub life_window : ℕ → ℕ → Window
+life_window now time = record { earliest = earliest_of now time; latest = latest_of now time }
 
 -- what a client refills for this time has a multiple of an eighth of it, or of a 64th, which only a
 -- client with queues asks for
@@ -32,7 +32,7 @@ IsDeadlineFor queued now time until =
 
 -- these deadlines let an item live for seven eighths of its time at least and for all of it
 -- at most, and this one is among them
-pub record IsLife (now time : ℕ) (span : Span) (until : ℕ) : Type 0 where
-  pub earliest : earliest_of now time ≤ span.earliest
-  pub latest : span.latest ≤ latest_of now time
-  pub within : IsInSpan span until
+pub record IsLife (now time : ℕ) (window : Window) (until : ℕ) : Type 0 where
+  pub earliest : earliest_of now time ≤ window.earliest
+  pub latest : window.latest ≤ latest_of now time
+  pub within : IsInWindow window until

@@ -16,8 +16,8 @@ use Rattle.segclient.specs.declared.member.Member.{Member}
 use Rattle.segclient.specs.declared.effort.Effort.{Effort}
 use Rattle.segclient.specs.Clearing.{Clears, ClearsSome, most_steps_of_put, Step}
 use Rattle.segclient.specs.Counting.{cleared_too, counted}
-use Rattle.segclient.specs.Lives.{life_span}
-use Rattle.segclient.specs.declared.segments.Span.{Span}
+use Rattle.segclient.specs.Lives.{life_window}
+use Rattle.segclient.specs.declared.segments.Window.{Window}
 use Rattle.segclient.specs.PutParts.{is_outside}
 use Rattle.segclient.specs.Puts.{ChoosesFor, StoredFor}
 use Rattle.segclient.specs.Member.{draw_of, DrawsOnce, Keeps, KeepsDraws, KeepsSettings}
@@ -86,8 +86,8 @@ pub record EndsWrite (told : WriteAnswer) (b : Board) (old new : Member) : Type 
 
 -- the deadlines that let an item live for seven eighths of the client's time to live at least,
 -- and for all of it at most; only the largest moment, if that comes within this time
-abbrev pub life_of : Member → Span
-life_of member = life_span member.clock member.time_to_live
+abbrev pub life_of : Member → Window
+life_of member = life_window member.clock member.time_to_live
 
 -- Before a write the pass chose a segment for it. The write can be made unless the deadline of the
 -- segment that the pass then stores into lets no item live so.
@@ -98,10 +98,10 @@ pub record BeginsWrite (begun : Bool) (b : Board) (old new : Member) : Type 0 wh
 
 -- A write was made. Or the deadline of the segment that the pass stores into isn't one of these,
 -- and then it is NoRoom, and nothing was done.
-abbrev pub WritesIfTimely : Board → Span → Request → WriteAnswer → Pass → Pass → Type 0
-WritesIfTimely b span request told p q =
-    ((is_outside span p ≡ true) × (told ≡ write.NoRoom) × (q ≡ p))
-    ⊎ ((is_outside span p ≡ false) × Writes b request told p q)
+abbrev pub WritesIfTimely : Board → Window → Request → WriteAnswer → Pass → Pass → Type 0
+WritesIfTimely b window request told p q =
+    ((is_outside window p ≡ true) × (told ≡ write.NoRoom) × (q ≡ p))
+    ⊎ ((is_outside window p ≡ false) × Writes b request told p q)
 
 -- What is asked at this moment had this answer. Before, the pass chose a segment, without a step.
 -- Where it is Stored, the deadline of the segment it is stored into comes in the client's time to

@@ -2,14 +2,14 @@
 use Rattle.std.specs.Prelude.{◌≡◌, ℕ, is_some}
 use Rattle.segclient.specs.declared.member.Member.{Member}
 use Rattle.segclient.specs.declared.segments.Policy.{Policy}
-use Rattle.segclient.specs.Lives.{IsDeadlineFor, IsLife, life_span}
+use Rattle.segclient.specs.Lives.{IsDeadlineFor, IsLife, life_window}
 use Rattle.segclient.specs.Puts.{deadline_of}
 
 abbrev pub policy_of : Member → Policy
 policy_of member = record {
   cutoff = member.cutoff;
   deadline = deadline_of member;
-  span = life_span member.clock member.time_to_live;
+  window = life_window member.clock member.time_to_live;
   moment = member.clock;
 }
 
@@ -17,5 +17,5 @@ policy_of member = record {
 pub record IsPolicyFor (time : ℕ) (member : Member) (policy : Policy) : Type 0 where
   pub cutoff : policy.cutoff ≡ member.cutoff
   pub moment : policy.moment ≡ member.clock
-  pub life : IsLife member.clock time policy.span policy.deadline
+  pub life : IsLife member.clock time policy.window policy.deadline
   pub deadline : IsDeadlineFor (is_some member.segments.queues) member.clock time policy.deadline

@@ -12,7 +12,7 @@ use Rattle.segevict.specs.declared.retention.KeepRowAnswer.{KeepRowAnswer}
 use Rattle.segevict.specs.declared.retention.KeepRowAnswer.TheVariants as kept
 use Rattle.segevict.specs.Words.{EvictsSegment, KeepsItem}
 use Rattle.segindex.specs.Refilling.{RefillsSegment}
-use Rattle.segclient.specs.declared.segments.Span.{Span}
+use Rattle.segclient.specs.declared.segments.Window.{Window}
 
 -- A call with its answer: a set of the put's own key, an evict of a segment,
 -- a keep of a segment's row by a cutoff, or a refill of a segment.
@@ -29,7 +29,7 @@ pub record Plan : Type 0 where
   pub request : Option Request
   pub cutoff : Option ℕ
   pub deadline : ℕ
-  pub span : Span
+  pub window : Window
 
 -- how many rows the item takes that a request stores, and one without a request
 abbrev pub rows_asked : Option Request → ℕ
@@ -37,8 +37,8 @@ rows_asked None = 1
 rows_asked (Some request) = rows_of request
 
 -- the deadline is one of these
-abbrev pub IsInSpan : Span → ℕ → Type 0
-IsInSpan span until = (span.earliest ≤ until) × (until ≤ span.latest)
+abbrev pub IsInWindow : Window → ℕ → Type 0
+IsInWindow window until = (window.earliest ≤ until) × (until ≤ window.latest)
 
 -- calls for room alone: no set is among them
 abbrev pub room_plan : Option ℕ → ℕ → Plan
@@ -46,7 +46,7 @@ room_plan cutoff deadline = record {
   request = None;
   cutoff = cutoff;
   deadline = deadline;
-  span = record { earliest = deadline; latest = deadline };
+  window = record { earliest = deadline; latest = deadline };
 }
 
 -- what the pass stores now expires at this moment
@@ -59,7 +59,7 @@ StoresUntil deadline p =
 abbrev pub IsCall : Board → Plan → PutCall → Pass → Pass → Type 0
 IsCall b plan (sets told) p q =
     (key : List ℕ) × (value : List ℕ) × (now : ℕ) × (plan.request ≡ Some (Set key value now))
-    × ((until : ℕ) → StoresUntil until p → IsInSpan plan.span until)
+    × ((until : ℕ) → StoresUntil until p → IsInWindow plan.window until)
     × IsSetAnswer told × Writes b (Set key value now) told p q
 IsCall b plan (evicts segment told) p q =
     (owner b.shape segment ≡ number p) × EvictsSegment b segment told p q

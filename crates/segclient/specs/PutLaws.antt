@@ -19,12 +19,12 @@ use Rattle.segclient.specs.declared.effort.Effort.{Effort}
 use Rattle.segclient.specs.declared.member.Member.{Member}
 use Rattle.segclient.specs.declared.put.PutAnswer.{PutAnswer}
 use Rattle.segclient.specs.declared.put.PutAnswer.TheVariants as put
-use Rattle.segclient.specs.declared.segments.Span.{Span}
+use Rattle.segclient.specs.declared.segments.Window.{Window}
 use Rattle.segclient.specs.Counting.{counted}
 use Rattle.segclient.specs.Entries.{AddsForPut}
-use Rattle.segclient.specs.Lives.{IsDeadlineFor, life_span}
+use Rattle.segclient.specs.Lives.{IsDeadlineFor, life_window}
 use Rattle.segclient.specs.Member.{IsMember, KeepsDraws, KeepsSettings}
-use Rattle.segclient.specs.PutCalls.{IsInSpan}
+use Rattle.segclient.specs.PutCalls.{IsInWindow}
 use Rattle.segclient.specs.PutParts.{effort_from, with_effort}
 use Rattle.segclient.specs.Puts.{PutsFor}
 use Rattle.segclient.specs.Tallies.{put_tally}
@@ -70,12 +70,12 @@ PutCounts = OfPut CountsPut
 -- ---- how long it lasts
 
 -- The pass's newest entry stores what is asked, into a segment with one of these deadlines.
-pub record StoresInSpan (shape : Shape) (pass : ℕ) (asked : Request) (span : Span)
+pub record StoresInWindow (shape : Shape) (pass : ℕ) (asked : Request) (window : Window)
     (history : List Entry) : Type 0 where
   pub segment : ℕ
   pub earlier : List Entry
   pub newest : mine_in pass history ≡ Wrote pass asked Stored (Some segment) ∷ earlier
-  pub lasts : IsInSpan span ((after shape history).deadline segment)
+  pub lasts : IsInWindow window ((after shape history).deadline segment)
 
 -- A put that is Stored stores into a segment whose deadline comes in the put's time,
 -- and not before seven eighths of it.
@@ -83,8 +83,8 @@ abbrev pub PutLasts : Type 0
 PutLasts = OfPut (λ i time key value told old new. told ≡ put.Stored
     → (history : List Entry)
     × IsBetween (seen old.pass) (seen new.pass) history
-    × StoresInSpan (shape_of i) (number old.pass) (Set key value old.clock)
-    (life_span old.clock time) history)
+    × StoresInWindow (shape_of i) (number old.pass) (Set key value old.clock)
+    (life_window old.clock time) history)
 
 -- ---- why it isn't Stored
 

@@ -16,7 +16,7 @@ use Rattle.segclient.specs.declared.put.PutAnswer.{PutAnswer}
 use Rattle.segclient.specs.declared.put.PutAnswer.TheVariants as put
 use Rattle.segclient.specs.declared.effort.Effort.{Effort}
 use Rattle.segclient.specs.declared.segments.Policy.{Policy}
-use Rattle.segclient.specs.declared.segments.Span.{Span}
+use Rattle.segclient.specs.declared.segments.Window.{Window}
 use Rattle.segclient.specs.declared.stats.Stats.{Stats}
 use Rattle.segclient.specs.Clearing.{ClearsSome}
 use Rattle.segclient.specs.Counting.{with_more}
@@ -125,18 +125,18 @@ abbrev pub current_deadline : Pass → Option ℕ
 current_deadline p = deadline_at p (current_of p)
 
 -- whether it isn't one of these
-abbrev pub misses : Span → Option ℕ → Bool
-misses span None = false
-misses span (Some deadline) = nat_lt deadline span.earliest || nat_lt span.latest deadline
+abbrev pub misses : Window → Option ℕ → Bool
+misses window None = false
+misses window (Some deadline) = nat_lt deadline window.earliest || nat_lt window.latest deadline
 
-abbrev pub is_outside : Span → Pass → Bool
-is_outside span p = misses span (current_deadline p)
+abbrev pub is_outside : Window → Pass → Bool
+is_outside window p = misses window (current_deadline p)
 
 -- a row of the segment is left, and its deadline is one of these
-abbrev pub IsOpen : Shape → Span → Pass → ℕ → Type 0
-IsOpen shape span p segment =
+abbrev pub IsOpen : Shape → Window → Pass → ℕ → Type 0
+IsOpen shape window p segment =
     (is_below shape.rows (used_of p segment) ≡ true)
-    × (misses span (deadline_of p segment) ≡ false)
+    × (misses window (deadline_of p segment) ≡ false)
 
 -- ---- sets
 
@@ -148,7 +148,7 @@ plan_of order = record {
   request = Some (request_of order);
   cutoff = order.policy.cutoff;
   deadline = order.policy.deadline;
-  span = order.policy.span;
+  window = order.policy.window;
 }
 
 -- so many sets in a row that were Busy
@@ -175,7 +175,7 @@ pub record Sets (b : Board) (plan : Plan) (told : PutAnswer) (p q : Pass) : Type
 -- sets, unless what the pass stores into has another deadline than those that are asked
 abbrev pub SetsIfTimely : Board → Plan → PutAnswer → Pass → Pass → Type 0
 SetsIfTimely b plan told p q =
-    ((is_outside plan.span p ≡ true) × (told ≡ put.NoRoom) × (q ≡ p))
+    ((is_outside plan.window p ≡ true) × (told ≡ put.NoRoom) × (q ≡ p))
     ⊎ Sets b plan told p q
 
 -- ---- a put
@@ -199,9 +199,9 @@ EndsSo shape pass rows put.Busy calls =
 
 -- A put with rows enough left in a segment with a deadline that is asked gives up nothing for it,
 -- unless its bucket is full.
-abbrev pub Spares : Shape → Span → ℕ → List PutCall → Pass → Type 0
-Spares shape span rows calls p =
-    is_outside span p ≡ false → has_room_for shape rows p ≡ true → SetsUntilFull calls
+abbrev pub Spares : Shape → Window → ℕ → List PutCall → Pass → Type 0
+Spares shape window rows calls p =
+    is_outside window p ≡ false → has_room_for shape rows p ≡ true → SetsUntilFull calls
 
 -- a put made these calls, at most so many
 pub record MakesPut (b : Board) (plan : Plan) (most : ℕ) (told : PutAnswer)
@@ -212,7 +212,7 @@ pub record MakesPut (b : Board) (plan : Plan) (most : ℕ) (told : PutAnswer)
   pub comes : IsEffort calls effort
   pub ends : EndsSo b.shape (number p) (rows_asked plan.request) told calls
   pub tries : SetsAtMost16 calls
-  pub spares : Spares b.shape plan.span (rows_asked plan.request) calls p
+  pub spares : Spares b.shape plan.window (rows_asked plan.request) calls p
 
 -- after a set that found its bucket full a segment was evicted, before the last set
 abbrev pub WasEmptied : List PutCall → Type 0
@@ -236,7 +236,7 @@ pub record PutsWhole (b : Board) (plan : Plan) (most : ℕ) (told : PutAnswer)
   pub answer : IsPutAnswer b.shape (number p) (rows_asked plan.request) told calls
   pub not_stored : told ≢ put.Stored → AreOpen calls
   pub tries : SetsAtMost16 calls
-  pub spares : Spares b.shape plan.span (rows_asked plan.request) calls p
+  pub spares : Spares b.shape plan.window (rows_asked plan.request) calls p
 
 -- ---- after a put
 

@@ -12,12 +12,12 @@ use Rattle.segindex.specs.Words.{MakesCurrent}
 use Rattle.segclient.specs.declared.member.Member.{Member}
 use Rattle.segclient.specs.declared.put.PutAnswer.{PutAnswer}
 use Rattle.segclient.specs.declared.put.PutAnswer.TheVariants as put
-use Rattle.segclient.specs.declared.segments.Span.{Span}
+use Rattle.segclient.specs.declared.segments.Window.{Window}
 use Rattle.segclient.specs.Clearing.{Clears, most_steps_of_put, Step}
 use Rattle.segclient.specs.Counting.{cleared_too, counted, given_up_too}
 use Rattle.segclient.specs.Lives.{deadline_by, IsDeadlineFor, IsLife}
 use Rattle.segclient.specs.Member.{KeepsSettings}
-use Rattle.segclient.specs.PutCalls.{IsInSpan, IsRefused, Makes, PutCall, room_plan, sets}
+use Rattle.segclient.specs.PutCalls.{IsInWindow, IsRefused, Makes, PutCall, room_plan, sets}
 use Rattle.segclient.specs.PutCalls.{StoresUntil}
 use Rattle.segclient.specs.PutParts.{is_outside}
 use Rattle.segclient.specs.Putting.{IsPutAnswer, most_calls, SetsAtMost16, SetsUntilFull}
@@ -34,19 +34,19 @@ Chooses b p q =
     (q ≡ p) ⊎ ((segment : ℕ) × MakesCurrent b segment current_answer.Current p q)
 
 -- it is as it was, or it stores into a segment with one of these deadlines and a row left
-abbrev pub Moves : Shape → Span → Pass → Pass → Type 0
-Moves shape span p q = (q ≡ p) ⊎ ((is_outside span q ≡ false) × (has_room shape q ≡ true))
+abbrev pub Moves : Shape → Window → Pass → Pass → Type 0
+Moves shape window p q = (q ≡ p) ⊎ ((is_outside window q ≡ false) × (has_room shape q ≡ true))
 
 -- The pass chose so, for one of these deadlines: it stays where it stored with such a deadline
 -- and a row left.
-pub record ChoosesFor (span : Span) (b : Board) (p q : Pass) : Type 0 where
+pub record ChoosesFor (window : Window) (b : Board) (p q : Pass) : Type 0 where
   pub chooses : Chooses b p q
-  pub moves : Moves b.shape span p q
-  pub stays : is_outside span p ≡ false → has_room b.shape p ≡ true → q ≡ p
+  pub moves : Moves b.shape window p q
+  pub stays : is_outside window p ≡ false → has_room b.shape p ≡ true → q ≡ p
 
 -- what the pass stored has one of these deadlines: that of its current segment
-abbrev pub StoredFor : Span → Pass → Type 0
-StoredFor span p = (until : ℕ) × StoresUntil until p × IsInSpan span until
+abbrev pub StoredFor : Window → Pass → Type 0
+StoredFor window p = (until : ℕ) × StoresUntil until p × IsInWindow window until
 
 -- A put for this time chose a segment, without a step, and made these calls, for its request
 -- and by the client's settings. What it refills for it has the deadline `until`, the last multiple
@@ -61,8 +61,8 @@ StoredFor span p = (until : ℕ) × StoresUntil until p × IsInSpan span until
 pub record PutsFor (time : ℕ) (key value : List ℕ) (told : PutAnswer) (b : Board)
     (old new : Member) : Type 0 where
   pub until : ℕ
-  pub span : Span
-  pub life : IsLife old.clock time span until
+  pub window : Window
+  pub life : IsLife old.clock time window until
   pub deadline : IsDeadlineFor (is_some old.segments.queues) old.clock time until
   pub calls : List PutCall
   pub chosen : Pass
@@ -72,15 +72,15 @@ pub record PutsFor (time : ℕ) (key value : List ℕ) (told : PutAnswer) (b : B
     request = Some (Set key value old.clock);
     cutoff = old.cutoff;
     deadline = until;
-    span = span;
+    window = window;
   }) calls chosen between
   pub answer : IsPutAnswer b.shape (number old.pass) (span_of key value) told calls
-  pub stored : told ≡ put.Stored → StoredFor span between
+  pub stored : told ≡ put.Stored → StoredFor window between
   pub not_stored : told ≢ put.Stored → All (λ call. call ≢ sets write.Stored) calls
   pub tries : SetsAtMost16 calls
   pub spares : (deadline : ℕ)
       → StoresUntil deadline old.pass
-      → IsInSpan span deadline
+      → IsInWindow window deadline
       → has_room_for b.shape (span_of key value) old.pass ≡ true
       → SetsUntilFull calls
   pub steps : List Step

@@ -1,8 +1,8 @@
 //! How long what is put can be read: which deadlines its segment can have.
 ghost use Rattle.std.specs.Prelude.{◌≡◌};
-ghost use Rattle.segclient.specs.Lives.{deadline_by, life_span};
+ghost use Rattle.segclient.specs.Lives.{deadline_by, life_window};
 
-use crate::segments::Span;
+use crate::segments::Window;
 
 // A time to live has so many parts. An item lives for all of them but one at least.
 pub(crate) const PARTS: u32 = 8;
@@ -25,8 +25,8 @@ pub(crate) fn deadline_by(moment: u32, time: u32, step: u32) -> u32
 
 // The deadlines that do for what is put now for this time.
 #[inline(always)]
-pub(crate) fn span_for(moment: u32, time: u32) -> Span
-    ensures { result ≡ life_span moment time }
+pub(crate) fn window_for(moment: u32, time: u32) -> Window
+    ensures { result ≡ life_window moment time }
 {
     let latest = moment.saturating_add(time);
     let earliest = if latest < u32::MAX {
@@ -34,5 +34,5 @@ pub(crate) fn span_for(moment: u32, time: u32) -> Span
     } else {
         latest
     };
-    Span { earliest, latest }
+    Window { earliest, latest }
 }

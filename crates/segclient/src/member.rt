@@ -7,11 +7,11 @@ ghost use Rattle.segclient.specs.Member.{next_draws};
 use crate::choosing::{choose, is_filled_fine, is_fine, is_outside};
 use crate::clearing::{clear_some, is_due};
 use crate::effort::Effort;
-use crate::lives::{FINE_PARTS, PARTS, deadline_by, span_for};
+use crate::lives::{FINE_PARTS, PARTS, deadline_by, window_for};
 use crate::put::{Order, PutAnswer, clear_after, put_by};
 use crate::queues::{queues_of, tell_deleted, tell_stored};
 use crate::ring::own_ring;
-use crate::segments::{Policy, Segments, Span};
+use crate::segments::{Policy, Segments, Window};
 use crate::spans::make_room_by;
 use crate::stats::Stats;
 use crate::tally::Tally;
@@ -186,9 +186,9 @@ impl Member {
         ensures member { IsMember index.now self.new }
         ensures begins { BeginsWrite result (board_of index.now) self.old self.new }
     {
-        let span = span_for(self.clock, self.time_to_live);
-        choose(index, &mut self.pass, &self.segments, span);
-        !is_outside(&self.pass, span)
+        let window = window_for(self.clock, self.time_to_live);
+        choose(index, &mut self.pass, &self.segments, window);
+        !is_outside(&self.pass, window)
     }
 
     // After a write that was answered so: once it is stored, the queues are told of it,
@@ -329,7 +329,7 @@ impl Member {
         Policy {
             cutoff: self.cutoff,
             deadline: deadline_by(self.clock, time, time / PARTS),
-            span: span_for(self.clock, time),
+            window: window_for(self.clock, time),
             moment: self.clock,
         }
     }
@@ -341,19 +341,19 @@ impl Member {
         requires member { IsMember index.now self.now }
         ensures { IsPolicyFor time self.now result }
     {
-        let span = span_for(self.clock, time);
+        let window = window_for(self.clock, time);
         let cutoff = self.cutoff;
         let moment = self.clock;
-        if is_fine(index, &self.pass, &self.segments, span) {
+        if is_fine(index, &self.pass, &self.segments, window) {
             let deadline = deadline_by(moment, time, time / FINE_PARTS);
-            let span = Span {
+            let window = Window {
                 earliest: deadline,
-                latest: span.latest,
+                latest: window.latest,
             };
             return Policy {
                 cutoff,
                 deadline,
-                span,
+                window,
                 moment,
             };
         }
@@ -361,14 +361,14 @@ impl Member {
             return Policy {
                 cutoff,
                 deadline: deadline_by(moment, time, time / FINE_PARTS),
-                span,
+                window,
                 moment,
             };
         }
         Policy {
             cutoff,
             deadline: deadline_by(moment, time, time / PARTS),
-            span,
+            window,
             moment,
         }
     }
@@ -411,7 +411,7 @@ impl Member {
     {
         let policy = self.policy_for(index, time_to_live);
         let order = Order { key, value, policy };
-        choose(index, &mut self.pass, &self.segments, policy.span);
+        choose(index, &mut self.pass, &self.segments, policy.window);
         let (told, effort) = put_by(index, &mut self.pass, &mut self.segments, order);
         self.stats.count_effort(effort);
         let cleared = clear_after(index, &mut self.pass, &mut self.segments, policy, told);

@@ -5,7 +5,7 @@ ghost use Rattle.segindex.specs.Words.{board_of, shape_of};
 ghost use Rattle.segstore.specs.Words.{GoesOn, IsQuiet};
 ghost use Rattle.segwrite.specs.Words.{IsSetAnswer, Writes};
 ghost use Rattle.segclient.specs.Clearing.{IsCleared};
-ghost use Rattle.segclient.specs.PutCalls.{IsInSpan};
+ghost use Rattle.segclient.specs.PutCalls.{IsInWindow};
 ghost use Rattle.segclient.specs.PutParts.{ClearsAfter, is_outside, MakesPut, most_for_put};
 ghost use Rattle.segclient.specs.PutParts.{most_for_set, plan_of, PutsAtLast, PutsWhole};
 ghost use Rattle.segclient.specs.PutParts.{request_of, Sets, SetsIfTimely};
@@ -76,7 +76,7 @@ fn set_while_busy(
     replaced: &mut Option<RowRef>,
 ) -> PutAnswer
     requires quiet { IsQuiet (board_of index.now) pass.old }
-    requires timely { is_outside order.policy.span pass.old ≡ false }
+    requires timely { is_outside order.policy.window pass.old ≡ false }
     ensures on { GoesOn (board_of index.now) pass.old pass.new }
     ensures sets { Sets (board_of index.now) (plan_of order.entry) result pass.old pass.new }
 {
@@ -106,7 +106,7 @@ pub(crate) fn set_if_timely(
     ensures sets { SetsIfTimely (board_of index.now) (plan_of order.entry) result
         pass.old pass.new }
 {
-    if is_outside(pass, order.policy.span) {
+    if is_outside(pass, order.policy.window) {
         return PutAnswer::NoRoom;
     }
     set_while_busy(index, pass, order, replaced)
@@ -124,7 +124,7 @@ fn set_in_room(
     requires quiet { IsQuiet (board_of index.now) pass.old }
     requires own { IsOwnRing (shape_of index.now) (number pass.old) segments.old.ring }
     requires cleared { IsCleared (shape_of index.now) segments.old.source pass.old }
-    requires timely { IsInSpan order.policy.span order.policy.deadline }
+    requires timely { IsInWindow order.policy.window order.policy.deadline }
     ensures on { GoesOn (board_of index.now) pass.old pass.new }
     ensures own { IsOwnRing (shape_of index.now) (number pass.new) segments.new.ring }
     ensures queues { is_some segments.new.queues ≡ is_some segments.old.queues }
@@ -163,7 +163,7 @@ fn put_at_last(
     requires quiet { IsQuiet (board_of index.now) pass.old }
     requires own { IsOwnRing (shape_of index.now) (number pass.old) segments.old.ring }
     requires cleared { IsCleared (shape_of index.now) segments.old.source pass.old }
-    requires timely { IsInSpan order.policy.span order.policy.deadline }
+    requires timely { IsInWindow order.policy.window order.policy.deadline }
     ensures on { GoesOn (board_of index.now) pass.old pass.new }
     ensures own { IsOwnRing (shape_of index.now) (number pass.new) segments.new.ring }
     ensures queues { is_some segments.new.queues ≡ is_some segments.old.queues }
@@ -194,7 +194,7 @@ fn put_once(
     requires quiet { IsQuiet (board_of index.now) pass.old }
     requires own { IsOwnRing (shape_of index.now) (number pass.old) segments.old.ring }
     requires cleared { IsCleared (shape_of index.now) segments.old.source pass.old }
-    requires timely { IsInSpan order.policy.span order.policy.deadline }
+    requires timely { IsInWindow order.policy.window order.policy.deadline }
     ensures on { GoesOn (board_of index.now) pass.old pass.new }
     ensures own { IsOwnRing (shape_of index.now) (number pass.new) segments.new.ring }
     ensures queues { is_some segments.new.queues ≡ is_some segments.old.queues }
@@ -220,7 +220,7 @@ pub(crate) fn put_by(
     requires quiet { IsQuiet (board_of index.now) pass.old }
     requires own { IsOwnRing (shape_of index.now) (number pass.old) segments.old.ring }
     requires cleared { IsCleared (shape_of index.now) segments.old.source pass.old }
-    requires timely { IsInSpan order.policy.span order.policy.deadline }
+    requires timely { IsInWindow order.policy.window order.policy.deadline }
     ensures on { GoesOn (board_of index.now) pass.old pass.new }
     ensures own { IsOwnRing (shape_of index.now) (number pass.new) segments.new.ring }
     ensures queues { is_some segments.new.queues ≡ is_some segments.old.queues }

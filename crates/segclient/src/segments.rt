@@ -24,7 +24,7 @@ pub(crate) struct Segments {
 
 // The deadlines that a segment can have into which a put stores: the earliest and the latest one.
 #[derive(Clone, Copy)]
-pub(crate) struct Span {
+pub(crate) struct Window {
     pub(crate) earliest: u32,
     pub(crate) latest: u32,
 }
@@ -35,6 +35,6 @@ pub(crate) struct Span {
 pub(crate) struct Policy {
     pub(crate) cutoff: Option<u8>,
     pub(crate) deadline: u32,
-    pub(crate) span: Span,
+    pub(crate) window: Window,
     pub(crate) moment: u32,
 }

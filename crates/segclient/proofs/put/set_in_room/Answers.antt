@@ -51,7 +51,7 @@ set_while_busy-requires c =
     let order = c.args.order in
     record {
       quiet = room.ensures.on.quiet;
-      timely = not_outside order.policy.span order.policy.deadline room.new.pass (room.ensures.room.until c.if-not-is_made.false) c.requires.timely;
+      timely = not_outside order.policy.window order.policy.deadline room.new.pass (room.ensures.room.until c.if-not-is_made.false) c.requires.timely;
     }
 
 pub returns-clause-on : goal.returns-clause-on

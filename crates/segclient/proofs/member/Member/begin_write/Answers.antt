@@ -21,7 +21,7 @@ returns-clause-begins c =
     let chosen = c.choose.new.pass in
     let from = chosen_on b old.pass chosen c.requires.member.0 c.choose.ensures.chooses in
     record {
-      chooses = subst (λ span. ChoosesFor span b old.pass chosen) c.span_for-span.ensures c.choose.ensures;
-      timely = subst (λ span. not c.is_outside.result ≡ not (is_outside span chosen)) c.span_for-span.ensures (ap not c.is_outside.ensures);
+      chooses = subst (λ window. ChoosesFor window b old.pass chosen) c.window_for-window.ensures c.choose.ensures;
+      timely = subst (λ window. not c.is_outside.result ≡ not (is_outside window chosen)) c.window_for-window.ensures (ap not c.is_outside.ensures);
       counts = record { stats = refl; draws = refl; keeps = record { settings = record { number = from.on.same; clock = refl; time_to_live = refl; cutoff = refl; queues = refl }; segments = refl } };
     }

@@ -42,20 +42,20 @@ returns-clause-puts c =
     let after = c.clear_after-cleared in
     let request = Set c.args.key.now c.args.value.now old.clock in
     let rows = rows_of request in
-    let plan : Plan = record { request = Some request; cutoff = old.cutoff; deadline = policy.deadline; span = policy.span } in
+    let plan : Plan = record { request = Some request; cutoff = old.cutoff; deadline = policy.deadline; window = policy.window } in
     let whole : PutsWhole b plan (most_calls b.shape) told effort chosen q =
     subst (λ cutoff. PutsWhole b (record {
       request = Some (Set c.args.key.now c.args.value.now old.clock);
       cutoff = cutoff;
       deadline = policy.deadline;
-      span = policy.span;
+      window = policy.window;
     }) (most_calls b.shape) told effort chosen
     q) is.cutoff
     (subst (λ moment. PutsWhole b (record {
       request = Some (Set c.args.key.now c.args.value.now moment);
       cutoff = policy.cutoff;
       deadline = policy.deadline;
-      span = policy.span;
+      window = policy.window;
     }) (most_calls b.shape) told effort
     chosen q) is.moment put.ensures.puts) in
     let cleared = after.ensures.clears in
@@ -63,7 +63,7 @@ returns-clause-puts c =
     let clears = subst (λ cutoff. Clears b cutoff some.steps q after.new.pass) is.cutoff some.clears in
     record {
       until = policy.deadline;
-      span = policy.span;
+      window = policy.window;
       life = is.life;
       deadline = is.deadline;
       calls = whole.calls;
@@ -76,9 +76,9 @@ returns-clause-puts c =
       not_stored = whole.not_stored;
       tries = whole.tries;
       spares = λ deadline stores within left.
-          let inside = not_outside policy.span deadline old.pass stores within in
+          let inside = not_outside policy.window deadline old.pass stores within in
           let same = c.choose.ensures.stays inside (room_for_one b.shape rows old.pass (asked_some (Some request)) left) in
-          whole.spares (subst (λ r. is_outside policy.span r ≡ false) (sym same) inside) (subst (λ r. has_room_for b.shape rows r ≡ true) (sym same) left);
+          whole.spares (subst (λ r. is_outside policy.window r ≡ false) (sym same) inside) (subst (λ r. has_room_for b.shape rows r ≡ true) (sym same) left);
       steps = some.steps;
       clears = clears;
       few_steps = some.few;
