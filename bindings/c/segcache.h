@@ -59,6 +59,9 @@
 #endif
 
 #ifdef __cplusplus
+#pragma GCC diagnostic push /* what is right in C, and is written so for C++, too */
+#pragma GCC diagnostic ignored "-Wold-style-cast"
+#pragma GCC diagnostic ignored "-Wzero-as-null-pointer-constant"
 extern "C" {
 #endif
 
@@ -268,6 +271,7 @@ static inline uint32_t segcache_may_open(uint32_t clients) {
 }
 
 /* How many caches were opened, by all files of the program. So each has a number of its own. */
+extern uint64_t segcache_opened;
 __attribute__((weak)) uint64_t segcache_opened;
 
 /* What an open hands to the user: handles at their places. */
@@ -770,5 +774,6 @@ static inline const char *segcache_text(uint32_t status) {
 
 #ifdef __cplusplus
 }
+#pragma GCC diagnostic pop
 #endif
 #endif

@@ -17,6 +17,9 @@ typedef struct segcache_debug_place {
   int busy;         /* whether it is in a call */
 } segcache_debug_place;
 
+extern segcache_debug_place segcache_debug_places[SEGCACHE_DEBUG_PLACES];
+extern char segcache_debug_locked;
+extern unsigned long segcache_debug_count;
 __attribute__((weak)) segcache_debug_place segcache_debug_places[SEGCACHE_DEBUG_PLACES];
 __attribute__((weak)) char segcache_debug_locked;
 __attribute__((weak)) unsigned long segcache_debug_count;
@@ -27,7 +30,7 @@ static inline void segcache_debug_lock(void) {
 
 static inline void segcache_debug_unlock(void) { __atomic_clear(&segcache_debug_locked, __ATOMIC_SEQ_CST); }
 
-static inline void segcache_debug_fail(const char *function, const char *what) {
+static inline __attribute__((noreturn)) void segcache_debug_fail(const char *function, const char *what) {
   fprintf(stderr, "%s: %s\n", function, what);
   abort();
 }

@@ -17,18 +17,26 @@ static char told[400];        /* what the last one was handed */
 static char story[40000];     /* what all of them were handed since this was emptied */
 static int checks, faults;
 
-static uint32_t tell(const char *format, ...) {
+/* Appends to the story, as far as it has room. */
+static void append(const char *format, ...) {
   size_t end = strlen(story);
+  va_list words;
+  va_start(words, format);
+  vsnprintf(story + end, sizeof story - end, format, words);
+  va_end(words);
+}
+
+static uint32_t tell(const char *format, ...) {
   va_list words;
   va_start(words, format);
   vsnprintf(told, sizeof told, format, words);
   va_end(words);
-  snprintf(story + end, sizeof story - end, "%s\n", told);
+  append("%s\n", told);
   return in_turn ? answer++ % 20 : answer;
 }
 
-/* Opening and closing fill handles, and so does a note. Each gets a byte of its own. */
-static char fillings[256];
+/* Opening and closing fill handles, and so does a note. Each gets a byte of its own, as no two live at one address. */
+static char fillings[1024];
 static size_t fillings_used;
 
 /* How many of these handles are empty, as all have to be that are to be filled. */
@@ -40,7 +48,7 @@ static size_t empty(const segcache_handle *handles, size_t count) {
 
 static uint32_t fill(segcache_handle *handles, size_t count) {
   for (size_t i = 0; answer == SEGCACHE_OK && i < count; i++) {
-    handles[i].at = &fillings[fillings_used++ % sizeof fillings];
+    handles[i].at = &fillings[fillings_used++];
     handles[i].full = 1;
   }
   return answer;
@@ -99,15 +107,15 @@ uint32_t segcache_raw_gets_many(H client, MANY) {
 /* The keys are told as texts, and those that aren't among the bytes as question marks. */
 uint32_t segcache_raw_look_ahead(H client, const uint8_t *keys, size_t keys_len, const segcache_key_place *places,
                                  size_t count) {
-  size_t end = strlen(story), known = 0;
-  end += (size_t)snprintf(story + end, sizeof story - end, "look_ahead %p %zu:", AT client, count);
+  size_t known = 0;
+  append("look_ahead %p %zu:", AT client, count);
   for (size_t i = 0; i < count; i++) {
     int is_among = places[i].key_at <= keys_len && places[i].key_len <= keys_len - places[i].key_at;
     const char *key = is_among ? (const char *)keys + places[i].key_at : "?";
-    end += (size_t)snprintf(story + end, sizeof story - end, " %.*s", is_among ? (int)places[i].key_len : 1, key);
+    append(" %.*s", is_among ? (int)places[i].key_len : 1, key);
     known += places[i].key_len;
   }
-  snprintf(story + end, sizeof story - end, "%s\n", known == keys_len ? "" : " and more");
+  append("%s\n", known == keys_len ? "" : " and more");
   return answer_ahead;
 }
 #define TELL_WRITE(name) tell(name " %p %p %zu %p %zu %u", AT client, AT key, key_len, AT value, value_len, now)
@@ -627,6 +635,8 @@ static void test_texts(void) {
     check(__LINE__, all[i].status, all[i].status, all[i].text);
   }
   segcache_lookup lookup;
+  snprintf(told, sizeof told, "%zu", sizeof(segcache_client));
+  check(__LINE__, 0, 0, "64"); /* as a cache line */
   snprintf(told, sizeof told, "%u %u %zu", SEGCACHE_MAX_KEY, SEGCACHE_MAX_VALUE, sizeof lookup.value);
 #ifdef SEGCACHE_WIDE
   check(__LINE__, SEGCACHE_SIZES, 250 << 16 | 4064, "250 4064 4064");
@@ -652,6 +662,7 @@ int main(void) {
   test_homes(&cache, &client, &other, &foreign);
   test_null_handles(&cache, &client);
   test_end(&cache, &client);
+  if (fillings_used > sizeof fillings) faults++, printf("%zu handles were filled\n", fillings_used);
   printf("%d checks, %d faults\n", checks, faults);
   return faults == 0 ? 0 : 1;
 }

@@ -4,6 +4,8 @@
 
 #ifdef SEGCACHE_DEBUG
 
+enum { NOW = 2 }; /* the stand-in aborts at an earlier moment */
+
 /* A cache with a client, a note and copies of them, and a cursor of another cache. */
 struct handles {
   segcache cache, cache_copy, closed;
@@ -14,7 +16,7 @@ struct handles {
 
 static void copied_client(struct handles *all) {
   segcache_give_back(&all->cache, &all->client);
-  segcache_delete(&all->client_copy, "k", 1, 0);
+  segcache_delete(&all->client_copy, "k", 1, NOW);
 }
 
 static void copied_cache(struct handles *all) {
@@ -35,7 +37,7 @@ static void copied_cursor(struct handles *all) {
 
 static void client_in_use(struct handles *all) {
   segcache_debug_enter(&all->client.raw, "another thread");
-  segcache_delete(&all->client, "k", 1, 0);
+  segcache_delete(&all->client, "k", 1, NOW);
 }
 
 static void note_in_use(struct handles *all) {
@@ -45,20 +47,20 @@ static void note_in_use(struct handles *all) {
 
 static void made_up(struct handles *all) {
   all->client.raw.at = all;
-  segcache_delete(&all->client, "k", 1, 0);
+  segcache_delete(&all->client, "k", 1, NOW);
 }
 
-static void null_key(struct handles *all) { segcache_delete(&all->client, NULL, 1, 0); }
+static void null_key(struct handles *all) { segcache_delete(&all->client, NULL, 1, NOW); }
 
 static void null_length(struct handles *all) {
   char value[32];
-  segcache_get(&all->client, "k", 1, 0, value, sizeof value, NULL);
+  segcache_get(&all->client, "k", 1, NOW, value, sizeof value, NULL);
 }
 
 static void value_over_key(struct handles *all) {
   char bytes[40] = "key";
   size_t length;
-  segcache_get(&all->client, bytes, 3, 0, bytes + 2, 32, &length);
+  segcache_get(&all->client, bytes, 3, NOW, bytes + 2, 32, &length);
 }
 
 static void length_in_value(struct handles *all) {

@@ -495,6 +495,7 @@ int main(int count, char **words) {
   test_bad_lengths(&clients[0]);
   test_many(&clients[0], &clients[1]);
   give_back(&cache, clients, 2);
+  test_debug();
   test_items(1000, 4); /* a small cache */
   test_items(20000, 4);
   test_items(OF_LIBRARY ? 60000 : 5000, 1); /* in two tables */

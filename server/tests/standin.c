@@ -22,6 +22,7 @@ enum {
   FIRST_MOMENT = 2,
   OPEN = 16,                /* segments of a client */
   NO_ROOM_AT_FIRST = 40001, /* with this time to live a client's first room can't be made */
+  NO_MEMORY_FOR = 40002,    /* a cache for so many keys can't be opened */
 };
 
 struct entry {
@@ -93,7 +94,8 @@ enum call { GETS, STORE, DELETE };
  *   busy-  each call is Busy              late-   is Busy twice, and then goes well
  *   slow-  a store is Busy if it's there  tight-  has no room until room was made twice
  *   held-  a delete is Busy               full-   has no room if it's there
- *   race-  a cas finds it changed         gone-   a delete doesn't find it */
+ *   race-  a cas finds it changed         gone-   a delete doesn't find it
+ *   packed- has a bucket without a free word */
 static uint32_t fault_of(struct client *client, enum call call, bool there, const uint8_t *key, size_t length) {
   const struct {
     const char *name;
@@ -105,12 +107,14 @@ static uint32_t fault_of(struct client *client, enum call call, bool there, cons
                 {"late-", client->late++ % 3 < 2, SEGCACHE_BUSY},
                 {"tight-", call == STORE && client->made % 3 < 2, SEGCACHE_NO_ROOM},
                 {"full-", call == STORE && there, SEGCACHE_NO_ROOM},
+                {"packed-", call == STORE, SEGCACHE_BUCKET_FULL},
                 {"gone-", call == DELETE, SEGCACHE_NOT_FOUND}};
   for (size_t i = 0; i < sizeof faults / sizeof *faults; i++) {
     size_t known = strlen(faults[i].name);
     if (length < known || memcmp(key, faults[i].name, known) != 0 || !faults[i].now) continue;
     if (faults[i].status == SEGCACHE_BUSY) client->counts.busy++;
     if (faults[i].status == SEGCACHE_NO_ROOM) client->counts.no_room++;
+    if (faults[i].status == SEGCACHE_BUCKET_FULL) client->counts.bucket_full++;
     return faults[i].status;
   }
   return SEGCACHE_OK;
@@ -122,6 +126,7 @@ uint32_t segcache_raw_sizes(void) { return SEGCACHE_SIZES; }
 uint32_t segcache_raw_open(uint32_t keys, uint32_t threads, segcache_handle *cache, segcache_handle *clients,
                            size_t clients_len) {
   if (threads == 0 || threads != clients_len) return SEGCACHE_BAD_SHAPE;
+  if (keys == NO_MEMORY_FOR) return SEGCACHE_OUT_OF_MEMORY;
   struct map *map = calloc(1, sizeof *map);
   if (map == NULL) return SEGCACHE_OUT_OF_MEMORY;
   pthread_mutex_init(&map->lock, NULL);
@@ -393,6 +398,26 @@ uint32_t segcache_raw_make_room(segcache_handle *handle, uint32_t now) {
   begin_segment(client, client->time_to_live, now);
   pthread_mutex_unlock(&client->map->lock);
   return SEGCACHE_OK;
+}
+
+/* A note says nothing: there is one order of all calls. */
+uint32_t segcache_raw_note(segcache_handle *client, segcache_handle *note) {
+  (void)client;
+  void *at = malloc(1);
+  if (at == NULL) return SEGCACHE_OUT_OF_MEMORY;
+  *note = (segcache_handle){at, 1};
+  return SEGCACHE_OK;
+}
+
+uint32_t segcache_raw_note_free(segcache_handle *note) {
+  free(note->at);
+  *note = (segcache_handle){0};
+  return SEGCACHE_OK;
+}
+
+uint32_t segcache_raw_learn(segcache_handle *client, segcache_handle *note) {
+  (void)client;
+  return segcache_raw_note_free(note);
 }
 
 uint32_t segcache_raw_give_back(segcache_handle *cache, segcache_handle *client) {
