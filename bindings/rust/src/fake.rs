@@ -21,6 +21,7 @@ pub(crate) const VERSION: Version = Version(77);
 thread_local! {
     static CALLS: RefCell<Vec<String>> = const { RefCell::new(Vec::new()) };
     static STATUS: Cell<u32> = const { Cell::new(0) };
+    static LOSES: Cell<bool> = const { Cell::new(false) };
     static LIBRARY: Cell<u32> = const { Cell::new(crate::VERSION_NUMBER) };
     static LIBRARY_SIZES: Cell<u32> = const { Cell::new(SIZES) };
 }
@@ -46,6 +47,11 @@ pub(crate) unsafe extern "C" fn segcache_raw_sizes() -> u32 {
 /// Sets what the calls of this thread return from now on.
 pub(crate) fn answer(status: u32) {
     STATUS.with(|it| it.set(status));
+}
+
+/// Whether a close that fails loses the cache from now on.
+pub(crate) fn lose(loses: bool) {
+    LOSES.with(|it| it.set(loses));
 }
 
 /// The calls of this thread since the last time.
@@ -358,7 +364,7 @@ pub(crate) unsafe extern "C" fn segcache_raw_index_stats(
 
 pub(crate) unsafe extern "C" fn segcache_raw_close(cache: *mut Handle, cursor: *mut Handle) -> u32 {
     fill(cursor, 1, 300);
-    if status() == 0 {
+    if status() == 0 || LOSES.with(Cell::get) {
         *cache = Handle::none();
     }
     tell("close".into())

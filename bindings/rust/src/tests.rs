@@ -1,6 +1,6 @@
 // SPDX-License-Identifier: MIT
 //! What each call hands to the library, and what it makes of each answer, over functions that are made up (`fake`).
-use crate::fake::{answer, be_of_sizes, be_of_version, calls, NO_HANDLE, SHORT_BUFFER, VALUE, VERSION};
+use crate::fake::{answer, be_of_sizes, be_of_version, calls, lose, NO_HANDLE, SHORT_BUFFER, VALUE, VERSION};
 use crate::{Builder, Cache, Cas, Client, Error, Shape, Version, MAX_KEY, MAX_VALUE};
 use std::num::NonZeroU8;
 
@@ -82,7 +82,11 @@ fn many_keys_are_read_by_one_call() {
 fn many_keys_are_read_one_by_one_behind_looks_ahead() {
     let (_cache, client) = at(8);
     for count in [0, 1, 15, 16, 17, 33] {
-        let length = |number: usize| if number % 10 == 3 { MAX_KEY + 1 } else { 1 + number };
+        let length = |number: usize| match number % 10 {
+            3 => MAX_KEY + 1,
+            4 => MAX_KEY,
+            _ => 1 + number,
+        };
         let keys: Vec<String> = (0..count).map(|number| "k".repeat(length(number))).collect();
         let mut wanted = [Vec::new(), Vec::new()];
         for (call, wanted) in ["get", "gets"].iter().zip(&mut wanted) {
@@ -164,6 +168,15 @@ fn what_is_found_is_returned() {
     assert_eq!(client.get_many(&["k"])[0], client.get("k"));
     assert_eq!(client.gets_many(&["k"])[0], versioned);
     assert_eq!(client.hold("k").unwrap().unwrap().value().as_slice(), VALUE);
+}
+
+#[test]
+fn a_value_is_its_bytes_and_no_more() {
+    let (_cache, client) = at(0);
+    let value = client.get("k").unwrap().unwrap();
+    assert!(value == *VALUE && value == b"value" && value[1..] == *b"alue" && value.as_ref() == VALUE);
+    assert!(value != b"valu" && value != b"values" && value != b"valve" && value != b"valve"[..]);
+    assert_eq!(format!("{value:?}"), "b\"value\"");
 }
 
 #[test]
@@ -332,6 +345,9 @@ fn a_close_lists_the_content_and_frees_the_list() {
     answer(16);
     let unclosed = cache.close().unwrap_err();
     assert_eq!(unclosed.error, Error::ClientOut);
+    assert_eq!(unclosed.to_string(), Error::ClientOut.to_string());
+    let source = std::error::Error::source(&unclosed).unwrap();
+    assert_eq!(source.to_string(), Error::ClientOut.to_string());
     answer(0);
     let mut content = unclosed.cache.unwrap().close().unwrap();
     calls();
@@ -345,6 +361,27 @@ fn a_close_lists_the_content_and_frees_the_list() {
     assert!(content.next().is_some() && !content.is_whole());
     drop(content);
     assert_eq!(calls(), ["next 300", "next 300", "next 300", "next 300", "cursor_free 300"]);
+}
+
+#[test]
+fn a_cache_whose_content_is_lost_is_not_returned() {
+    for loses in [false, true] {
+        let (cache, client) = at(0);
+        drop(client);
+        answer(12);
+        lose(loses);
+        let unclosed = cache.close().unwrap_err();
+        lose(false);
+        answer(0);
+        assert_eq!((unclosed.cache.is_none(), unclosed.error), (loses, Error::OutOfMemory));
+    }
+}
+
+#[test]
+fn the_last_client_learns_a_note_of_its_own() {
+    let (cache, client) = at(0);
+    drop(cache);
+    assert_eq!(client.learn(client.note().unwrap()), Ok(()));
 }
 
 #[test]
