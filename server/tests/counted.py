@@ -237,6 +237,23 @@ def threads_together(command):
             other.close()
 
 
+def sums(command):
+    """Only over the stand-in: what the library counts of each thread is summed, and what it counts of the table isn't."""
+    with running(command, "-t", "3") as port:
+        others = [connect(port) for _ in range(3)]
+        for i, other in enumerate(others):
+            say(other, f"add tight-{i} 0 0 1\r\nx\r\nset full-{i} 0 0 1\r\nx\r\n", "STORED\r\n" * 2)
+            say(other, f"incr full-{i} 1\r\nget busy-{i}\r\n", f"{NOT_A_NUMBER}END\r\n")
+            say(other, f"touch full-{i} 0\r\n", NO_MEMORY)
+        counts = {name: int(number) for name, number in stats_of(others[0]).items() if number.isdigit()}
+        check(counts["refilled_segments"] >= 9 and counts["kept_items"] == 2 * counts["refilled_segments"],
+              f"the rooms that three threads made: {counts}")
+        check(counts["busy_calls"] == 3 * 64 and counts["full_calls"] > 3 * 64 and counts["overflow_buckets"] == 7,
+              f"the calls of three threads, and one table: {counts}")
+        for other in others:
+            other.close()
+
+
 def busy_keys(command):
     """Only over the stand-in, which has keys with faults: what is busy isn't a miss, and what has no room is said."""
     with running(command, "-t", "1") as port, connect(port) as connection:
@@ -293,6 +310,10 @@ def full_keys(command):
               f"the table is counted: {counts}")
         say(connection, "set k 0 0 1\r\n1\r\n", "STORED\r\n")
         check(stats_of(connection, "items")["items:1:outofmemory"] == "9", "items count it too")
+        before = int(counts["full_calls"])
+        say(connection, "set packed-a 0 0 1\r\n1\r\nget packed-a\r\n", NO_MEMORY + "END\r\n")
+        after = int(stats_of(connection)["full_calls"])
+        check(after == before + 1, f"a full bucket is a call without room: {before}, {after}")
         say(connection, "add tight-a 0 0 1\r\n1\r\nincr k 1\r\n", "STORED\r\n2\r\n")
         again = int(stats_of(connection)["refilled_segments"])
         check(made < again <= made + 3, f"room is made as often as it's needed: {again - made}")

@@ -199,6 +199,30 @@ def unread(port):
         check(read(connection, len(wanted)) == wanted, "once they are read, all of them come, and none twice")
 
 
+def unread_gets(command):
+    """Replies that nobody reads have a bound in each turn, however many keys a get has and however many commands a turn
+    may serve, and the only worker serves the others. Then they come all. Without sanitizers, for their memory."""
+    with running(command, "-t", "1", "-R", "1000000") as port, connect(port) as other:
+        counts = stats_of(other)
+        data = "x" * int(counts["most_data_bytes"])
+        say(other, f"set u 0 0 {len(data)}\r\n{data}\r\n", "STORED\r\n")
+        value = f"VALUE u 0 {len(data)}\r\n{data}\r\n".encode()
+        before = memory_of(counts["pid"], "VmHWM")
+        count = min(200000, (8 << 20) // len(value))
+        for sent, wanted in ((b"get" + b" u" * count + b"\r\n", value * count + b"END\r\n"),
+                             (b"get u\r\n" * 2000, (value + b"END\r\n") * 2000)):
+            with socket.socket() as connection:
+                connection.setsockopt(socket.SOL_SOCKET, socket.SO_RCVBUF, 1 << 14)
+                connection.settimeout(talk.patience)
+                connection.connect(("127.0.0.1", port))
+                connection.sendall(sent)
+                time.sleep(0.3)
+                say(other, "get none\r\n", "END\r\n")
+                grown = memory_of(counts["pid"], "VmHWM") - before
+                check(grown < 5000, f"unread replies took {grown} KiB, of {len(wanted) >> 10}")
+                check(read(connection, len(wanted)) == wanted, "once they are read, all of them come")
+
+
 def idle(command):
     """A silent connection is closed, and one that isn't stays."""
     with running(command, "--idle_timeout", "4", "-t", "1") as port, connect(port) as silent, connect(port) as other:
@@ -207,6 +231,12 @@ def idle(command):
             say(other, "mn\r\n", "MN\r\n")
         check(silent.recv(1) == b"", "a silent connection is closed")
         check(stats_of(other)["idle_kicks"] == "1", "and counted")
+    with running(command, "--idle_timeout", "100", "-t", "1") as port, connect(port) as quiet, connect(port) as other:
+        for _ in range(2):
+            say(other, "debugtime 60\r\nmn\r\n", "OK\r\nMN\r\n")
+            say(quiet, "mn\r\n", "MN\r\n")  # silent for 60 of 100 seconds
+        say(other, "debugtime 60\r\nmn\r\ndebugtime 60\r\nmn\r\n", "OK\r\nMN\r\n" * 2)
+        check(quiet.recv(1) == b"", "who was silent for less than the time stays, and nobody else")
 
 
 def counters(port):

@@ -244,6 +244,12 @@ def ends(command):
             check(server.wait(timeout=60) == 0 and connection.recv(1) == b"", "SIGINT ends server and connections")
 
 
+def unopened(command):
+    """Only over the stand-in, which has no memory for so many keys: the server says so, and doesn't start."""
+    words = ["-l", "127.0.0.1", "-p", str(free_port()), "--keys", "40002"]
+    ends_with(command, words, 71, "the cache can't be opened: out of memory")
+
+
 def again(command):
     """A port that a server has just left is free for the next one."""
     port = free_port()

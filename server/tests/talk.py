@@ -7,6 +7,7 @@ import re
 import signal
 import socket
 import subprocess
+import threading
 import time
 from contextlib import contextmanager
 from pathlib import Path
@@ -15,13 +16,14 @@ faults = 0
 first = False  # the first fault ends the tests
 servers = []
 patience = 30  # seconds that a reply may take
+doing = threading.local()  # .test: the name of the test that this thread makes
 
 
 def check(right, what):
     global faults
     if not right:
         faults += 1
-        print(f"not so: {what}", flush=True)
+        print(f"not so, in {getattr(doing, 'test', 'a thread')}: {what}", flush=True)
         if first:
             leave()
 
