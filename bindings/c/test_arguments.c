@@ -558,6 +558,8 @@ static void test_pointers(segcache_client *client, segcache_cursor *cursor) {
   ABORTS(segcache_put(client, "k", 1, NULL, 1, 0));
   ABORTS(segcache_put_for(client, NULL, 1, "v", 1, 1, 0));
   ABORTS(segcache_put_for(client, "k", 1, NULL, 1, 1, 0));
+  ABORTS(segcache_fill(client, 1, NULL, 1, "v", 1, 0));
+  ABORTS(segcache_fill(client, 1, "k", 1, NULL, 1, 0));
   ABORTS(segcache_set(client, NULL, 1, "v", 1, 0));
   ABORTS(segcache_set(client, "k", 1, NULL, 1, 0));
   ABORTS(segcache_add(client, NULL, 1, "v", 1, 0));

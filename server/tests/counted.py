@@ -238,7 +238,7 @@ def threads_together(command):
 
 
 def sums(command):
-    """Only over the stand-in: what the library counts of each thread is summed, and what it counts of the table isn't."""
+    """Only over the stand-in: what the library counts of each thread is summed, and the count of the table isn't."""
     with running(command, "-t", "3") as port:
         others = [connect(port) for _ in range(3)]
         for i, other in enumerate(others):

@@ -244,6 +244,22 @@ def ends(command):
             check(server.wait(timeout=60) == 0 and connection.recv(1) == b"", "SIGINT ends server and connections")
 
 
+def defaults(command):
+    """Without options the server has what -h shows, and listens at one address."""
+    with start([*command, "-p", str(port := free_port())]) as server:
+        wait_for(port, server)
+        with socket.socket() as other:
+            check(other.connect_ex(("127.0.0.2", port)) != 0, "without -l only 127.0.0.1 is listened at")
+        settings = settings_of(port)
+        wanted = {"maxbytes": str(64 << 20), "num_threads": "4", "maxconns": "1024", "tcp_backlog": "1024",
+                  "reqs_per_event": "256", "idle_timeout": "0", "time_to_live": "0", "verbosity": "0",
+                  "flush_enabled": "yes", "cas_enabled": "yes", "shutdown_command": "no",
+                  "binding_protocol": "auto-negotiate", "inter": "127.0.0.1"}
+        check(wanted.items() <= settings.items(), f"the settings are {settings}, and not {wanted}")
+        server.send_signal(signal.SIGTERM)
+        check(server.wait(timeout=60) == 0, "it ends well")
+
+
 def unopened(command):
     """Only over the stand-in, which has no memory for so many keys: the server says so, and doesn't start."""
     words = ["-l", "127.0.0.1", "-p", str(free_port()), "--keys", "40002"]
