@@ -237,6 +237,22 @@ def threads_together(command):
             other.close()
 
 
+def spread(command):
+    """Connections go to the threads by turns, so that each thread works."""
+    with running(command, "-t", "3") as port:
+        others = [connect(port) for _ in range(3)]
+        tasks = list(Path(f"/proc/{stats_of(others[0])['pid']}/task").iterdir())
+        if not (tasks[0] / "schedstat").exists():
+            return print("left out: which threads work: Linux has no schedstat here")
+        before = [int((task / "schedstat").read_text().split()[0]) for task in tasks]
+        for other in others:
+            say(other, "get none\r\n" * 2000, "END\r\n" * 2000)
+            other.close()
+        took = [int((task / "schedstat").read_text().split()[0]) - was for task, was in zip(tasks, before)]
+        check(sum(it > 200000 for it in took) == 3, f"three threads work: {took} ns")
+    return None
+
+
 def sums(command):
     """Only over the stand-in: what the library counts of each thread is summed, and the count of the table isn't."""
     with running(command, "-t", "3") as port:

@@ -212,7 +212,7 @@ def user(command):
         return print("left out: -u: only root can give rights up")
     ends_with(command, ["-p", "-1", "-u", "nonesuch"], 71, "nonesuch: there is no such user")
     nobody = pwd.getpwnam("nobody")
-    with running(command, "--user", "nobody") as port, connect(port) as connection:
+    with running(["setpriv", "--groups", "4", *command], "--user", "nobody") as port, connect(port) as connection:
         status = Path(f"/proc/{stats_of(connection)['pid']}/status").read_text()
         wanted = ((f"Uid:{f'{chr(9)}{nobody.pw_uid}' * 4}\n"), f"Gid:{f'{chr(9)}{nobody.pw_gid}' * 4}\n")
         check(all(line in status for line in wanted) and re.search(r"^Groups:\s*$", status, re.M), f"-u: {status}")
