@@ -1,9 +1,9 @@
 //! What an answer means for the cache, as the checker takes it.
-use crate::call::{
-    Access, CasReply, Ended, Item, Operation, PutEnd, Read, Reads, Recycled, Refusal,
-};
-use crate::keys::{EACH, Place};
+use crate::keys::Place;
 use crate::values::number_of;
+use segcheck::{
+    Access, CasReply, EACH, Ended, Item, Operation, PutEnd, Read, Reads, Recycled, Refusal,
+};
 use segclient::PutAnswer;
 use segmodel::{
     Answer, Command, DeleteAnswer, EvictAnswer, GetAnswer, GetsAnswer, KeepAnswer, RefillAnswer,

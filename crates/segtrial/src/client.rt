@@ -7,13 +7,13 @@ ghost use Rattle.segindex.specs.Words.{shape_of};
 ghost use Rattle.segread.specs.Words.{IsHoldOf};
 
 use crate::answers::{Said, said_by_get_many, said_by_put};
-use crate::call::{Access, Item, Operation, Recycled, Refusal};
 use crate::current::{Current, Refill};
 use crate::draws::{ClientTurn, Keeping};
-use crate::keys::{BUCKETS, EACH, Place};
+use crate::keys::{BUCKETS, Place};
 use crate::log::Notes;
 use crate::session::{Asked, Desk, Session};
 use crate::values::number_of;
+use segcheck::{Access, EACH, Item, Operation, Recycled, Refusal};
 use segclient::{Client, Hold, HoldAnswer, PutAnswer, Stats, hold_stays};
 use segmodel::{Answer, Command, GetAnswer, Request, WriteAnswer};
 use segword::{Key, Value};

@@ -1,7 +1,8 @@
 //! What a pass does next, drawn at random so that the same seed makes the same draws.
-use crate::keys::{BUCKETS, EACH, Place};
+use crate::keys::{BUCKETS, Place};
 use rand_core::utils::NextWord;
 use rand_pcg::Lcg64Xsh32;
+use segcheck::EACH;
 use segmodel::{Command, Request};
 use segword::{Key, Shape, Value};
 

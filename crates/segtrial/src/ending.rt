@@ -1,7 +1,7 @@
 //! What an index lists at its end, as the checker takes it.
 use crate::keys::{BUCKETS, Place};
-use crate::state::KEYS;
 use crate::values::number_of;
+use segcheck::KEYS;
 use segword::{Key, Value};
 use std::alloc::{AllocError, Global};
 

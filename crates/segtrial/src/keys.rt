@@ -1,15 +1,12 @@
 //! Keys that are hard to distinguish: their tags are the same, and many of them share a bucket.
 use crate::answers::Said;
-use crate::call::{Access, Operation, Refusal};
+use segcheck::{Access, EACH, Operation, Refusal};
 use segword::{Key, bucket_of, hash, tag_of};
 use std::alloc::{AllocError, Global};
 use std::ops::Range;
 
 /// How many buckets there are.
 pub const BUCKETS: u32 = 4;
-
-/// How many keys each bucket has. They need more words than one bucket has.
-pub const EACH: usize = 9;
 
 /// The tag of all keys.
 const TAG: u16 = 1;
@@ -64,7 +61,7 @@ impl Place {
     }
 }
 
-/// The keys of bucket 0, then those of bucket 1, and so on: `EACH` of each.
+/// The keys of bucket 0, then those of bucket 1, and so on: `EACH` of each. They need more words than one bucket has.
 pub fn colliding_keys(alloc: Global) -> Result<Vec<Key>, AllocError> {
     let mut keys = Vec::new(alloc);
     for bucket in 0..BUCKETS {

@@ -1,6 +1,6 @@
 //! What a pass notes: each call with its answer and its stamps.
 use crate::answers::Said;
-use crate::call::{Call, Operation};
+use segcheck::{Call, Operation};
 use std::alloc::Global;
 use std::sync::atomic::{AtomicU64, Ordering};
 

@@ -1,42 +1,27 @@
 //! Lets passes make calls at random, each on a thread of its own, and looks for an order that explains
-//! the answers. The checker (`replay`) has a small model of its own, and uses no definition of the proofs.
+//! the answers. The checker is `segcheck`, which knows nothing of the index.
 #![tactic(auto)]
 
-mod alterations;
 mod answers;
 mod arguments;
-mod bucket;
-mod call;
 mod caller;
 mod client;
 mod current;
 mod draws;
 mod ending;
-mod histories;
-mod history_alterations;
-mod history_ending;
-mod history_holding;
-mod history_moving;
-mod history_putting;
-mod history_refusing;
 mod keys;
 mod log;
 mod pass;
-mod replay;
 mod round;
-mod rows;
 mod session;
 mod start;
-mod state;
 mod strength;
-mod sums;
 mod values;
-mod watch;
 
 use arguments::{Options, read_options};
 use clap::error::{Error, ErrorKind};
-use replay::Fault;
 use round::{Counts, Failure, RoundFault, run_rounds};
+use segcheck::Fault;
 use std::process::ExitCode;
 use std::{env, io};
 

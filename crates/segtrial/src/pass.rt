@@ -6,11 +6,11 @@ ghost use Rattle.segstore.specs.Words.{IsQuiet, IsQuiet-prop};
 ghost use Rattle.segread.specs.Words.{IsHoldOf};
 
 use crate::answers::{Said, said_by_evict, said_by_keep, said_by_refill};
-use crate::call::{Access, Operation, Recycled, Refusal};
 use crate::draws::Turn;
 use crate::log::Notes;
 use crate::session::{Desk, Session};
 use crate::values::number_of;
+use segcheck::{Access, Operation, Recycled, Refusal};
 use segindex::{Hold, HoldAnswer, Index, LockAnswer, Pass, hold_stays};
 use segmodel::{Answer, Command, EvictAnswer, KeepAnswer, RefillAnswer, WriteAnswer};
 use std::alloc::Global;

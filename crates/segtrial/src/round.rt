@@ -4,17 +4,17 @@ ghost use Rattle.segindex.specs.Words.{board_of};
 ghost use Rattle.segstore.specs.Words.{IsQuiet};
 
 use crate::arguments::Options;
-use crate::call::{Call, Operation, PutEnd, Refusal};
 use crate::caller::{Course, work_of_clients, work_of_passes};
 use crate::draws::Draws;
 use crate::ending::content_of;
-use crate::histories::judge_histories;
 use crate::keys::colliding_keys;
 use crate::log::Notes;
-use crate::replay::{Fault, Replay, Sizes, check};
 use crate::session::Desk;
 use crate::start::Start;
 use crate::strength::{Strength, strength_of};
+use segcheck::{
+    Call, Fault, HistoryFault, Operation, PutEnd, Refusal, Replay, Sizes, check, judge_histories,
+};
 use segindex::{Index, Pass};
 use segword::{Key, Shape, Value};
 use std::alloc::{AllocError, Global};
@@ -70,8 +70,8 @@ pub enum RoundFault {
     WrongContent,
     #[error("the checker accepts too many answers that were altered")]
     Accepted,
-    #[error("the checker misjudges a history that was written by hand: {0}")]
-    Misjudged(&'static str),
+    #[error("{0}")]
+    Misjudged(HistoryFault),
     #[error("out of memory")]
     OutOfMemory,
 }
@@ -85,6 +85,15 @@ impl From<AllocError> for RoundFault {
 impl From<Fault> for RoundFault {
     fn from(fault: Fault) -> RoundFault {
         RoundFault::History(fault)
+    }
+}
+
+impl From<HistoryFault> for RoundFault {
+    fn from(fault: HistoryFault) -> RoundFault {
+        match fault {
+            HistoryFault::OutOfMemory => RoundFault::OutOfMemory,
+            HistoryFault::Misjudged(_) => RoundFault::Misjudged(fault),
+        }
     }
 }
 
@@ -102,8 +111,10 @@ pub fn run_rounds<R: Threads + Sync>(
     options: &Options,
 ) -> Result<Counts, Failure> {
     if let Err(fault) = judge_histories(alloc) {
-        let seed = options.seed;
-        return Err(Failure { seed, fault });
+        return Err(Failure {
+            seed: options.seed,
+            fault: RoundFault::from(fault),
+        });
     }
     let mut counts = Counts::default();
     for round in 0..options.all_rounds() {

@@ -1,11 +1,11 @@
 //! What a pass draws and notes, whether it makes its calls by itself or by a client.
 use crate::answers::{Said, said_by, with_recycled};
-use crate::call::{Item, Operation, Recycled};
 use crate::draws::Draws;
 use crate::keys::{BUCKETS, Place};
 use crate::log::Log;
 use crate::start::Start;
 use crate::values::{number_of, value_of};
+use segcheck::{Item, Operation, Recycled};
 use segmodel::{Answer, Command, GetsAnswer};
 use segword::{Key, Value};
 use std::alloc::Global;

@@ -1,8 +1,6 @@
 //! How strong the checker is: of answers that are altered in a history, one at a time, how many it refuses.
-use crate::alterations::{KINDS, altered};
-use crate::call::{Call, Operation};
 use crate::draws::Draws;
-use crate::replay::{Fault, Sizes, check};
+use segcheck::{Call, Fault, KINDS, Operation, Sizes, altered, check};
 use std::alloc::Global;
 use std::mem;
 

@@ -1,6 +1,8 @@
 //! What a thread noted of each call that it made.
-use crate::keys::EACH;
 use crate::sums::bit;
+
+/// How many keys several gets read.
+pub const EACH: usize = 9;
 
 /// A value as it was stored: its number, the segment, and the deadline of the segment.
 #[derive(Clone, Copy, PartialEq, Eq)]
@@ -219,7 +221,7 @@ impl Access {
     }
 
     /// The item that the call stored, if it stored one.
-    pub(crate) fn stored(&self) -> Option<Item> {
+    pub fn stored(&self) -> Option<Item> {
         match self {
             Access::Set(item)
             | Access::Add(Some(item))
@@ -269,7 +271,7 @@ impl Operation {
     }
 
     /// What the operation recycled, if it is a client's call that recycles segments.
-    pub(crate) fn recycled(&self) -> Option<Recycled> {
+    pub fn recycled(&self) -> Option<Recycled> {
         match self {
             Operation::Put { recycled, .. }
             | Operation::ClearingStore { recycled, .. }

@@ -1,9 +1,10 @@
 //! Items that move from a segment into another: a legal history, and what can and can't stand there
 //! in its place.
 use crate::call::{Access, Ended, Operation};
-use crate::histories::{Line, Row, SIZES, evict, item, judge, on_key, on_key_of, refill};
+use crate::histories::{
+    HistoryFault, Line, Row, SIZES, evict, item, judge, on_key, on_key_of, refill,
+};
 use crate::replay::Fault;
-use crate::round::RoundFault;
 use std::alloc::Global;
 
 // A call on the key of bucket 1.
@@ -180,7 +181,7 @@ const ALTERED: [Row; 12] = [
 ];
 
 /// Judges these histories.
-pub fn judge_all(alloc: Global) -> Result<(), RoundFault> {
+pub fn judge_all(alloc: Global) -> Result<(), HistoryFault> {
     judge(alloc, SIZES, [&OWNER, &READER], &LEGAL)?;
     judge(alloc, SIZES, [&OWNER, &READER], &ALTERED)
 }

@@ -1,13 +1,13 @@
-//! Histories of two threads over two buckets, written by hand. The program judges them first, as its tests:
-//! tests apart would have the whole crate proved once more.
+//! Histories of two threads over two buckets, written by hand. They are judged by a call, and not by tests:
+//! a crate with tests is proved twice.
 use crate::call::{Call, Operation};
 use crate::replay::{Fault, Replay, Sizes, check};
-use crate::round::RoundFault;
 use crate::{
     history_alterations, history_ending, history_holding, history_moving, history_putting,
     history_refusing,
 };
 use std::alloc::{AllocError, Global};
+use thiserror::Error;
 
 /// The version with which the buckets of the histories begin.
 pub const FIRST_VERSION: u32 = 7;
@@ -22,6 +22,15 @@ pub const SIZES: Sizes = Sizes {
 
 /// A deadline after the moments of all calls of the histories, unless a call comes right at it.
 pub const DEADLINE: u32 = 100;
+
+/// Why not every history was judged as it has to be.
+#[derive(Clone, Copy, Debug, Error)]
+pub enum HistoryFault {
+    #[error("the checker misjudges a history that was written by hand: {0}")]
+    Misjudged(&'static str),
+    #[error("out of memory")]
+    OutOfMemory,
+}
 
 /// The stamps of a call and of its return, and the call.
 pub type Line = (u64, u64, Operation);
@@ -95,7 +104,7 @@ pub(crate) use on_key_of;
 pub(crate) use refill;
 
 /// Judges all histories.
-pub fn judge_histories(alloc: Global) -> Result<(), RoundFault> {
+pub fn judge_histories(alloc: Global) -> Result<(), HistoryFault> {
     history_alterations::judge_all(alloc)?;
     history_holding::judge_all(alloc)?;
     history_moving::judge_all(alloc)?;
@@ -110,12 +119,12 @@ pub fn judge(
     sizes: Sizes,
     lines: [&[Line]; 2],
     rows: &[Row],
-) -> Result<(), RoundFault> {
+) -> Result<(), HistoryFault> {
     for (name, wanted, changes) in rows {
         match verdict(alloc, sizes, lines, changes) {
-            Err(Fault::OutOfMemory) => return Err(RoundFault::OutOfMemory),
+            Err(Fault::OutOfMemory) => return Err(HistoryFault::OutOfMemory),
             verdict if verdict == *wanted => {}
-            _ => return Err(RoundFault::Misjudged(*name)),
+            _ => return Err(HistoryFault::Misjudged(*name)),
         }
     }
     Ok(())

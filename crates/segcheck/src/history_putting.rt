@@ -1,9 +1,8 @@
 //! Puts and other stores of clients, which evict unseen: a legal history, and what can and can't
 //! stand there in its place.
 use crate::call::{Access, Operation, PutEnd, Read, Reads, Recycled, Refusal};
-use crate::histories::{FIRST_VERSION, Line, Row, item, judge, on_key, on_key_of};
+use crate::histories::{FIRST_VERSION, HistoryFault, Line, Row, item, judge, on_key, on_key_of};
 use crate::replay::{Fault, Sizes};
-use crate::round::RoundFault;
 use std::alloc::Global;
 
 // What is left of the segments isn't followed.
@@ -259,7 +258,7 @@ const ALTERED: [Row; 14] = [
 ];
 
 /// Judges these histories.
-pub fn judge_all(alloc: Global) -> Result<(), RoundFault> {
+pub fn judge_all(alloc: Global) -> Result<(), HistoryFault> {
     judge(alloc, SIZES, [&PUTTER, &OTHER], &LEGAL)?;
     judge(alloc, SIZES, [&PUTTER, &OTHER], &ALTERED)
 }

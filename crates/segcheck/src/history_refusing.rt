@@ -1,8 +1,9 @@
 //! Refused calls: what gives each a reason, and the same calls where nothing does.
 use crate::call::{Access, Operation, Refusal};
-use crate::histories::{FIRST_VERSION, Line, Row, SIZES, evict, item, judge, on_key, refill};
+use crate::histories::{
+    FIRST_VERSION, HistoryFault, Line, Row, SIZES, evict, item, judge, on_key, refill,
+};
 use crate::replay::{Fault, Sizes};
-use crate::round::RoundFault;
 use std::alloc::Global;
 
 // Two rows in each segment, and no overflow buckets.
@@ -217,7 +218,7 @@ const RELEASER: [Line; 3] = [(2, 3, refill!(2)), (6, 7, HOLD), (10, 21, RELEASE)
 const LATE_RELEASE: [Row; 1] = [("a release that ends late", Ok(()), &[])];
 
 /// Judges these histories.
-pub fn judge_all(alloc: Global) -> Result<(), RoundFault> {
+pub fn judge_all(alloc: Global) -> Result<(), HistoryFault> {
     judge(alloc, SMALL, [&OWNER, &OTHER], &WITH_REASON)?;
     judge(alloc, SMALL, [&OWNER, &OTHER], &WITHOUT_REASON)?;
     judge(alloc, SIZES, [&REFUSED_STORE, &UNLOCKER], &LATE_UNLOCK)?;

@@ -1,9 +1,10 @@
 //! Locks, holds, deadlines and evictions over two buckets: a legal history, and what can and can't
 //! stand there in its place.
 use crate::call::{Access, Operation};
-use crate::histories::{DEADLINE, Line, Row, SIZES, evict, item, judge, on_key, on_key_of, refill};
+use crate::histories::{
+    DEADLINE, HistoryFault, Line, Row, SIZES, evict, item, judge, on_key, on_key_of, refill,
+};
 use crate::replay::Fault;
-use crate::round::RoundFault;
 use crate::state::KEYS;
 use std::alloc::Global;
 
@@ -259,7 +260,7 @@ const TOGETHER: [Row; 1] = [("one stamp for two", Err(Fault::BadCall), &[])];
 const SHARED: [Row; 1] = [("the stamp of another thread", Err(Fault::BadCall), &[])];
 
 /// Judges these histories.
-pub fn judge_all(alloc: Global) -> Result<(), RoundFault> {
+pub fn judge_all(alloc: Global) -> Result<(), HistoryFault> {
     judge(alloc, SIZES, [&OWNER, &HOLDER], &LEGAL)?;
     judge(alloc, SIZES, [&OWNER, &HOLDER], &ALTERED)?;
     judge(alloc, SIZES, [&ONE, &OTHER], &NO_CALLS)?;

@@ -1,10 +1,9 @@
 //! Chains that grow or can't, and what stands at the end.
 use crate::call::{Access, Operation, Refusal};
 use crate::histories::{
-    Change, FIRST_VERSION, Line, Row, SIZES, item, judge, on_key, refill, replayed,
+    Change, FIRST_VERSION, HistoryFault, Line, Row, SIZES, item, judge, on_key, refill, replayed,
 };
 use crate::replay::{Fault, Sizes};
-use crate::round::RoundFault;
 use crate::state::KEYS;
 use std::alloc::Global;
 
@@ -137,22 +136,24 @@ fn content_of(values: &[u32]) -> [Option<u32>; KEYS] {
 }
 
 // Whether the calls have an order, and these values can stand in bucket 0 at the end.
-fn can_end_with(alloc: Global, changes: &[Change], values: &[u32]) -> Result<bool, RoundFault> {
+fn can_end_with(alloc: Global, changes: &[Change], values: &[u32]) -> Result<bool, Fault> {
     let replay = replayed(alloc, SIZES, [&FILLER, &OTHER], changes)?;
     Ok(replay.can_end_with(&[content_of(values), [None; KEYS]]))
 }
 
-fn judge_ends(alloc: Global) -> Result<(), RoundFault> {
+fn judge_ends(alloc: Global) -> Result<(), HistoryFault> {
     for (name, changes, values, wanted) in ENDS.iter() {
-        if can_end_with(alloc, changes, values)? != *wanted {
-            return Err(RoundFault::Misjudged(*name));
+        match can_end_with(alloc, changes, values) {
+            Err(Fault::OutOfMemory) => return Err(HistoryFault::OutOfMemory),
+            Ok(can_end) if can_end == *wanted => {}
+            _ => return Err(HistoryFault::Misjudged(*name)),
         }
     }
     Ok(())
 }
 
 /// Judges these histories.
-pub fn judge_all(alloc: Global) -> Result<(), RoundFault> {
+pub fn judge_all(alloc: Global) -> Result<(), HistoryFault> {
     judge(alloc, SIZES, [&FILLER, &OTHER], &ONE_LEFT)?;
     judge(alloc, NO_OVERFLOW, [&FILLER, &OTHER], &NONE_LEFT)?;
     judge_ends(alloc)

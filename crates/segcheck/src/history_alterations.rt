@@ -1,8 +1,7 @@
 //! A legal history, and the same history with a call or two altered, which no cache allows.
 use crate::call::{Access, CasReply};
-use crate::histories::{Line, Row, SIZES, evict, item, judge, on_key, refill};
+use crate::histories::{HistoryFault, Line, Row, SIZES, evict, item, judge, on_key, refill};
 use crate::replay::Fault;
-use crate::round::RoundFault;
 use std::alloc::Global;
 
 // A cas of key 0 that expects version 10.
@@ -118,7 +117,7 @@ const ALTERED: [Row; 9] = [
 ];
 
 /// Judges these histories.
-pub fn judge_all(alloc: Global) -> Result<(), RoundFault> {
+pub fn judge_all(alloc: Global) -> Result<(), HistoryFault> {
     judge(alloc, SIZES, [&WRITER, &READER], &LEGAL)?;
     judge(alloc, SIZES, [&WRITER, &READER], &ALTERED)
 }
