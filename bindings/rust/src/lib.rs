@@ -101,7 +101,7 @@
 //! **What is proved**: the library's functions, under Rattle, where their caller keeps to what the header
 //! `segcache.h` lists. This crate is written by hand, and keeps to it by ownership and borrows: a client is
 //! moved and never copied, no two threads share it, and it is given back to its own cache. One thing is left to
-//! the program: a thread that calls has 64 KiB of stack, or 192 KiB with the feature `wide`, as each has that wasn't
+//! the program: a thread that calls has 64 KiB of stack, or 96 KiB with the feature `wide`, as each has that wasn't
 //! made by [`std::thread::Builder::stack_size`] with less.
 #![warn(missing_docs)]
 

@@ -403,7 +403,7 @@ fn a_whole_life() {
 }
 
 // As the crate's page says.
-const LEAST_STACK: usize = if cfg!(feature = "wide") { 192 * 1024 } else { 64 * 1024 };
+const LEAST_STACK: usize = if cfg!(feature = "wide") { 96 * 1024 } else { 64 * 1024 };
 
 #[test]
 fn a_thread_of_the_least_stack_can_make_each_call() {
