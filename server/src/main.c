@@ -75,19 +75,12 @@ static int catch_signals(void) {
 
 static bool open_store(struct server *server) {
   const struct options *options = &server->options;
-  static struct store_client clients[STORE_MOST_CLIENTS];
   struct store_plan plan = {options->keys > 0 ? 0 : options_bytes(options), options_keys(options), options->threads,
                             options->time_to_live, options->keep_from};
-  const char *why = store_open(&server->store, &plan, clients);
+  const char *why = store_open(&server->store, &plan);
   if (why != NULL) return fault("the cache can't be opened", why);
-  for (uint32_t i = 0; i < options->threads; i++) server->workers[i].client = clients[i];
+  for (uint32_t i = 0; i < options->threads; i++) server->workers[i].client = &server->store.clients[i];
   return true;
-}
-
-static bool close_store(struct server *server) {
-  static struct store_client clients[STORE_MOST_CLIENTS];
-  for (uint32_t i = 0; i < server->options.threads; i++) clients[i] = server->workers[i].client;
-  return store_close(&server->store, clients);
 }
 
 /* Serves until a signal comes. */
@@ -116,5 +109,5 @@ int main(int count, char **words) {
         (signals = catch_signals()) >= 0 && listen_tell_ports(&server) && run(&server, signals);
   listen_close(&server);
   if (server.options.pid_file != NULL) unlink(server.options.pid_file);
-  return close_store(&server) && ran ? 0 : 1;
+  return store_close(&server.store) && ran ? 0 : 1;
 }

@@ -22,8 +22,8 @@ struct connection;
 
 struct worker {
   struct server *server;
-  pthread_mutex_t lock; /* of the client and the counts. The worker has it in each round of events */
-  struct store_client client;
+  pthread_mutex_t lock; /* of the counts. The worker has it in each round of events */
+  struct store_client *client;
   struct counts counts;
   uint64_t evicted_before; /* what the client had evicted at the last reset of the counts */
   pthread_t thread;
@@ -61,7 +61,7 @@ void worker_hand_over(struct worker *worker, int socket);
 
 /* Whose calls a worker makes now. */
 static inline struct caller caller_of(struct worker *worker) {
-  return (struct caller){&worker->client, &worker->server->uniques, worker->now};
+  return (struct caller){worker->client, &worker->server->uniques, worker->now};
 }
 
 /* Takes the counts of all workers together, or sets them back. The worker that calls has its lock, and gives it away

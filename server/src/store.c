@@ -1,5 +1,6 @@
 // SPDX-License-Identifier: MIT
 #include "store.h"
+#include <stdlib.h>
 #include <time.h>
 
 enum {
@@ -25,7 +26,7 @@ static bool was_busy(uint32_t status, int *tries) {
   return true;
 }
 
-/* The same, since there was no room for it, which is made now. */
+/* The same, since there was no room for it, which is made now. The client's lock is held. */
 static bool made_room(struct store_client *client, uint32_t status, int *tries, uint32_t now) {
   return status == SEGCACHE_NO_ROOM && ++*tries < TRIES && segcache_make_room(&client->client, now) == SEGCACHE_OK;
 }
@@ -61,24 +62,44 @@ static uint64_t budget_for(uint64_t bytes, uint32_t clients) {
   return least;
 }
 
-const char *store_open(struct store *store, const struct store_plan *plan, struct store_client *clients) {
+/* Makes a client of the library ready. */
+static void begin_client(const struct store *store, struct store_client *client, segcache_client opened) {
+  pthread_mutex_init(&client->lock, NULL);
+  client->client = opened;
+  client->store = store;
+  client->time_to_live = UINT32_MAX;
+  if (store->plan.keep_from != STORE_BY_QUEUES) segcache_keep_from(&client->client, store->plan.keep_from);
+}
+
+const char *store_open(struct store *store, const struct store_plan *plan) {
   segcache_client opened[STORE_MOST_CLIENTS];
   if (plan->clients < 1 || plan->clients > STORE_MOST_CLIENTS) return "a store has 1 to 64 clients";
+  *store = (struct store){.plan = *plan};
+  store->clients = aligned_alloc(_Alignof(struct store_client), plan->clients * sizeof *store->clients);
+  if (store->clients == NULL) return segcache_text(SEGCACHE_OUT_OF_MEMORY);
   uint64_t budget = budget_for(plan->bytes, plan->clients);
   uint32_t status = plan->bytes > 0 ? segcache_open_bytes(budget, plan->clients, &store->cache, opened)
                                     : segcache_open(plan->keys, plan->clients, &store->cache, opened);
-  if (status != SEGCACHE_OK) return segcache_text(status);
-  store->plan = *plan;
-  for (uint32_t i = 0; i < plan->clients; i++) {
-    clients[i] = (struct store_client){opened[i], *plan, UINT32_MAX};
-    if (plan->keep_from != STORE_BY_QUEUES) segcache_keep_from(&clients[i].client, plan->keep_from);
+  if (status != SEGCACHE_OK) {
+    free(store->clients);
+    return segcache_text(status);
   }
+  for (uint32_t i = 0; i < plan->clients; i++) begin_client(store, &store->clients[i], opened[i]);
   return NULL;
 }
 
-bool store_close(struct store *store, struct store_client *clients) {
-  for (uint32_t i = 0; i < store->plan.clients; i++) segcache_give_back(&store->cache, &clients[i].client);
+bool store_close(struct store *store) {
+  for (uint32_t i = 0; i < store->plan.clients; i++) segcache_give_back(&store->cache, &store->clients[i].client);
+  free(store->clients);
   return segcache_free(&store->cache) == SEGCACHE_OK;
+}
+
+/* The client that stores what this key has. */
+static struct store_client *writer_of(const struct store_client *client, struct word key) {
+  const struct store *store = client->store;
+  uint32_t hash = 2166136261u;
+  for (size_t i = 0; i < key.length; i++) hash = (hash ^ (uint8_t)key.at[i]) * 16777619u;
+  return &store->clients[(uint64_t)hash * store->plan.clients >> 32];
 }
 
 enum store_status store_read(struct store_client *client, struct word key, uint32_t now, void *value, size_t *length,
@@ -86,10 +107,12 @@ enum store_status store_read(struct store_client *client, struct word key, uint3
   segcache_client *reader = &client->client;
   uint32_t status;
   int tries = 0;
-  do
+  do {
+    pthread_mutex_lock(&client->lock);
     status = version != NULL ? segcache_gets(reader, key.at, key.length, now, value, STORE_MOST_VALUE, length, version)
                              : segcache_get(reader, key.at, key.length, now, value, STORE_MOST_VALUE, length);
-  while (was_busy(status, &tries));
+    pthread_mutex_unlock(&client->lock);
+  } while (was_busy(status, &tries));
   return status_of(status);
 }
 
@@ -100,7 +123,8 @@ static const uint32_t classes[] = {8, 60, 3600};
 /* The time to live by which a value is stored. The library drops an eighth of it at most, rounded down. So a class has
  * the shortest time of which its seconds are left: a value with a second of its own is there until then. */
 static uint32_t time_for(const struct store_client *client, uint32_t seconds) {
-  uint32_t most = client->plan.time_to_live > 0 ? client->plan.time_to_live : UINT32_MAX, time = UINT32_MAX;
+  uint32_t most = client->store->plan.time_to_live > 0 ? client->store->plan.time_to_live : UINT32_MAX;
+  uint32_t time = UINT32_MAX;
   for (size_t i = 0; i < sizeof classes / sizeof *classes && seconds > 0 && time == UINT32_MAX; i++)
     if (seconds <= classes[i]) time = classes[i] + (classes[i] - 1) / 7;
   return time < most ? time : most;
@@ -115,45 +139,64 @@ static void live_for(struct store_client *client, uint32_t time) {
 
 /* A put makes room for itself, in a segment whose deadline suits it. An add or a cas has no room without one. */
 enum store_status store_put(struct store_client *client, struct word key, struct store_value value, uint32_t now) {
+  struct store_client *writer = writer_of(client, key);
   uint32_t status, time = time_for(client, value.seconds);
   int tries = 0;
-  do status = segcache_put_for(&client->client, key.at, key.length, value.at, value.length, time, now);
-  while (was_busy(status, &tries));
+  do {
+    pthread_mutex_lock(&writer->lock);
+    status = segcache_put_for(&writer->client, key.at, key.length, value.at, value.length, time, now);
+    pthread_mutex_unlock(&writer->lock);
+  } while (was_busy(status, &tries));
+  return status_of(status);
+}
+
+/* An add, or with a version a cas. */
+static enum store_status write_if(struct store_client *client, struct word key, struct store_value value,
+                                  const uint32_t *version, uint32_t now) {
+  struct store_client *writer = writer_of(client, key);
+  segcache_client *by = &writer->client;
+  uint32_t status;
+  int tries = 0;
+  do {
+    pthread_mutex_lock(&writer->lock);
+    live_for(writer, time_for(writer, value.seconds));
+    do
+      status = version == NULL ? segcache_add(by, key.at, key.length, value.at, value.length, now)
+                               : segcache_cas(by, key.at, key.length, value.at, value.length, *version, now);
+    while (made_room(writer, status, &tries, now));
+    pthread_mutex_unlock(&writer->lock);
+  } while (was_busy(status, &tries));
   return status_of(status);
 }
 
 enum store_status store_add(struct store_client *client, struct word key, struct store_value value, uint32_t now) {
-  uint32_t status;
-  int tries = 0;
-  live_for(client, time_for(client, value.seconds));
-  do status = segcache_add(&client->client, key.at, key.length, value.at, value.length, now);
-  while (was_busy(status, &tries) || made_room(client, status, &tries, now));
-  return status_of(status);
+  return write_if(client, key, value, NULL, now);
 }
 
 enum store_status store_cas(struct store_client *client, struct word key, struct store_value value, uint32_t version,
                             uint32_t now) {
-  uint32_t status;
-  int tries = 0;
-  live_for(client, time_for(client, value.seconds));
-  do status = segcache_cas(&client->client, key.at, key.length, value.at, value.length, version, now);
-  while (was_busy(status, &tries) || made_room(client, status, &tries, now));
-  return status_of(status);
+  return write_if(client, key, value, &version, now);
 }
 
 enum store_status store_delete(struct store_client *client, struct word key, uint32_t now) {
+  struct store_client *writer = writer_of(client, key);
   uint32_t status;
   int tries = 0;
-  do status = segcache_delete(&client->client, key.at, key.length, now);
-  while (was_busy(status, &tries));
+  do {
+    pthread_mutex_lock(&writer->lock);
+    status = segcache_delete(&writer->client, key.at, key.length, now);
+    pthread_mutex_unlock(&writer->lock);
+  } while (was_busy(status, &tries));
   return status_of(status);
 }
 
 void store_count(struct store_client *client, struct store_counts *counts) {
   segcache_stats_t calls = {0};
   segcache_index_stats_t table = {0};
+  pthread_mutex_lock(&client->lock);
   segcache_stats(&client->client, &calls);
   segcache_index_stats(&client->client, &table);
+  pthread_mutex_unlock(&client->lock);
   *counts = (struct store_counts){.evicted = calls.keys_evicted,
                                   .kept = calls.items_kept,
                                   .segments = calls.segments_refilled,

@@ -1,12 +1,15 @@
 // SPDX-License-Identifier: MIT
 /* The cache library, as the server sees it. store.c is the only file that calls the library, but for the constants.
  *
- * A store has a client for each worker. Only one thread at a time may use a client. All moments are clock_now's. */
+ * A store has a client for each worker, which reads by it. What is stored under a key, and its delete, go through the
+ * client of the key's hash. So all of the memory is used whichever worker stores, and a client knows which of its rows
+ * are dead. A client has a lock, for each call of the library. All moments are clock_now's. */
 #ifndef STORE_H
 #define STORE_H
 
 #include "segcache.h"
 #include "words.h"
+#include <pthread.h>
 #include <stdbool.h>
 #include <stdint.h>
 
@@ -39,11 +42,13 @@ struct store_plan {
 struct store {
   segcache cache;
   struct store_plan plan;
+  struct store_client *clients; /* as many as the plan has */
 };
 
 struct store_client {
+  _Alignas(64) pthread_mutex_t lock; /* of the client, for one call */
   segcache_client client;
-  struct store_plan plan;
+  const struct store *store;
   uint32_t time_to_live; /* by which the library stores an add or a cas; at the start without end */
 };
 
@@ -63,10 +68,12 @@ struct store_counts {
 
 /* Opens a store and its clients, `plan->clients` of them. NULL, or why it can't. It takes all memory at once. While it
  * opens within a number of bytes, it takes as much again for a moment, and at most 32 MiB. */
-const char *store_open(struct store *store, const struct store_plan *plan, struct store_client *clients);
+const char *store_open(struct store *store, const struct store_plan *plan);
 
-/* Gives all memory back. False if the library says that it can't. */
-bool store_close(struct store *store, struct store_client *clients);
+/* Gives all memory back. False if the library says that it can't. No thread uses a client any longer. */
+bool store_close(struct store *store);
+
+/* These are called with the worker's own client. */
 
 /* Reads a value of STORE_MOST_VALUE bytes at most, and the version for store_cas unless that is NULL. OK, ABSENT or
  * BUSY. */
@@ -86,7 +93,7 @@ enum store_status store_cas(struct store_client *client, struct word key, struct
 /* Takes a key out. OK, ABSENT or BUSY. */
 enum store_status store_delete(struct store_client *client, struct word key, uint32_t now);
 
-/* Looks at all rows of the client. */
+/* Looks at all rows of the client's own. */
 void store_count(struct store_client *client, struct store_counts *counts);
 
 #endif

@@ -164,7 +164,7 @@ static void add_counts(struct totals *totals, struct worker *worker) {
   memcpy(counts, &worker->counts, sizeof counts);
   for (size_t i = 0; i < sizeof sums / sizeof *sums; i++) sums[i] += counts[i];
   memcpy(&totals->counts, sums, sizeof sums);
-  store_count(&worker->client, &store);
+  store_count(worker->client, &store);
   totals->store.evicted += store.evicted - worker->evicted_before;
   totals->store.kept += store.kept;
   totals->store.segments += store.segments;
@@ -195,7 +195,7 @@ void reset_all(struct worker *caller) {
   for (uint32_t i = 0; i < server->options.threads; i++) {
     struct worker *worker = &server->workers[i];
     pthread_mutex_lock(&worker->lock);
-    store_count(&worker->client, &store);
+    store_count(worker->client, &store);
     worker->evicted_before = store.evicted;
     worker->counts = (struct counts){0};
     pthread_mutex_unlock(&worker->lock);

@@ -20,7 +20,8 @@ static void begin(void) {
   const struct store_plan plan = {.keys = server.options.keys, .clients = 1, .keep_from = STORE_BY_QUEUES};
   if (worker.server != NULL) return;
   clock_begin();
-  if (store_open(&server.store, &plan, &worker.client) != NULL) abort();
+  if (store_open(&server.store, &plan) != NULL) abort();
+  worker.client = server.store.clients;
   worker.server = &server;
   server.workers = &worker;
   pthread_mutex_init(&worker.lock, NULL);
