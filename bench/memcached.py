@@ -36,16 +36,23 @@ def pieces_of(trace, usual):
     yield piece
 
 
-def through(connection, trace, warm, usual=16):
-    """The gets and hits behind the first commands. What was missed is set, before the next gets."""
+def through(connection, trace, warm, usual=16, lives=(0,), pace=None):
+    """The gets and hits behind the first commands. What was missed is set, before the next gets.
+
+    A key has one of the times to live, by its last byte. At a pace, so many commands are sent a second.
+    """
     gets = hits = place = 0
     sets = b""
+    start = time.monotonic()
     for piece in pieces_of(trace, usual):
+        if pace and (wait := start + place / pace - time.monotonic()) > 0.001:
+            time.sleep(wait)
         asked = [key for key, (is_get, _) in piece.items() if is_get]
         found = connection.found(asked, sets) if asked else {}
         stored = ((key, length) for key, (is_get, length) in piece.items() if not is_get or key not in found)
         sets = b"" if asked else sets
-        sets += b"".join(b"set %b 0 0 %d noreply\r\n%b\r\n" % (key, length, BYTES[:length]) for key, length in stored)
+        for key, length in stored:
+            sets += b"set %b 0 %d %d noreply\r\n%b\r\n" % (key, lives[key[-1] % len(lives)], length, BYTES[:length])
         if len(sets) >= 1 << 16:
             connection.socket.sendall(sets)
             sets = b""

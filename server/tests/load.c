@@ -2,14 +2,15 @@
 /* A load for a server of memcached's text protocol: threads, each over some connections. On each connection it
  * sends so many commands in one piece, and reads all replies before the next. It ends by itself.
  *
- *     load PORT THREADS CONNECTIONS DEPTH KEYS GETS(percent) SECONDS [RATE]
+ *     load PORT THREADS CONNECTIONS DEPTH KEYS GETS(percent) SECONDS MEAN RATE
  *
  * Keys are drawn by Zipf's law with the exponent 0.99; a get that misses is not put. First each key is set once.
+ * Values have 16 bytes if MEAN is 0. Else a key's value has a length of its own, by a log-normal law of that mean.
  * It prints one line of JSON: commands a second, hits, and how long a piece took, at the median and the 99th
  * percentile.
  *
- * With a rate it sends so many commands a second, one in a piece, each when its time has come, on a connection that
- * waits for no reply. A command took the time from then until its reply is there. Gets and sets are told apart. */
+ * With a rate above 0 it sends so many commands a second, one in a piece, each when its time has come, on a connection
+ * that waits for no reply. A command took the time from then until its reply is there. Gets and sets are told apart. */
 #include <arpa/inet.h>
 #include <math.h>
 #include <netinet/tcp.h>
@@ -22,11 +23,19 @@
 #include <time.h>
 #include <unistd.h>
 
-enum { MOST_THREADS = 64, MOST_CONNECTIONS = 256, MOST_DEPTH = 256, PIECES = 1 << 21 };
+enum {
+  MOST_THREADS = 64,
+  MOST_CONNECTIONS = 256,
+  MOST_DEPTH = 256,
+  PIECES = 1 << 21,
+  MOST_VALUE = 4000,
+  MOST_COMMAND = MOST_VALUE + 64,
+};
 
 static int port, threads, connections, depth, keys, gets;
 static double rate, until;
 static double *bounds; /* the share of draws up to each key */
+static int *lengths;   /* of each key's value */
 
 struct worker {
   pthread_t thread;
@@ -77,7 +86,21 @@ static int open_connection(void) {
 
 static size_t write_command(char *at, int key, bool is_get) {
   if (is_get) return (size_t)sprintf(at, "get key:%d\r\n", key);
-  return (size_t)sprintf(at, "set key:%d 0 0 16\r\nvalue:%010d\r\n", key, key);
+  size_t length = (size_t)sprintf(at, "set key:%d 0 0 %d\r\n", key, lengths[key]);
+  memset(at + length, 'v', (size_t)lengths[key]);
+  length += (size_t)lengths[key];
+  return length + (size_t)sprintf(at + length, "\r\n");
+}
+
+/* A length for each key, the same in each run. */
+static void draw_lengths(double mean) {
+  struct worker worker = {.seed = 1234567};
+  lengths = malloc((size_t)keys * sizeof *lengths);
+  for (int key = 0; key < keys; key++) {
+    double one = ((double)(draw(&worker) >> 11) + 1) * 0x1p-53, other = (double)(draw(&worker) >> 11) * 0x1p-53;
+    double normal = sqrt(-2 * log(one)) * cos(2 * M_PI * other), length = mean * exp(normal - 0.5);
+    lengths[key] = mean == 0 ? 16 : length < 1 ? 1 : length > MOST_VALUE ? MOST_VALUE : (int)length;
+  }
 }
 
 /* Reads the replies to so many commands: a line END, STORED or an error for each. Values begin with v. */
@@ -111,7 +134,7 @@ static void send_all(int socket, const char *at, size_t length) {
 
 static void *work(void *argument) {
   struct worker *worker = argument;
-  char piece[MOST_DEPTH * 64];
+  char *piece = malloc((size_t)depth * MOST_COMMAND);
   double starts[MOST_CONNECTIONS];
   while (now() < until) {
     for (int i = 0; i < connections; i++) {
@@ -130,6 +153,7 @@ static void *work(void *argument) {
     }
     worker->commands += (uint64_t)(connections * depth);
   }
+  free(piece);
   return NULL;
 }
 
@@ -153,7 +177,7 @@ static void note_time(struct worker *worker, const struct call *call) {
 
 /* Sends the command that is due on this connection. */
 static void send_due(struct worker *worker, int socket, struct call *call, double due) {
-  char piece[64];
+  char piece[MOST_COMMAND];
   bool is_get = draw(worker) % 100 < (uint64_t)gets;
   *call = (struct call){.is_waiting = true, .is_get = is_get, .due = due};
   worker->asked += is_get;
@@ -182,7 +206,7 @@ static void *work_at_rate(void *argument) {
 
 static void fill(void) {
   struct worker worker = {0};
-  char piece[64 * 100];
+  char *piece = malloc(100 * MOST_COMMAND);
   int socket = open_connection();
   for (int key = 0; key < keys;) {
     size_t length = 0;
@@ -191,6 +215,7 @@ static void fill(void) {
     send_all(socket, piece, length);
     read_replies(&worker, socket, count);
   }
+  free(piece);
   close(socket);
 }
 
@@ -211,18 +236,18 @@ static void print_times(const char *name, float *took, size_t count) {
 
 int main(int count, char **words) {
   static struct worker workers[MOST_THREADS];
-  if (count != 8 && count != 9)
-    return fprintf(stderr, "load PORT THREADS CONNECTIONS DEPTH KEYS GETS SECONDS [RATE]\n"), 2;
+  if (count != 10) return fprintf(stderr, "load PORT THREADS CONNECTIONS DEPTH KEYS GETS SECONDS MEAN RATE\n"), 2;
   port = atoi(words[1]), threads = atoi(words[2]), connections = atoi(words[3]), depth = atoi(words[4]);
   keys = atoi(words[5]), gets = atoi(words[6]);
   double seconds = atof(words[7]), sum = 0;
-  rate = count == 9 ? atof(words[8]) : 0;
+  rate = atof(words[9]);
   if (threads < 1 || threads > MOST_THREADS || connections < 1 || connections > MOST_CONNECTIONS || depth < 1 ||
       depth > MOST_DEPTH || keys < 1 || seconds > 120)
     return fprintf(stderr, "load: too many threads, connections or commands in a piece, or too long\n"), 2;
   bounds = malloc((size_t)keys * sizeof *bounds);
   for (int key = 0; key < keys; key++) bounds[key] = sum += pow(key + 1, -0.99);
   for (int key = 0; key < keys; key++) bounds[key] /= sum;
+  draw_lengths(atof(words[8]));
   fill();
   double start = now();
   until = start + seconds;
