@@ -336,11 +336,13 @@ static inline uint32_t segcache_open_for_writers(uint32_t keys, uint32_t threads
 
 /* The same for so many items, whose key and value have so many bytes together on the mean. All of them have room, and
    to spare, if the clients store about as many each. In the default build an item takes one row whatever the mean is,
-   and this is segcache_open. In the wide build the mean and 8 bytes are divided by 64 and rounded up: so many rows are
-   planned for each item, 64 at most. The cache has two rows for each planned one. It takes 134 bytes for each planned
-   row, 40 to 80 for each item, and up to 8 KB a thread. There is a table for every 200,000 planned rows. In a small
-   cache, of at most 65,536 / threads planned rows, all items have room whichever clients store them, as of
-   segcache_open. BAD_SHAPE comes also if more than 2^32 rows are planned. Answers as segcache_open. */
+   and this is segcache_open. In the wide build count a key of fewer than 24 bytes as 24 for the mean, and round each key
+   and each value up to a multiple of 8: items of 8 and 48 bytes have the mean 72. With the mean 56 some go, since two
+   rows are needed where one is planned. The mean and 8 bytes are divided by 64 and rounded up: so many rows are planned
+   for each item, 64 at most. The cache has two rows for each planned one. It takes 134 bytes for each planned row, 40 to
+   80 for each item, and up to 8 KB a thread. There is a table for every 200,000 planned rows. In a small cache, of at
+   most 65,536 / threads planned rows, all items have room whichever clients store them, as of segcache_open. BAD_SHAPE
+   comes also if more than 2^32 rows are planned. Answers as segcache_open. */
 static inline uint32_t segcache_open_items(uint32_t items, uint32_t mean_bytes, uint32_t threads, segcache *cache,
                                            segcache_client *clients) {
   segcache_handle made, raw[SEGCACHE_MAX_THREADS];

@@ -261,20 +261,21 @@ static void test_items(uint32_t items, uint32_t threads) {
   give_back(&cache, clients, threads);
 }
 
-/* The same for items of one length, from those of one row to the longest. The cache takes 134 bytes for each planned
- * row, 40 to 80 for each item, and some for the client. */
-static void test_items_of(uint32_t items, size_t length) {
-  enum { KEY = 24, CLIENT = 26000 };
+/* The same for items of one length, from those of one row to the longest. For the mean a short key counts as one of 24
+ * bytes. The cache takes 134 bytes for each planned row, 40 to 80 for each item, and some for the client. */
+static void test_items_of(uint32_t items, size_t key, size_t length) {
+  enum { LEAST_KEY = 24, CLIENT = 26000 };
   segcache cache;
   segcache_client client;
-  long planned = (long)((KEY + length + 8 + 63) / 64), before = bytes_out;
-  EXPECT(segcache_open_items(items, (uint32_t)(KEY + length), 1, &cache, &client), SEGCACHE_OK);
+  size_t mean = (key < LEAST_KEY ? LEAST_KEY : key) + length;
+  long planned = (long)((mean + 8 + 63) / 64), before = bytes_out;
+  EXPECT(segcache_open_items(items, (uint32_t)mean, 1, &cache, &client), SEGCACHE_OK);
   if (OF_LIBRARY) {
     CHECK(bytes_out - before >= (long)items * (134 * planned + 40));
     CHECK(bytes_out - before <= (long)items * (134 * planned + 80) + CLIENT);
   }
-  for (uint32_t number = 0; number < items; number++) EXPECT(put_sized(&client, number, KEY, length), SEGCACHE_OK);
-  for (uint32_t number = 0; number < items; number++) CHECK(is_sized(&client, number, KEY, length));
+  for (uint32_t number = 0; number < items; number++) EXPECT(put_sized(&client, number, key, length), SEGCACHE_OK);
+  for (uint32_t number = 0; number < items; number++) CHECK(is_sized(&client, number, key, length));
   CHECK(counts_of(&client, 1).keys_evicted == 0);
   give_back(&cache, &client, 1);
 }
@@ -499,10 +500,11 @@ int main(int count, char **words) {
   test_items(1000, 4); /* a small cache */
   test_items(20000, 4);
   test_items(OF_LIBRARY ? 60000 : 5000, 1); /* in two tables */
-  test_items_of(5000, 32);
-  test_items_of(5000, 97);
-  test_items_of(1000, 2000);
-  test_items_of(300, SEGCACHE_MAX_VALUE);
+  test_items_of(5000, 24, 32);
+  test_items_of(5000, 8, 48); /* which take two rows */
+  test_items_of(5000, 24, 97);
+  test_items_of(1000, 24, 2000);
+  test_items_of(300, 24, SEGCACHE_MAX_VALUE);
   test_budget(1 << 20, 1, 40);
   test_budget(4 << 20, 4, 40);
   test_budget(12 << 20, 2, 60);

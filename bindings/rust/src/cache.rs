@@ -92,8 +92,9 @@ impl Builder {
 
     /// How many items the cache is to have room for, and how many bytes key and value of an item have together on the
     /// mean, in place of the numbers of keys and writers. It is as [`Builder::keys`] where each item takes one row. With
-    /// the feature `wide` the mean and 8 bytes are divided by 64 and rounded up: so many rows are planned for each item.
-    /// The cache has two rows for each planned one. An item that has more rows than a segment of the cache is never
+    /// the feature `wide` count a key of fewer than 24 bytes as 24 for the mean, and round each key and each value up to
+    /// a multiple of 8: else some items can go. The mean and 8 bytes are divided by 64 and rounded up: so many rows are
+    /// planned for each item. The cache has two rows for each planned one. An item that has more rows than a segment of the cache is never
     /// stored, and a put of it is [`Error::NoRoom`]. With 4,352 planned rows for each thread every item can be stored.
     #[must_use]
     pub fn items(mut self, items: u32, mean_bytes: u32) -> Builder {
