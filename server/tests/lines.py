@@ -245,6 +245,7 @@ CONVERSATIONS = {
         ("ma new N0 J13 v t\r\n", "VA 2 t-1\r\n13\r\n"),
         ("ma new N0 J13 v t\r\n", "VA 2 t-1\r\n14\r\n"),
         ("ma new N95 T95 v t\r\n", "VA 2 t95\r\n15\r\n"),
+        ("ma timed N85 J7 v t\r\nma timed N65 v t\r\n", "VA 1 t85\r\n7\r\nVA 1 t85\r\n8\r\n"),
         ("ma new C5\r\nmd new C5 q k\r\n", "EX\r\nEX knew\r\n"),
         ("ma new T205 t\r\nma new N95\r\nmg new t v\r\n", "HD t205\r\nHD\r\nVA 2 t205\r\n17\r\n"),
         ("ma none q k\r\nmd none q k\r\n", "NF knone\r\n" * 2),
