@@ -210,7 +210,7 @@ def unread_gets(command):
         before = memory_of(counts["pid"], "VmHWM")
         count = min(200000, (8 << 20) // len(value))
         for sent, wanted in ((b"get" + b" u" * count + b"\r\n", value * count + b"END\r\n"),
-                             (b"get u\r\n" * 2000, (value + b"END\r\n") * 2000)):
+                             (b"mg u v\r\n" * 2000, f"VA {len(data)}\r\n{data}\r\n".encode() * 2000)):
             with socket.socket() as connection:
                 connection.setsockopt(socket.SOL_SOCKET, socket.SO_RCVBUF, 1 << 14)
                 connection.settimeout(talk.patience)
