@@ -249,7 +249,7 @@ def spread(command):
             say(other, "get none\r\n" * 2000, "END\r\n" * 2000)
             other.close()
         took = [int((task / "schedstat").read_text().split()[0]) - was for task, was in zip(tasks, before)]
-        check(sum(it > 200000 for it in took) == 3, f"three threads work: {took} ns")
+        check(sum(it > 200000 for it in took) >= 3, f"three threads work: {took} ns")
     return None
 
 

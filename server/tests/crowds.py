@@ -220,6 +220,7 @@ def unread_gets(command):
                 say(other, "get none\r\n", "END\r\n")
                 grown = memory_of(counts["pid"], "VmHWM") - before
                 check(grown < 5000, f"unread replies took {grown} KiB, of {len(wanted) >> 10}")
+                connection.setsockopt(socket.SOL_SOCKET, socket.SO_RCVBUF, 1 << 20)
                 check(read(connection, len(wanted)) == wanted, "once they are read, all of them come")
 
 
