@@ -1,11 +1,13 @@
 -- What is shown command by command: its word names it, and the words behind it tell one turn.
-use Rattle.std.proofs.Common.{◌≡◌, ℕ, ◌<◌, ◌≤◌, ◌^◌, List, [], ◌∷◌, length, refl, sym, ap, arith, rules, Some}
+use Rattle.std.proofs.Common.{◌≡◌, ◌+◌, ℕ, ◌<◌, ◌≤◌, ◌^◌, List, [], ◌∷◌, length, refl, sym, ap, arith, rules, Some}
 use Rattle.std.specs.Prelude.{decimal}
 use Rattle.std.proofs.lemmas.Fmt.{decimal_injective}
 use Rattle.segmodel.specs.declared.request.Request.TheVariants.{Set, Add, Replace, Cas, Delete}
 use Rattle.segmodel.specs.declared.answer.Command.TheVariants.{Write, Get, Gets, Evict, Keep, Refill}
 use Rattle.segmodel.specs.Words.{Turn}
 use Rattle.segmodel.specs.declared.answer.Turn.TheVariants.{Serve, Hold, Held, Release, Lock, Unlock}
+use Rattle.segword.specs.declared.key.TheConstants.{KEY_BYTES}
+use Rattle.segword.specs.declared.value.TheConstants.{VALUE_BYTES}
 use Rattle.segscript.specs.Spelling.{AreFour, AreNumbers, argument_parts, arguments_of, commands, four_words, IsCutoff, IsPair, IsTriple, IsTurnOf, IsValueWord, IsWritable}
 use Rattle.segscript.specs.Spelling.{moment_word, named_among, number_words, pair_words, triple_words, value_word, verb, verb_word}
 use Rattle.segscript.specs.declared.line.Verb.{Verb}
@@ -51,7 +53,7 @@ verb_words verbs.Lock = plain_word (verb_word verbs.Lock) (search rules)
 verb_words verbs.Unlock = plain_word (verb_word verbs.Unlock) (search rules)
 
 -- a command has few words behind its own, and all are short
-pub small : (v : Verb) → (length (verb_word v) ≤ 7) × (length (argument_parts v) ≤ 4) × (most_of (argument_parts v) ≤ 81)
+pub small : (v : Verb) → (length (verb_word v) ≤ 7) × (length (argument_parts v) ≤ 4) × (most_of (argument_parts v) ≤ KEY_BYTES + VALUE_BYTES + 25)
 small verbs.Refill = (omega arith, omega arith, omega arith)
 small verbs.Evict = (omega arith, omega arith, omega arith)
 small verbs.Keep = (omega arith, omega arith, omega arith)

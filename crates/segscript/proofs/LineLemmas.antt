@@ -12,6 +12,7 @@ use Rattle.segscript.specs.Run.{ServesWholeLines, StopsWriting, IsSeenBad}
 use Rattle.segscript.specs.Running.{HasServed, LineOutcome, FeedOutcome, FinishOutcome}
 use Rattle.segscript.specs.Words.{RunFault}
 use Rattle.segscript.specs.declared.fault.RunFault.TheVariants as fault
+use Rattle.segscript.specs.declared.limits.TheConstants.{LINE_BYTES}
 
 Say-append : (passes : ℕ) (xs ys : List (List ℕ)) (ts us : List PassTurn) → Say passes xs ts → Say passes ys us → Say passes (xs ++ ys) (ts ++ us)
 Say-append passes [] ys [] us first more = more
@@ -84,7 +85,7 @@ module _ (passes : ℕ) {S : Type 0} (step : S → PassTurn → Outcome → S �
   module _ (start state : S) where
     -- a byte of the line has come
     pub at_byte : (seen told line : List ℕ) (number b : ℕ) → HasServed passes step start state seen told line number
-        → b ≢ 10 → length line < 128 → HasServed passes step start state (seen ++ b ∷ []) told (line ++ b ∷ [])
+        → b ≢ 10 → length line < LINE_BYTES → HasServed passes step start state (seen ++ b ∷ []) told (line ++ b ∷ [])
         number
     at_byte seen told line number b here other room = record {
       lines = here.lines;
@@ -110,9 +111,9 @@ module _ (passes : ℕ) {S : Type 0} (step : S → PassTurn → Outcome → S �
     pub reached : (seen told line : List ℕ) (number : ℕ) → HasServed passes step start state seen told line number → ServesWholeLines passes step start state seen told
     reached seen told line number here = record { lines = here.lines; rest = line; splits = here.splits; short = here.short; served = here.served }
 
-    -- the byte is the 129th of its line
+    -- the byte is one more than a line can have
     pub too_long : (seen told line : List ℕ) (number b : ℕ)
-        → HasServed passes step start state seen told line number → b ≢ 10 → length line ≡ 128
+        → HasServed passes step start state seen told line number → b ≢ 10 → length line ≡ LINE_BYTES
         → IsSeenBad passes step start state ⊥ (seen ++ b ∷ []) (told ++ []) number
     too_long seen told line number b here other full = record {
       lines = here.lines;

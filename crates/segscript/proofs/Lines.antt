@@ -7,6 +7,8 @@ use Rattle.std.proofs.lemmas.Option.{same_Some}
 use Rattle.segscript.specs.Laws.{LinesFit}
 use Rattle.segscript.specs.Reading.{ReadsAs}
 use Rattle.segscript.specs.Spelling.{argument_parts, arguments_of, commands, IsNumber, IsSayable, IsValueWord, line_words, named_among, pass_word, PassTurn, spelling, turn_words, value_word, verb, verb_word}
+use Rattle.segword.specs.declared.key.TheConstants.{KEY_BYTES}
+use Rattle.segword.specs.declared.value.TheConstants.{VALUE_BYTES}
 use Rattle.segscript.specs.declared.line.Verb.{Verb}
 use Rattle.segscript.specs.declared.reason.Part.{Part}
 use Rattle.segscript.specs.declared.reason.Part.TheVariants as part
@@ -34,7 +36,7 @@ digits_short n is = length-decimal-le 10 n (omega arith) (let small : n < 10 ^ 1
 byte_short : (c n : ℕ) → IsNumber n → length (c ∷ decimal n) ≤ 11
 byte_short c n is = let digits = digits_short n is in omega arith
 
-value_short : (value : List ℕ) → IsValueWord value → length (value_word value) ≤ 32
+value_short : (value : List ℕ) → IsValueWord value → length (value_word value) ≤ VALUE_BYTES
 value_short [] is = omega arith
 value_short (byte ∷ bytes) is = is.0
 
@@ -43,7 +45,7 @@ says_short passes part.Pass w says = subst (λ x. length x ≤ 11) (sym says.2) 
 says_short passes part.Command w says = subst (λ x. length x ≤ 7) (sym says.1) (small says.0).0
 says_short passes part.Cutoff w says = subst (λ x. length x ≤ 10) (sym says.2) (digits_short says.0 (omega (arith, says.1)))
 says_short passes part.Key w says = says.1
-says_short passes part.Value w says = subst (λ x. length x ≤ 32) (sym says.2) (value_short says.0 says.1)
+says_short passes part.Value w says = subst (λ x. length x ≤ VALUE_BYTES) (sym says.2) (value_short says.0 says.1)
 says_short passes part.Moment w says = subst (λ x. length x ≤ 11) (sym says.2) (byte_short 64 says.0 says.1)
 says_short passes part.Segment w says = subst (λ x. length x ≤ 10) (sym says.2) (digits_short says.0 says.1)
 says_short passes part.Deadline w says = subst (λ x. length x ≤ 10) (sym says.2) (digits_short says.0 says.1)
@@ -114,7 +116,7 @@ few_words passes said may =
 pub lines_fit : LinesFit
 lines_fit passes said may =
     let short : length (spelling said) ≤ most_of (parts_of said) = line_short passes (parts_of said) (line_words said) (line_says passes said may) in
-    let few : most_of (argument_parts (verb said.1)) ≤ 81 = (small (verb said.1)).2 in
+    let few : most_of (argument_parts (verb said.1)) ≤ KEY_BYTES + VALUE_BYTES + 25 = (small (verb said.1)).2 in
     omega arith
 
 pub spaces-spelling : (passes : ℕ) (said : PassTurn) → IsSayable passes said → spaces (spelling said) ≡ line_words said

@@ -12,8 +12,9 @@ use Rattle.segscript.specs.declared.explain.BadLine.{BadLine}
 use Rattle.segscript.specs.declared.reason.LineFault.{LineFault}
 use Rattle.segscript.specs.declared.reason.LineFault.TheVariants as fault
 use Rattle.segscript.proofs.LineLemmas.{Splits-byte, Splits-end}
+use Rattle.segscript.specs.declared.limits.TheConstants.{KEPT_BYTES, LINE_BYTES}
 
--- ---- the first 129 bytes of a line have the fault of the line
+-- ---- the first KEPT_BYTES bytes of a line have the fault of the line
 
 -- the fault of a line that isn't too long
 abbrev short_fault : ℕ → List ℕ → Option LineFault
@@ -21,39 +22,39 @@ short_fault passes line =
     let words = slice_split (λ byte. byte == 32) line in
     if length line == 0 then None else (if nat_lt 7 (length words) then Some (fault.Extra 8) else words_fault passes 1 (line_parts words) words)
 
-long_fault : (passes : ℕ) (line : List ℕ) → 128 < length line → line_fault passes line ≡ Some fault.TooLong
-long_fault passes line long = ap (λ b. if b then Some fault.TooLong else short_fault passes line) (lt-ltb 128 (length line) long)
+long_fault : (passes : ℕ) (line : List ℕ) → LINE_BYTES < length line → line_fault passes line ≡ Some fault.TooLong
+long_fault passes line long = ap (λ b. if b then Some fault.TooLong else short_fault passes line) (lt-ltb LINE_BYTES (length line) long)
 
-same_fault : (passes : ℕ) (line : List ℕ) → line_fault passes (take 129 line) ≡ line_fault passes line
-same_fault passes line = by (cases_lt 129 (length line))
+same_fault : (passes : ℕ) (line : List ℕ) → line_fault passes (take KEPT_BYTES line) ≡ line_fault passes line
+same_fault passes line = by (cases_lt KEPT_BYTES (length line))
   where
-    by : (129 < length line) ⊎ (length line ≤ 129) → line_fault passes (take 129 line) ≡ line_fault passes line
+    by : (KEPT_BYTES < length line) ⊎ (length line ≤ KEPT_BYTES) → line_fault passes (take KEPT_BYTES line) ≡ line_fault passes line
     by (inl long) =
-        let short = length-take-le 129 line (omega (arith, long)) in
-        long_fault passes (take 129 line) (omega (arith, short)) ∙ sym (long_fault passes line (omega (arith, long)))
-    by (inr short) = ap (line_fault passes) (take_all 129 line short)
+        let short = length-take-le KEPT_BYTES line (omega (arith, long)) in
+        long_fault passes (take KEPT_BYTES line) (omega (arith, short)) ∙ sym (long_fault passes line (omega (arith, long)))
+    by (inr short) = ap (line_fault passes) (take_all KEPT_BYTES line short)
 
 -- with one byte more
-kept_byte : (line rest : List ℕ) (b : ℕ) → line ≡ take 129 rest → length line < 129 → line ++ b ∷ [] ≡ take 129 (rest ++ b ∷ [])
-kept_byte line rest b kept room = by (cases_lt 128 (length rest))
+kept_byte : (line rest : List ℕ) (b : ℕ) → line ≡ take KEPT_BYTES rest → length line < KEPT_BYTES → line ++ b ∷ [] ≡ take KEPT_BYTES (rest ++ b ∷ [])
+kept_byte line rest b kept room = by (cases_lt LINE_BYTES (length rest))
   where
-    by : (128 < length rest) ⊎ (length rest ≤ 128) → line ++ b ∷ [] ≡ take 129 (rest ++ b ∷ [])
+    by : (LINE_BYTES < length rest) ⊎ (length rest ≤ LINE_BYTES) → line ++ b ∷ [] ≡ take KEPT_BYTES (rest ++ b ∷ [])
     by (inl long) =
-        let whole = length-take-le 129 rest (omega (arith, long)) in
+        let whole = length-take-le KEPT_BYTES rest (omega (arith, long)) in
         let same = ap length kept in
         absurd (omega (arith, whole, same, room))
     by (inr short) =
         let longer = length-append rest (b ∷ []) in
-        ap (λ l. l ++ b ∷ []) (kept ∙ take_all 129 rest (omega (arith, short))) ∙ sym (take_all 129 (rest ++ b ∷ []) (omega (arith, short, longer)))
+        ap (λ l. l ++ b ∷ []) (kept ∙ take_all KEPT_BYTES rest (omega (arith, short))) ∙ sym (take_all KEPT_BYTES (rest ++ b ∷ []) (omega (arith, short, longer)))
 
-kept_full : (line rest : List ℕ) (b : ℕ) → line ≡ take 129 rest → length line ≡ 129 → line ≡ take 129 (rest ++ b ∷ [])
-kept_full line rest b kept full = by (cases_lt (length rest) 129)
+kept_full : (line rest : List ℕ) (b : ℕ) → line ≡ take KEPT_BYTES rest → length line ≡ KEPT_BYTES → line ≡ take KEPT_BYTES (rest ++ b ∷ [])
+kept_full line rest b kept full = by (cases_lt (length rest) KEPT_BYTES)
   where
-    by : (length rest < 129) ⊎ (129 ≤ length rest) → line ≡ take 129 (rest ++ b ∷ [])
+    by : (length rest < KEPT_BYTES) ⊎ (KEPT_BYTES ≤ length rest) → line ≡ take KEPT_BYTES (rest ++ b ∷ [])
     by (inl few) =
-        let same = ap length (kept ∙ take_all 129 rest (omega (arith, few))) in
+        let same = ap length (kept ∙ take_all KEPT_BYTES rest (omega (arith, few))) in
         absurd (omega (arith, same, few, full))
-    by (inr many) = kept ∙ sym (take-append-le 129 rest (b ∷ []) many)
+    by (inr many) = kept ∙ sym (take-append-le KEPT_BYTES rest (b ∷ []) many)
 
 -- ---- one byte more
 
@@ -69,7 +70,7 @@ byte_looked passes line line' number b seen other keeps on = record {
   number = on.number;
 }
   where
-    by : KeepsByte b line line' → line' ≡ take 129 (on.rest ++ b ∷ [])
+    by : KeepsByte b line line' → line' ≡ take KEPT_BYTES (on.rest ++ b ∷ [])
     by (inl put) = put.1 ∙ kept_byte line on.rest b on.kept put.0
     by (inr full) = full.1 ∙ kept_full line on.rest b on.kept full.0
 
@@ -79,7 +80,7 @@ fine_more : (passes : ℕ) (lines : List (List ℕ)) (line : List ℕ) → AreFi
 fine_more passes [] line all here = (here, tt)
 fine_more passes (x ∷ xs) line all here = (all.0, fine_more passes xs line all.1 here)
 
-rest_fault : (passes : ℕ) (line rest : List ℕ) → line ≡ take 129 rest → line_fault passes rest ≡ line_fault passes line
+rest_fault : (passes : ℕ) (line rest : List ℕ) → line ≡ take KEPT_BYTES rest → line_fault passes rest ≡ line_fault passes line
 rest_fault passes line rest kept = sym (ap (line_fault passes) kept ∙ same_fault passes rest)
 
 pub ended_fine : (passes : ℕ) (line : List ℕ) (number : ℕ) (seen : List ℕ) → line_fault passes line ≡ None

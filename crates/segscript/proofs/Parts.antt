@@ -1,6 +1,8 @@
 -- What words say, part by part: each is what its place in a line asks for.
 use Rattle.std.proofs.Common.{◌≡◌, ℕ, ◌+◌, List, [], ◌∷◌, refl}
 use Rattle.std.specs.Prelude.{decimal}
+use Rattle.segword.specs.declared.key.TheConstants.{KEY_BYTES}
+use Rattle.segword.specs.declared.value.TheConstants.{VALUE_BYTES}
 use Rattle.segscript.specs.Spelling.{IsFrequency, IsKeyWord, IsNumber, IsPass, IsValueWord, moment_word, pass_word, value_word, verb_word}
 use Rattle.segscript.specs.declared.line.Verb.{Verb}
 use Rattle.segscript.specs.declared.reason.Part.{Part}
@@ -23,8 +25,8 @@ abbrev pub most : Part → ℕ
 most part.Pass = 11
 most part.Command = 7
 most part.Cutoff = 10
-most part.Key = 24
-most part.Value = 32
+most part.Key = KEY_BYTES
+most part.Value = VALUE_BYTES
 most part.Moment = 11
 most part.Segment = 10
 most part.Deadline = 10

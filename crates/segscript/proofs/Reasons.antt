@@ -15,6 +15,7 @@ use Rattle.segscript.proofs.Lines.{few_words, line_says, lines_fit, ReadsAs-line
 use Rattle.segscript.proofs.Parts.{SaysAll}
 use Rattle.segscript.proofs.WordLemmas.{spaces}
 use Rattle.segscript.proofs.WordReasons.{at_none, named_verb, none_at, word_fits, word_read}
+use Rattle.segscript.specs.declared.limits.TheConstants.{LINE_BYTES}
 
 -- ---- lists of words
 
@@ -82,10 +83,10 @@ spelled_none passes said may =
     let few = few_words passes said may in
     let many : length (spaces line) ≤ 7 = rw words (omega arith) in
     let none : words_fault passes 1 (line_parts (spaces line)) (spaces line) ≡ None = rw words (words_fit passes 1 (line_parts (line_words said)) (line_words said) (line_fits passes said may)) in
-    none_of (nat_lt 128 (length line)) (length line == 0) (nat_lt 7 (length (spaces line))) _ (le-ltb _ _ (lines_fit passes said may)) (le-ltb _ _ many) none
+    none_of (nat_lt LINE_BYTES (length line)) (length line == 0) (nat_lt 7 (length (spaces line))) _ (le-ltb _ _ (lines_fit passes said may)) (le-ltb _ _ many) none
 
 pub is_bad : (passes : ℕ) (line : List ℕ) → IsSome (line_fault passes line) → IsBad passes line
-is_bad passes line some = elim (cases_lt 128 (length line)) [
+is_bad passes line some = elim (cases_lt LINE_BYTES (length line)) [
   | inl long ↦ inl long
   | inr short ↦ inr (
     nonempty (cases_lt 0 (length line)) short,
@@ -93,10 +94,10 @@ is_bad passes line some = elim (cases_lt 128 (length line)) [
   )
 ]
   where
-    nonempty : (0 < length line) ⊎ (length line ≤ 0) → length line ≤ 128 → 0 < length line
+    nonempty : (0 < length line) ⊎ (length line ≤ 0) → length line ≤ LINE_BYTES → 0 < length line
     nonempty (inl has) short = has
     nonempty (inr none) short = absurd (true≢false (sym some
-        ∙ ap is_some (empty_none (nat_lt 128 (length line)) (length line == 0) (nat_lt 7 (length (spaces line)))
+        ∙ ap is_some (empty_none (nat_lt LINE_BYTES (length line)) (length line == 0) (nat_lt 7 (length (spaces line)))
         (words_fault passes 1 (line_parts (spaces line)) (spaces line)) (le-ltb _ _ short)
         (eq-eqb (length line) 0 (omega arith)))))
 
@@ -111,8 +112,8 @@ has_fault passes line bad = by (line_fault passes line) refl
     by : (r : Option LineFault) → line_fault passes line ≡ r → is_some r ≡ true
     by (Some f) e = refl
     by None e =
-        let told = no_fault (nat_lt 128 (length line)) (length line == 0) (nat_lt 7 (length (spaces line))) (words_fault passes 1 (line_parts (spaces line)) (spaces line)) e in
-        let short = ltb-false 128 (length line) told.0 in
+        let told = no_fault (nat_lt LINE_BYTES (length line)) (length line == 0) (nat_lt 7 (length (spaces line))) (words_fault passes 1 (line_parts (spaces line)) (spaces line)) e in
+        let short = ltb-false LINE_BYTES (length line) told.0 in
         elim bad [
           | inl long ↦ absurd (omega arith)
           | inr other ↦ elim told.1 [

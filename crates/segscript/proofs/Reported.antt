@@ -13,6 +13,7 @@ use Rattle.segscript.specs.declared.explain.BadLine.{BadLine}
 use Rattle.segscript.proofs.LineLemmas.{IsLine-append, lines-append}
 use Rattle.segscript.proofs.OneBadLine.{cut, good_line, not_empty, one_line, says_rest, step}
 use Rattle.segscript.proofs.Reasons.{has_fault, is_bad}
+use Rattle.segscript.specs.declared.limits.TheConstants.{KEPT_BYTES}
 
 module _ (passes : ℕ) where
   abbrev NoneBad : List (List ℕ) → Type 0
@@ -79,8 +80,8 @@ module _ (passes : ℕ) where
     whole = ap (λ b. b ++ 10 ∷ []) whole ∙ simp append_assoc (ap (λ a. flat_map ended lines ++ (line ++ (a ++ 10 ∷ []))) is);
   }
 
-  -- a line that is cut after 129 bytes is bad, however it goes on
-  close_long : (seen : List ℕ) (lines : List (List ℕ)) (line after : List ℕ) → seen ≡ flat_map ended lines ++ (line ++ after) → IsLine line → length line ≡ 129 → Closed seen lines
+  -- a line that is cut after KEPT_BYTES bytes is bad, however it goes on
+  close_long : (seen : List ℕ) (lines : List (List ℕ)) (line after : List ℕ) → seen ≡ flat_map ended lines ++ (line ++ after) → IsLine line → length line ≡ KEPT_BYTES → Closed seen lines
   close_long seen lines line after whole unbroken long =
       let rest = cut after in
       let longer = length-append line rest.front in

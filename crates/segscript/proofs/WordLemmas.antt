@@ -124,6 +124,21 @@ pub none-fourth : (words : List (List ℕ)) (fourth : List ℕ) → get_or words
     → (t : List ℕ × List ℕ × ℕ × ℕ) → AreFour t → words ≡ four_words t → ⊥
 none-fourth words fourth is none t fits same = none t.3 fits.3 (sym is ∙ ap (λ l. get_or l 3 []) same)
 
+-- the third word of these is no number
+pub none-number : (words : List (List ℕ)) (third : List ℕ) → get_or words 2 [] ≡ third → ((n : ℕ) → IsNumber n → third ≡ decimal n → ⊥)
+    → (t : List ℕ × List ℕ × ℕ × ℕ) → AreFour t → words ≡ four_words t → ⊥
+none-number words third is none t fits same = none t.2 fits.2 (sym is ∙ ap (λ l. get_or l 2 []) same)
+
+-- four words, one by one
+pub four_are : (words : List (List ℕ)) {a b c d : List ℕ} → length words ≡ 4 → get_or words 0 [] ≡ a → get_or words 1 [] ≡ b → get_or words 2 [] ≡ c
+    → get_or words 3 [] ≡ d → words ≡ a ∷ b ∷ c ∷ d ∷ []
+four_are [] long first second third fourth = absurd (omega (arith, long))
+four_are (w ∷ []) long first second third fourth = absurd (omega (arith, long))
+four_are (w ∷ x ∷ []) long first second third fourth = absurd (omega (arith, long))
+four_are (w ∷ x ∷ y ∷ []) long first second third fourth = absurd (omega (arith, long))
+four_are (w ∷ x ∷ y ∷ z ∷ []) long first second third fourth = λ i. first i ∷ second i ∷ third i ∷ fourth i ∷ []
+four_are (w ∷ x ∷ y ∷ z ∷ v ∷ more) long first second third fourth = absurd (omega (arith, long))
+
 -- a pass number has one word
 pub none-pass : (passes pass : ℕ) (word : List ℕ) → IsNumber pass × (take (length word - 1) (drop 1 word) ≡ decimal pass) → passes ≤ pass → (a : ℕ) → IsPass passes a → word ≡ pass_word a → ⊥
 none-pass passes pass word read high a fits same =

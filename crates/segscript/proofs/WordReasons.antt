@@ -10,6 +10,8 @@ use Rattle.std.proofs.lemmas.Bool.Decides.{eqb_tells, not_from_Decides}
 use Rattle.std.proofs.lemmas.Slice.Eq.{bytes_eq-Decides}
 use Rattle.std.proofs.lemmas.Str.Parse.{IsNumeralModel, numerals_by_value, tells_all_ascii_digits}
 use Rattle.std.proofs.lemmas.Fmt.{decimal-digits_value, decimal_is_IsNumeral}
+use Rattle.segword.specs.declared.key.TheConstants.{KEY_BYTES}
+use Rattle.segword.specs.declared.value.TheConstants.{VALUE_BYTES}
 use Rattle.segscript.specs.Spelling.{commands, IsNumber, IsValueWord, IsVerb, IsWordByte, line_parts, moment_word, named_among, parts_behind, pass_word, value_word, verb_word}
 use Rattle.std.specs.Borrow.{Bor}
 use Rattle.std.proofs.lemmas.List.{drop_more}
@@ -226,7 +228,7 @@ pub word_more : (passes i : ℕ) (ps : List Part) (ws : List (Bor (List ℕ))) (
 word_more passes i ps ws p d r a b none is =
     is ∙ rw (drop_more ps i p a, drop_more ws i d b, none) refl
 
-value_read : (w : List ℕ) → 0 < length w → (length w ≤ 32) × AllByRecursion IsWordByte w → (v : List ℕ) × IsValueWord v × (w ≡ value_word v)
+value_read : (w : List ℕ) → 0 < length w → (length w ≤ VALUE_BYTES) × AllByRecursion IsWordByte w → (v : List ℕ) × IsValueWord v × (w ≡ value_word v)
 value_read [] some fits = absurd (omega arith)
 value_read (b ∷ bs) some fits = by (bytes_eq (b ∷ bs) (codes "-")) refl
   where
@@ -241,8 +243,8 @@ part_read passes part.Pass w some e =
     (read.0, (read.1, read.2), begins 112 w (omega arith) (eqb-true _ _ one.0) ∙ ap (λ ds. 112 ∷ ds) read.3)
 part_read passes part.Command w some e = named_word commands w e
 part_read passes part.Cutoff w some e = let read = below_read 256 why.LargeCutoff w e in (read.0, read.1, read.3)
-part_read passes part.Key w some e = let read = bytes_read 24 _ w e in (some, read.0, read.1)
-part_read passes part.Value w some e = value_read w some (bytes_read 32 _ w e)
+part_read passes part.Key w some e = let read = bytes_read KEY_BYTES _ w e in (some, read.0, read.1)
+part_read passes part.Value w some e = value_read w some (bytes_read VALUE_BYTES _ w e)
 part_read passes part.Moment w some e =
     let one = if_none _ _ _ e in
     let read = number_read (drop 1 w) one.1 in
@@ -273,7 +275,7 @@ command_fits passes v = by (verb_word v) (named_self v)
 
 value_fits : (passes : ℕ) (v : List ℕ) → IsValueWord v → word_fault passes part.Value (value_word v) ≡ None
 value_fits passes [] fits = refl
-value_fits passes (b ∷ bs) fits = whole passes part.Value (b ∷ bs) (b ∷ bs) refl (omega arith) (bytes_fit 32 _ (b ∷ bs) fits.0 fits.1)
+value_fits passes (b ∷ bs) fits = whole passes part.Value (b ∷ bs) (b ∷ bs) refl (omega arith) (bytes_fit VALUE_BYTES _ (b ∷ bs) fits.0 fits.1)
 
 pub word_fits : (passes : ℕ) (p : Part) (w : List ℕ) → Says passes p w → word_fault passes p w ≡ None
 word_fits passes part.Pass w says = whole passes part.Pass w (pass_word says.0) says.2 (omega arith) (below_fits passes why.NoPass says.0 says.1.0 says.1.1)
@@ -281,7 +283,7 @@ word_fits passes part.Command w says = rw says.1 (command_fits passes says.0)
 word_fits passes part.Cutoff w says =
     let small : says.0 < 2 ^ 32 = omega (arith, says.1) in
     whole passes part.Cutoff w (decimal says.0) says.2 (some_digits says.0 small) (below_fits 256 why.LargeCutoff says.0 says.1 small)
-word_fits passes part.Key w says = whole passes part.Key w w refl says.0 (bytes_fit 24 _ w says.1 says.2)
+word_fits passes part.Key w says = whole passes part.Key w w refl says.0 (bytes_fit KEY_BYTES _ w says.1 says.2)
 word_fits passes part.Value w says = rw says.2 (value_fits passes says.0 says.1)
 word_fits passes part.Moment w says = whole passes part.Moment w (moment_word says.0) says.2 (omega arith) (number_fits says.0 says.1)
 word_fits passes part.Segment w says = whole passes part.Segment w (decimal says.0) says.2 (some_digits says.0 says.1) (number_fits says.0 says.1)

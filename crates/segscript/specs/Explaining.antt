@@ -5,6 +5,7 @@ use Rattle.std.proofs.Common.{append_assoc, append-nil, sym, ◌∙◌, subst}
 use Rattle.segscript.specs.Reasons.{line_fault}
 use Rattle.segscript.specs.Script.{ended, IsLine, Splits}
 use Rattle.segscript.specs.declared.explain.BadLine.{BadLine}
+use Rattle.segscript.specs.declared.limits.TheConstants.{KEPT_BYTES}
 
 -- None of the lines has a fault.
 abbrev pub AreFine : ℕ → List (List ℕ) → Type 0
@@ -59,19 +60,20 @@ look_at passes line number bad = record {
   bad = bad;
 }
 
--- A byte of a line is kept if it is one of the first 129.
+-- A byte of a line is kept if it is one of the first KEPT_BYTES.
 abbrev pub KeepsByte : ℕ → List ℕ → List ℕ → Type 0
 KeepsByte byte old new =
-    ((length old < 129) × (new ≡ old ++ byte ∷ [])) ⊎ ((length old ≡ 129) × (new ≡ old))
+    ((length old < KEPT_BYTES) × (new ≡ old ++ byte ∷ []))
+    ⊎ ((length old ≡ KEPT_BYTES) × (new ≡ old))
 
 -- The reader has looked at these bytes, and no line of them that has its end has a fault.
--- Of the line without an end it keeps the first 129 bytes, which have the line's fault.
+-- Of the line without an end it keeps the first KEPT_BYTES bytes, which have the line's fault.
 pub record LooksOn (look : Look) (seen : List ℕ) : Type 0 where
   pub lines : List (List ℕ)
   pub rest : List ℕ
   pub splits : Splits seen lines rest
   pub fine : AreFine look.passes lines
-  pub kept : look.line ≡ take 129 rest
+  pub kept : look.line ≡ take KEPT_BYTES rest
   pub number : look.number ≡ number_after lines
 
 -- The line that was found is one of these bytes, and it has its end.

@@ -8,10 +8,13 @@ use Rattle.segscript.specs.Run.{IsSeenBad}
 use Rattle.segscript.specs.Script.{IsBad, Steps}
 use Rattle.segscript.specs.Spelling.{PassTurn, IsSayable, spelling}
 use Rattle.segscript.specs.declared.explain.BadLine.{BadLine}
+use Rattle.segscript.specs.declared.limits.TheConstants.{LINE_BYTES}
 
--- A line that spells a turn has at most 128 bytes.
+-- A line that spells a turn has at most LINE_BYTES bytes.
 abbrev pub LinesFit : Type 0
-LinesFit = (passes : ℕ) (said : PassTurn) → IsSayable passes said → length (spelling said) ≤ 128
+LinesFit = (passes : ℕ) (said : PassTurn)
+    → IsSayable passes said
+    → length (spelling said) ≤ LINE_BYTES
 
 -- If one line spells two turns of passes, they are the same turn of the same pass.
 abbrev pub LineSpellsOneTurn : Type 0

@@ -4,6 +4,8 @@ use Rattle.std.specs.Prelude.{◌≡◌, ℕ, ◌+◌, ◌^◌, ◌==◌, ◌&&�
 use Rattle.std.specs.List.{list_all, slice_split}
 use Rattle.std.specs.Char.{is_ascii_digit}
 use Rattle.std.specs.Str.Parse.{digits_value}
+use Rattle.segword.specs.declared.key.TheConstants.{KEY_BYTES}
+use Rattle.segword.specs.declared.value.TheConstants.{VALUE_BYTES}
 use Rattle.segscript.specs.Spelling.{commands, line_parts, named_among}
 use Rattle.segscript.specs.declared.line.Verb.{Verb}
 use Rattle.segscript.specs.declared.reason.LineFault.{LineFault}
@@ -12,6 +14,7 @@ use Rattle.segscript.specs.declared.reason.Part.{Part}
 use Rattle.segscript.specs.declared.reason.Part.TheVariants as part
 use Rattle.segscript.specs.declared.reason.WordFault.{WordFault}
 use Rattle.segscript.specs.declared.reason.WordFault.TheVariants as why
+use Rattle.segscript.specs.declared.limits.TheConstants.{LINE_BYTES}
 
 -- ---- words
 
@@ -64,8 +67,8 @@ part_fault passes part.Pass word =
 part_fault passes part.Command word = command_fault (named_among commands word)
 part_fault passes part.Cutoff word =
     or_else (number_fault word) (below_fault 256 why.LargeCutoff word)
-part_fault passes part.Key word = bytes_fault 24 (why.LongKey (length word)) word
-part_fault passes part.Value word = bytes_fault 32 (why.LongValue (length word)) word
+part_fault passes part.Key word = bytes_fault KEY_BYTES (why.LongKey (length word)) word
+part_fault passes part.Value word = bytes_fault VALUE_BYTES (why.LongValue (length word)) word
 part_fault passes part.Moment word =
     if slice_index word 0 == 64 then number_fault (drop 1 word) else Some why.NoAt
 part_fault passes part.Segment word = number_fault word
@@ -99,7 +102,7 @@ words_fault passes place (p ∷ parts) (word ∷ words) =
 abbrev pub line_fault : ℕ → List ℕ → Option LineFault
 line_fault passes line =
     let words = slice_split (λ byte. byte == 32) line in
-    if nat_lt 128 (length line) then Some fault.TooLong
+    if nat_lt LINE_BYTES (length line) then Some fault.TooLong
     else (if length line == 0 then None
     else (if nat_lt 7 (length words) then Some (fault.Extra 8)
     else words_fault passes 1 (line_parts words) words))

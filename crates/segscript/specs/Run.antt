@@ -11,6 +11,7 @@ use Rattle.segscript.specs.Script.{IsLine, ended, Splits, IsBad, ServesLines, St
 use Rattle.segscript.specs.Device.{IsBeginning, one_more}
 use Rattle.segscript.specs.declared.fault.RunFault.{RunFault}
 use Rattle.segscript.specs.declared.fault.RunFault.TheVariants as fault
+use Rattle.segscript.specs.declared.limits.TheConstants.{KEPT_BYTES, LINE_BYTES}
 
 -- ---- which fault
 
@@ -42,7 +43,7 @@ pub record ServesWholeLines (passes : ℕ) {S : Type 0} (step : S → PassTurn �
   pub lines : List (List ℕ)
   pub rest : List ℕ
   pub splits : Splits seen lines rest
-  pub short : length rest ≤ 128
+  pub short : length rest ≤ LINE_BYTES
   pub served : ServesLines passes step start lines text end
 
 -- A reply could not be written whole. It is the reply to `line`, which was served last.
@@ -68,7 +69,8 @@ pub record StopsWriting (passes : ℕ) {S : Type 0} (step : S → PassTurn → O
 
 -- Line n of these bytes is bad, and no line before it is.
 -- The text has the replies to the lines before it. The bad line led to no turn.
--- The end of the bad line was read, or its 129th byte, or (if `Ends` holds) nothing comes after it.
+-- The end of the bad line was read, or one byte more than a line can have,
+-- or (if `Ends` holds) nothing comes after it.
 -- So the run reports the line neither early nor on a guess.
 pub record IsSeenBad (passes : ℕ) {S : Type 0} (step : S → PassTurn → Outcome → S → Type 0)
     (start end : S) (Ends : Type 0) (seen text : List ℕ) (n : ℕ) : Type 0 where
@@ -79,7 +81,9 @@ pub record IsSeenBad (passes : ℕ) {S : Type 0} (step : S → PassTurn → Outc
   pub each : AllByRecursion IsLine lines
   pub unbroken : IsLine bad
   pub is_bad : IsBad passes bad
-  pub known : ((more : List ℕ) × (after ≡ 10 ∷ more)) ⊎ (length bad ≡ 129) ⊎ ((after ≡ []) × Ends)
+  pub known : ((more : List ℕ) × (after ≡ 10 ∷ more))
+      ⊎ (length bad ≡ KEPT_BYTES)
+      ⊎ ((after ≡ []) × Ends)
   pub served : ServesLines passes step start lines text end
   pub number : n ≡ length lines + 1
 

@@ -8,6 +8,7 @@ use Rattle.segscript.specs.Device.{IsBeginning, one_more}
 use Rattle.segscript.specs.Run.{StopsWriting, IsSeenBad}
 use Rattle.segscript.specs.declared.fault.RunFault.{RunFault}
 use Rattle.segscript.specs.declared.fault.RunFault.TheVariants as fault
+use Rattle.segscript.specs.declared.limits.TheConstants.{LINE_BYTES}
 
 -- How far a run has come. The bytes `seen` came, and `text` has the replies to their whole lines.
 -- These lines left the engine in the state `reached`.
@@ -16,7 +17,7 @@ pub record HasServed (passes : ℕ) {S : Type 0} (step : S → PassTurn → Outc
     (start reached : S) (seen text line : List ℕ) (number : ℕ) : Type 0 where
   pub lines : List (List ℕ)
   pub splits : Splits seen lines line
-  pub short : length line ≤ 128
+  pub short : length line ≤ LINE_BYTES
   pub served : ServesLines passes step start lines text reached
   pub numbered : number ≡ length lines + 1
 

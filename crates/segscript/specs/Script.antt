@@ -4,6 +4,7 @@ use Rattle.std.specs.List.{flat_map, AllByRecursion}
 use Rattle.segword.specs.Words.{Shape}
 use Rattle.segmodel.specs.Words.{fresh, Outcome, Runs, State, Turns}
 use Rattle.segscript.specs.Spelling.{PassTurn, IsSayable, reply, spelling}
+use Rattle.segscript.specs.declared.limits.TheConstants.{LINE_BYTES}
 
 -- ---- lines
 
@@ -33,7 +34,7 @@ Say passes ((byte ∷ line) ∷ lines) (said ∷ turns) =
 -- A bad line is too long, or has bytes and says no turn.
 abbrev pub IsBad : ℕ → List ℕ → Type 0
 IsBad passes line =
-    (128 < length line)
+    (LINE_BYTES < length line)
     ⊎ ((0 < length line) × ((said : PassTurn) → IsSayable passes said → line ≡ spelling said → ⊥))
 
 -- ---- replies

@@ -3,6 +3,8 @@
 use Rattle.std.specs.Prelude.{◌≡◌, ◌≢◌, ℕ, ◌<◌, ◌≤◌, ◌^◌, List, [], ◌∷◌, ◌++◌, length, codes, decimal, Option, Some, None, if◌then◌else◌}
 use Rattle.std.specs.List.{join_with_byte, AllByRecursion}
 use Rattle.std.specs.Str.{bytes_eq}
+use Rattle.segword.specs.declared.key.TheConstants.{KEY_BYTES}
+use Rattle.segword.specs.declared.value.TheConstants.{VALUE_BYTES}
 use Rattle.segmodel.specs.declared.request.Request.TheVariants.{Set, Add, Replace, Cas, Delete}
 use Rattle.segmodel.specs.declared.answer.Command.TheVariants.{Write, Get, Gets, Evict, Keep, Refill}
 use Rattle.segmodel.specs.Words.{Answer, DeleteAnswer, EvictAnswer, GetAnswer, GetsAnswer, KeepAnswer, Outcome}
@@ -38,7 +40,7 @@ IsFrequency number = number < 256
 
 -- a key that a script can name; it is spelled by its bytes
 abbrev pub IsKeyWord : List ℕ → Type 0
-IsKeyWord key = (0 < length key) × (length key ≤ 24) × AllByRecursion IsWordByte key
+IsKeyWord key = (0 < length key) × (length key ≤ KEY_BYTES) × AllByRecursion IsWordByte key
 
 -- the word of a value: its bytes, or `-` for the empty value
 abbrev pub value_word : List ℕ → List ℕ
@@ -48,7 +50,8 @@ value_word (byte ∷ bytes) = byte ∷ bytes
 -- a value that a script can name: all but the value of the one byte `-`,
 -- whose word is that of the empty value
 abbrev pub IsValueWord : List ℕ → Type 0
-IsValueWord value = (length value ≤ 32) × AllByRecursion IsWordByte value × (value ≢ codes "-")
+IsValueWord value =
+    (length value ≤ VALUE_BYTES) × AllByRecursion IsWordByte value × (value ≢ codes "-")
 
 -- the word of a moment: `@` and its number
 abbrev pub moment_word : ℕ → List ℕ

@@ -5,6 +5,7 @@ ghost use Rattle.segscript.specs.Explaining.{looks_more, looks_none, LooksAt};
 ghost use Rattle.segscript.specs.Reasons.{line_fault};
 
 use crate::device::{Failed, Source};
+use crate::limits::KEPT_BYTES;
 use crate::reason::{LineFault, line_fault};
 use arrayvec::ArrayVec;
 
@@ -21,7 +22,7 @@ pub struct Explaining<R: Source> {
     inner: R,
     passes: u32,
     // The line that has no end yet: its first bytes, and its number modulo 2^64.
-    line: ArrayVec<u8, 129>,
+    line: ArrayVec<u8, KEPT_BYTES>,
     number: u64,
     bad: Option<BadLine>,
 }
@@ -87,7 +88,7 @@ impl<R: Source> Explaining<R> {
         self.number = self.number.wrapping_add(1);
     }
 
-    // Keeps a byte of the line, if it is one of the first 129.
+    // Keeps a byte of the line, if it is one of the first `KEPT_BYTES`.
     fn keep(&mut self, byte: u8)
         ensures inner { self.new.inner ≡ self.old.inner }
         ensures passes { self.new.passes ≡ self.old.passes }

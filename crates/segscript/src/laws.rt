@@ -2,7 +2,7 @@
 ghost use Rattle.segscript.specs.Laws.{BadLinesHaveAFault, ExplainedIsReported, LinesFit};
 ghost use Rattle.segscript.specs.Laws.{LineSpellsOneTurn};
 
-/// Every line that spells a turn has at most 128 bytes.
+/// Every line that spells a turn has at most `LINE_BYTES` bytes.
 pub fn lines_fit()
     ensures { LinesFit }
 {}

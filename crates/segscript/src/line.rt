@@ -13,6 +13,7 @@ ghost use Rattle.segscript.specs.Spelling.{reply, answer_reply, write_reply, del
 ghost use Rattle.segscript.specs.Spelling.{get_reply, gets_reply, evict_reply, keep_reply};
 ghost use Rattle.segscript.specs.Spelling.{refill_reply, value_reply};
 
+use crate::limits::REPLY_BYTES;
 use crate::reason::Part;
 use crate::text::{Line, line_of, put, put_number};
 use crate::word::{frequency, key, moment, number, pass, value};
@@ -21,7 +22,7 @@ use segmodel::{
     Answer, Command, DeleteAnswer, EvictAnswer, GetAnswer, GetsAnswer, KeepAnswer, Outcome,
     RefillAnswer, Request, Turn, WriteAnswer,
 };
-use segword::{Key, Value};
+use segword::{Key, VALUE_BYTES, Value};
 
 /// The command of a line.
 #[derive(Clone, Copy, Debug, PartialEq, Eq)]
@@ -288,7 +289,7 @@ pub fn read_line(line: &[u8], passes: u32) -> Option<(u32, Turn)>
     said_by(parts.as_slice(), passes)
 }
 
-/// A reply: at most `VALUE`, a value of 32 bytes and a number of ten digits.
+/// A reply: at most `VALUE`, a value of `VALUE_BYTES` bytes and a number of ten digits.
 pub type Reply = Line;
 
 /// The line of an outcome.
@@ -327,7 +328,7 @@ fn answer_reply(answer: &Answer) -> Reply
 
 fn write_line(answer: WriteAnswer) -> &'static [u8]
     ensures text { result.now ≡ write_reply answer }
-    ensures short { length result.now ≤ 64 }
+    ensures short { length result.now ≤ REPLY_BYTES }
 {
     match answer {
         WriteAnswer::Stored => b"STORED\n",
@@ -342,7 +343,7 @@ fn write_line(answer: WriteAnswer) -> &'static [u8]
 
 fn delete_line(answer: DeleteAnswer) -> &'static [u8]
     ensures text { result.now ≡ delete_reply answer }
-    ensures short { length result.now ≤ 64 }
+    ensures short { length result.now ≤ REPLY_BYTES }
 {
     match answer {
         DeleteAnswer::Deleted => b"DELETED\n",
@@ -353,7 +354,7 @@ fn delete_line(answer: DeleteAnswer) -> &'static [u8]
 
 fn refill_line(answer: RefillAnswer) -> &'static [u8]
     ensures text { result.now ≡ refill_reply answer }
-    ensures short { length result.now ≤ 64 }
+    ensures short { length result.now ≤ REPLY_BYTES }
 {
     match answer {
         RefillAnswer::Refilled => b"REFILLED\n",
@@ -435,7 +436,7 @@ fn counted(word: &[u8], count: u32) -> Reply
 fn put_value(text: &mut Reply, value: &Value)
     requires { array_vec_len text.old ≤ 32 }
     ensures text { text.new.items ≡ text.old.items ++ value_word value.now }
-    ensures room { array_vec_len text.new ≤ array_vec_len text.old + 32 }
+    ensures room { array_vec_len text.new ≤ array_vec_len text.old + VALUE_BYTES }
 {
     if value.as_bytes().is_empty() {
         put(text, b"-");

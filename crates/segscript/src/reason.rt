@@ -8,8 +8,10 @@ ghost use Rattle.segscript.specs.Reasons.{ReturnsNumber, bytes_fault, part_fault
 ghost use Rattle.segscript.specs.Reasons.{word_fault, words_fault, line_fault, extra_fault};
 ghost use Rattle.segscript.specs.Spelling.{commands, line_parts, named_among};
 
+use crate::limits::LINE_BYTES;
 use crate::line::{parts_of, parts_of_line, verb_of};
 use crate::word::number;
+use segword::{KEY_BYTES, VALUE_BYTES};
 
 /// What a word of a line is to be.
 #[derive(Clone, Copy, Debug, PartialEq, Eq)]
@@ -56,7 +58,7 @@ pub enum WordFault {
 /// The first fault of a line. Words are counted from 1.
 #[derive(Clone, Copy, Debug, PartialEq, Eq)]
 pub enum LineFault {
-    /// The line has more than 128 bytes.
+    /// The line has more than `LINE_BYTES` bytes.
     TooLong,
     /// This word is bad.
     Word { place: usize, why: WordFault },
@@ -65,9 +67,6 @@ pub enum LineFault {
     /// No word is to stand here.
     Extra { place: usize },
 }
-
-/// The most bytes of a line.
-const MOST: usize = 128;
 
 fn are_digits(word: &[u8]) -> bool
     ensures { result ≡ list_all is_ascii_digit word.now }
@@ -182,8 +181,8 @@ fn word_fault(word: &[u8], part: Part, passes: u32) -> Option<WordFault>
         Part::Pass => pass_fault(word, passes),
         Part::Command => command_fault(word),
         Part::Cutoff => below_fault(word, 256, WordFault::LargeCutoff),
-        Part::Key => bytes_fault(word, 24, WordFault::LongKey(word.len())),
-        Part::Value => bytes_fault(word, 32, WordFault::LongValue(word.len())),
+        Part::Key => bytes_fault(word, KEY_BYTES, WordFault::LongKey(word.len())),
+        Part::Value => bytes_fault(word, VALUE_BYTES, WordFault::LongValue(word.len())),
         Part::Moment => moment_fault(word),
         Part::Segment | Part::Deadline | Part::Version => number_fault(word),
     }
@@ -239,7 +238,7 @@ fn extra_fault(word: &[u8], place: usize) -> LineFault
 pub fn line_fault(line: &[u8], passes: u32) -> Option<LineFault>
     ensures { result ≡ line_fault passes line.now }
 {
-    if line.len() > MOST {
+    if line.len() > LINE_BYTES {
         return Some(LineFault::TooLong);
     }
     if line.is_empty() {

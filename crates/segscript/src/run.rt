@@ -9,6 +9,7 @@ ghost use Rattle.segscript.specs.Run.{is_make_fault};
 use crate::device::{Failed, Sink, Source, write_all};
 use crate::engine::Engine;
 use crate::fault::RunFault;
+use crate::limits::LINE_BYTES;
 use crate::line::{read_line, reply_of};
 use arrayvec::ArrayVec;
 
@@ -21,7 +22,7 @@ const PIECE: usize = 4096;
 /// The line whose end has not come yet: its bytes so far, and its number.
 #[derive(Drop)]
 struct OpenLine {
-    bytes: ArrayVec<u8, 128>,
+    bytes: ArrayVec<u8, LINE_BYTES>,
     number: u64,
 }
 

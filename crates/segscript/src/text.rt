@@ -2,15 +2,16 @@
 ghost use Rattle.std.specs.Prelude.{◌≡◌, ◌+◌, ◌≤◌, ◌++◌, length};
 ghost use Rattle.arrayvec.specs.ArrayVec.{array_vec_len};
 
+use crate::limits::REPLY_BYTES;
 use arrayvec::ArrayVec;
 use itoa::{Buffer, Integer};
 
-/// A line of at most 64 bytes.
-pub type Line = ArrayVec<u8, 64>;
+/// A line of at most `REPLY_BYTES` bytes.
+pub type Line = ArrayVec<u8, REPLY_BYTES>;
 
 /// A line of these bytes.
 pub fn line_of(bytes: &[u8]) -> Line
-    requires { length bytes.now ≤ 64 }
+    requires { length bytes.now ≤ REPLY_BYTES }
     ensures text { result.items ≡ bytes.now }
     ensures len { array_vec_len result ≡ length bytes.now }
 {
@@ -21,7 +22,7 @@ pub fn line_of(bytes: &[u8]) -> Line
 
 /// Puts bytes at the end of the line.
 pub fn put(text: &mut Line, bytes: &[u8])
-    requires { array_vec_len text.old + length bytes.now ≤ 64 }
+    requires { array_vec_len text.old + length bytes.now ≤ REPLY_BYTES }
     ensures text { text.new.items ≡ text.old.items ++ bytes.now }
     ensures len { array_vec_len text.new ≡ array_vec_len text.old + length bytes.now }
 {
@@ -30,7 +31,7 @@ pub fn put(text: &mut Line, bytes: &[u8])
 
 /// Puts the decimal digits of a number at the end of the line.
 pub fn put_number<I: Integer>(text: &mut Line, number: I)
-    requires { array_vec_len text.old + I.MAX_STR_LEN ≤ 64 }
+    requires { array_vec_len text.old + I.MAX_STR_LEN ≤ REPLY_BYTES }
     ensures text { text.new.items ≡ text.old.items ++ I.text number }
     ensures room { array_vec_len text.new ≤ array_vec_len text.old + I.MAX_STR_LEN }
 {

@@ -42,14 +42,14 @@ fn is_plain(bytes: &[u8]) -> bool
     bytes.iter().all(|byte| 33 <= *byte && *byte <= 126)
 }
 
-/// A key: 1 to 24 bytes, each from 33 to 126.
+/// A key: 1 to `KEY_BYTES` bytes, each from 33 to 126.
 pub fn key(word: &[u8]) -> Option<Key>
     ensures { ReadsAs IsKeyWord (λ key. key) word.now result }
 {
     if is_plain(word) { Key::new(word) } else { None }
 }
 
-/// A value: `-` for the empty one, else 1 to 32 bytes, each from 33 to 126.
+/// A value: `-` for the empty one, else 1 to `VALUE_BYTES` bytes, each from 33 to 126.
 pub fn value(word: &[u8]) -> Option<Value>
     ensures { ReadsAs IsValueWord value_word word.now result }
 {

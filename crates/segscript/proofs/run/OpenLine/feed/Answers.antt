@@ -3,6 +3,7 @@ use Rattle.std.proofs.lemmas.Bool.{eqb-true}
 use Rattle.std.proofs.lemmas.Grind.{common_steps}
 use Rattle.segscript.proofs.LineLemmas.{at_byte, at_end, too_long, feed-fault}
 use Rattle.segscript.proofs.run.OpenLine.feed.Goals as goal
+use Rattle.segscript.specs.declared.limits.TheConstants.{LINE_BYTES}
 
 pub returns-then-is_full-clause-outcome : goal.returns-then-is_full-clause-outcome
 returns-then-is_full-clause-outcome g c = λ start seen told here.
@@ -10,7 +11,7 @@ returns-then-is_full-clause-outcome g c = λ start seen told here.
 
 pub returns-then-byte-ne10-clause-outcome : goal.returns-then-byte-ne10-clause-outcome
 returns-then-byte-ne10-clause-outcome g c = λ start seen told here.
-    let room : length c.args.self.now.bytes.items < 128 = grind (arith, common_steps, c.if-is_full.ensures) in
+    let room : length c.args.self.now.bytes.items < LINE_BYTES = grind (arith, common_steps, c.if-is_full.ensures) in
     ([], g.met.W.Sink.takes_none c.args.writer.now, rw (append-nil, c.push.ensures.items) (at_byte _ _ _ _ _ _ _ _ _ here c.if-byte-ne10.true room))
 
 pub returns-in-Ok-clause-outcome : goal.returns-in-Ok-clause-outcome
