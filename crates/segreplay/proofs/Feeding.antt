@@ -35,7 +35,7 @@ state_more form last (l ∷ lines) line rs said was one = (
   ap (λ l. l ++ requests_in said) was.4 ∙ append_assoc (requests_in was.0) was.1 (requests_in said),
 )
 
-turns_more : (rules : Rules) (number : ℕ) (rs more : List TraceCommand) → turns_from rules number (rs ++ more) ≡ turns_from rules number rs ++ turns_from rules (number_after number rs) more
+pub turns_more : (rules : Rules) (number : ℕ) (rs more : List TraceCommand) → turns_from rules number (rs ++ more) ≡ turns_from rules number rs ++ turns_from rules (number_after number rs) more
 turns_more rules number [] more = refl
 turns_more rules number (r ∷ rs) more = ap (λ l. turn_of rules number r ∷ l) (turns_more rules (with_more number 1) rs more)
 

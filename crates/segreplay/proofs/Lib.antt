@@ -3,3 +3,5 @@ pub mod Steps
 pub mod Feeding
 pub mod Lists
 pub mod Names
+pub mod Fields
+pub mod Written

@@ -7,3 +7,4 @@ pub mod Traces
 pub mod Policies
 pub mod Caches
 pub mod Replays
+pub mod Laws

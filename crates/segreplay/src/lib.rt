@@ -4,6 +4,7 @@
 mod cache;
 mod counts;
 mod fault;
+mod laws;
 mod line;
 mod lives;
 mod player;
@@ -15,6 +16,7 @@ mod word;
 pub use cache::{CacheConfig, Retention};
 pub use counts::{CommandResult, Counts};
 pub use fault::{ReplayFault, TraceFault};
+pub use laws::traces_are_read;
 pub use line::{Column, Columns, Form, Operation, Stated, TraceCommand, TraceLineFault, read_line};
 pub use run::{Follow, ReplayPlan, Replayed, replay};
 pub use totals::CacheTotals;
