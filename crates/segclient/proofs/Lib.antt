@@ -1,6 +1,7 @@
 pub mod Added
 pub mod Calls
 pub mod Cleared
+pub mod CommandLaws
 pub mod Copied
 pub mod Few
 pub mod InTurn

@@ -1,6 +1,7 @@
 pub mod Clearing
 pub mod Client
 pub mod Clients
+pub mod CommandLaws
 pub mod Counting
 pub mod Entries
 pub mod Lives

@@ -1,5 +1,6 @@
-//! Laws of puts, beside the contracts of the calls.
+//! Laws of puts, reads and deletes, beside the contracts of the calls.
 //! These functions do nothing: their contracts are the theorems.
+ghost use Rattle.segclient.specs.CommandLaws.{DeleteIsACommand, GetIsACommand, GetsIsACommand};
 ghost use Rattle.segclient.specs.PutLaws.{PutCounts, PutGoesOn, PutIsRefused, PutLasts};
 
 /// What a put comes to, but for how many calls of the index it makes, and when none makes room.
@@ -15,4 +16,14 @@ pub fn what_a_put_comes_to()
     ensures counts { PutCounts }
     ensures lasts { PutLasts }
     ensures refused { PutIsRefused }
+{}
+
+/// A get, a gets and a delete are each one command of the index, at the moment that the client's
+/// clock shows. The client counts the answer. For a read it draws one number.
+/// Its settings are as they were, and its segments too, but that queues are told of a delete.
+/// What such a command is answered say the laws of commands (`commands_are_answered`).
+pub fn reads_and_deletes_are_commands()
+    ensures get { GetIsACommand }
+    ensures gets { GetsIsACommand }
+    ensures delete { DeleteIsACommand }
 {}

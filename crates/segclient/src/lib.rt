@@ -27,7 +27,7 @@ mod until;
 pub use all::{clients, into_passes, keep_back};
 pub use client::Client;
 pub use effort::{evicted_by, refilled_by};
-pub use laws::what_a_put_comes_to;
+pub use laws::{reads_and_deletes_are_commands, what_a_put_comes_to};
 pub use member::Member;
 pub use note::{what_a_put_adds, what_is_put_stands, what_room_is_made_for};
 pub use put::PutAnswer;
