@@ -6,6 +6,7 @@ pub mod Noting
 pub mod Since
 pub mod LaterReads
 pub mod Stats
+pub mod StatsLaws
 pub mod OnePass
 pub mod Probing
 pub mod FirstRows

@@ -14,6 +14,7 @@ pub mod Probing
 pub mod Refilling
 pub mod Sharing
 pub mod Stats
+pub mod StatsLaws
 pub mod Steps
 pub mod UnnamedRows
 pub mod Words

@@ -19,6 +19,8 @@ ghost use Rattle.segindex.specs.Linearizable.{GetHasEffect, GetsHasEffect, HoldH
 ghost use Rattle.segindex.specs.Linearizable.{WriteHasEffect};
 ghost use Rattle.segindex.specs.Order.{PointsAreInOrder};
 ghost use Rattle.segindex.specs.UnnamedRows.{EvictedIsUnnamed, MovedIsUnnamed, UnnamedStay};
+ghost use Rattle.segindex.specs.StatsLaws.{StatsCountDrawn, StatsCountNamed, StatsCountNoMore};
+ghost use Rattle.segindex.specs.StatsLaws.{StatsCountUsed, StatsOnlyLook};
 ghost use Rattle.segindex.specs.Steps.{NoGetWithoutAStep, NoGetsWithoutAStep, NoHoldWithoutAStep};
 
 /// What a quiet pass has seen is a history of a cache of one thread, with marks.
@@ -77,6 +79,20 @@ pub fn commands_are_answered()
     ensures entries { CommandAddsEntries }
     ensures leaves { CommandLeavesSegment }
     ensures refused { CommandIsRefused }
+{}
+
+/// What a pass sees of the table in numbers, but for what the look costs.
+/// The pass is quiet again, and all that it keeps is as it was.
+/// It counts the used rows of its own segments.
+/// It counts as named at least as many of these rows as items name at the end,
+/// and at most as many as items named at some moment of the call.
+/// It counts the overflow buckets that were drawn, at some moment of the call.
+pub fn stats_are_counted()
+    ensures looks { StatsOnlyLook }
+    ensures drawn { StatsCountDrawn }
+    ensures used { StatsCountUsed }
+    ensures named { StatsCountNamed }
+    ensures no_more { StatsCountNoMore }
 {}
 
 /// A keep with the cutoff 0 that returns Kept leaves no key in the segment.

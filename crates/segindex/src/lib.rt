@@ -28,7 +28,8 @@ pub use index::Index;
 pub use laws::{
     calls_are_in_order, calls_are_linearizable, calls_have_an_effect, cas_fails_where_written,
     commands_are_answered, keep_of_all, new_index, new_pass, one_pass, quiet_pass,
-    readers_take_a_step, replies_at_a_moment, unnamed_rows_stay, what_stood_is_read,
+    readers_take_a_step, replies_at_a_moment, stats_are_counted, unnamed_rows_stay,
+    what_stood_is_read,
 };
 pub use segbase::{Lead, MakeFault, Note, Pass, Seeker};
 pub use segevict::{EvictRowAnswer, KeepRowAnswer};
