@@ -1,9 +1,9 @@
 -- How the commands of the program end, and what is reported then.
 use Rattle.std.specs.Prelude.{◌≡◌, ◌⊎◌, ◌++◌, ℕ, true, List, [], OnOk, Result, Ok, Err, string_bytes}
 use Rattle.std.specs.Int.NonZero.{non_zero_u32_get}
-use Rattle.segword.specs.Words.{Shape}
+use Rattle.segword.specs.Words.{IsFirstFault, IsValid, Shape}
 use Rattle.segcli.specs.Explained.{SpellsWord, explanation}
-use Rattle.segcli.specs.Faults.{end_of_run, fault_of_load, fault_of_replay, fault_of_trace, fault_line, fault_status, is_write_end}
+use Rattle.segcli.specs.Faults.{end_of_run, fault_of_replay, fault_of_trace, fault_line, fault_status, is_write_end}
 use Rattle.segcli.specs.Printing.{PrintOutcome, IsPrinted, IsFlushed}
 use Rattle.segcli.specs.Notes.{note_of}
 use Rattle.segcli.specs.Replayed.{IsPlanOf, replay_text}
@@ -17,8 +17,7 @@ use Rattle.segcli.specs.declared.asked.Replay.{Replay}
 use Rattle.segscript.specs.Words.{EachTurn, EndsOnce, is_make_fault, is_read_fault, is_write_fault, RunFault}
 use Rattle.segscript.specs.Words.{RunOutcome, ShapeIsAnswered}
 use Rattle.segcli.specs.Streams.{HandedOut, Input, IsUnflushed, Output, Took}
-use Rattle.segload.specs.Words.{IsLoad, IsLoadFault, knows_nothing, lets_all_through, Totals}
-use Rattle.segload.specs.declared.fault.LoadFault.{LoadFault}
+use Rattle.segload.specs.Words.{IsLoad, Totals}
 use Rattle.segcli.specs.declared.fault.ProgramFault.{ProgramFault}
 use Rattle.segcli.specs.declared.fault.ProgramFault.TheVariants as fault
 use Rattle.segcli.specs.declared.asked.LoadTask.{LoadTask}
@@ -69,11 +68,12 @@ WordOutcome word o end =
 
 -- ---- a load
 
--- This is a fault of a load of this shape, in which no pass is stopped.
-abbrev pub IsFaultOfLoad : Shape → ℕ → ProgramFault → Type 0
-IsFaultOfLoad shape commands f = (why : LoadFault)
-    × IsLoadFault shape commands lets_all_through knows_nothing why
-    × (f ≡ fault_of_load why)
+-- This is a fault of a load of this shape, in which no pass is stopped: the shape's first fault,
+-- or no memory is left, but then the shape is valid.
+abbrev pub IsFaultOfLoad : Shape → ProgramFault → Type 0
+IsFaultOfLoad shape (fault.BadShape f) = IsFirstFault shape f
+IsFaultOfLoad shape fault.OutOfMemory = IsValid shape
+IsFaultOfLoad shape _ = ⊥
 
 -- The totals were shown of this load, in its format. Or there are no totals, and nothing was written.
 abbrev pub LoadOutcome : LoadTask → {W : Type 0} → Output W → Result (Unit {0}) ProgramFault
@@ -84,7 +84,7 @@ LoadOutcome load o (Ok _) =
 LoadOutcome load o (Err fault.Write) =
     (totals : Totals) × IsLoad load.shape load.seed (non_zero_u32_get load.keys) load.commands totals
     × ShowOutcome (text_in load.format totals) o (Err fault.Write)
-LoadOutcome load o (Err f) = IsFaultOfLoad load.shape load.commands f × Took o [] × IsUnflushed o
+LoadOutcome load o (Err f) = IsFaultOfLoad load.shape f × Took o [] × IsUnflushed o
 
 -- ---- a replay
 

@@ -3,9 +3,9 @@ ghost use Rattle.std.specs.Prelude.{◌≡◌, false, Result, IfOk, IfErr};
 ghost use Rattle.std.specs.Int.NonZero.{non_zero_u32_get};
 ghost use Rattle.segcli.specs.Streams.{input, output};
 ghost use Rattle.segload.specs.declared.totals.Totals.{Totals};
-ghost use Rattle.segload.specs.Words.{IsLoad, IsLoadFault, knows_nothing, lets_all_through};
+ghost use Rattle.segload.specs.Words.{IsLoad};
 ghost use Rattle.segcli.specs.declared.fault.ProgramFault.{ProgramFault};
-ghost use Rattle.segcli.specs.Faults.{is_write_end};
+ghost use Rattle.segcli.specs.Faults.{fault_of_load, is_write_end};
 ghost use Rattle.segcli.specs.Totals.{text_in};
 ghost use Rattle.segcli.specs.Commands.{ScriptOutcome, IsFaultOfLoad, LoadOutcome, WordOutcome};
 ghost use Rattle.segcli.specs.Commands.{CommandOutcome, Concludes, end_of_replay, end_of_trace};
@@ -169,7 +169,7 @@ fn load_text<R: Threads + Wait + AllocGlobal + Sync, V: Watch>(
         × IsLoad load.now.shape load.now.seed (non_zero_u32_get load.now.keys)
         load.now.commands totals
         × (text.items ≡ text_in load.now.format totals)) }
-    ensures fault { IfErr result (IsFaultOfLoad load.now.shape load.now.commands) }
+    ensures fault { IfErr result (IsFaultOfLoad load.now.shape) }
 {
     let totals = totals_of(host, load)?;
     if load.stats {
@@ -185,8 +185,7 @@ fn totals_of<R: Threads + Wait + AllocGlobal + Sync, V: Watch>(
 ) -> Result<Totals, LoadFault>
     ensures load { IfOk result (IsLoad load.now.shape load.now.seed
         (non_zero_u32_get load.now.keys) load.now.commands) }
-    ensures fault { IfErr result (IsLoadFault load.now.shape load.now.commands
-        lets_all_through knows_nothing) }
+    ensures fault { IfErr result (λ why. IsFaultOfLoad load.now.shape (fault_of_load why)) }
 {
     let Host { rt, alloc, watch } = *host;
     let LoadTask {
