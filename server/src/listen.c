@@ -23,12 +23,23 @@ static bool fault(const char *what, const char *why) {
   return false;
 }
 
+/* The same of an address that the system refuses, with its port. Both families have it at one place. */
+static bool fault_at(const char *what, const struct sockaddr *address) {
+  char place[512];
+  unsigned port =
+      address->sa_family == AF_UNIX ? 0 : ntohs(((const struct sockaddr_in *)(const void *)address)->sin_port);
+  const char *why = strerror(errno);
+  if (port == 0) return fault(what, why);
+  snprintf(place, sizeof place, "%s, port %u", what, port);
+  return fault(place, why);
+}
+
 /* Takes a socket among the listeners once it is bound. */
 static bool listen_at(struct server *server, int socket, const struct sockaddr *address, socklen_t length,
                       const char *what) {
   if (server->listener_count == MOST_LISTENERS) return close(socket), fault(what, "too many addresses");
   if (bind(socket, address, length) != 0 || listen(socket, (int)server->options.backlog) != 0)
-    return fault(what, strerror(errno)), close(socket), false;
+    return fault_at(what, address), close(socket), false;
   server->listeners[server->listener_count++] = socket;
   return true;
 }

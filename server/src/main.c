@@ -42,16 +42,30 @@ static bool become_user(const char *name) {
   return true;
 }
 
-/* Goes on in the background. The parent ends well. */
-static bool become_daemon(void) {
+/* Goes on in the background. The parent waits until the server serves, and then ends well; or badly if it never does,
+ * which is said where the parent was started. `told` is then what serves_now tells it by. */
+static bool become_daemon(int *told) {
+  char byte;
+  int ends[2];
+  if (pipe2(ends, O_CLOEXEC) != 0) return fault("-d", strerror(errno));
   pid_t child = fork();
   if (child < 0) return fault("-d", strerror(errno));
-  if (child > 0) _exit(0);
+  close(ends[child > 0]);
+  if (child > 0) _exit(read(ends[0], &byte, 1) == 1 ? 0 : 1);
+  *told = ends[1];
+  return setsid() >= 0 || fault("-d", strerror(errno));
+}
+
+/* The server serves from now on. One in the background leaves input and outputs, and lets its parent end. */
+static bool serves_now(int told) {
+  if (told < 0) return true;
   int null = open("/dev/null", O_RDWR | O_CLOEXEC);
-  if (setsid() < 0 || null < 0) return fault("-d", strerror(errno));
+  if (null < 0) return fault("-d", strerror(errno));
   for (int i = 0; i < 3; i++) dup2(null, i);
+  bool heard = write(told, "", 1) == 1; /* else the parent was killed, which is nothing to the server */
+  (void)heard;
   close(null);
-  return true;
+  return close(told) == 0;
 }
 
 static bool write_pid(const char *path) {
@@ -62,13 +76,16 @@ static bool write_pid(const char *path) {
   return fclose(file) == 0 || fault(path, strerror(errno));
 }
 
-/* SIGINT and SIGTERM end the server. SIGPIPE comes of a reply to who is gone, and SIGHUP of a terminal that is. */
+/* SIGINT, SIGTERM and SIGUSR1 end the server. SIGPIPE comes of a reply to who is gone. By SIGHUP memcached reads files
+ * again that this server hasn't. */
 static int catch_signals(void) {
   sigset_t ends;
   sigemptyset(&ends);
   sigaddset(&ends, SIGINT);
   sigaddset(&ends, SIGTERM);
+  sigaddset(&ends, SIGUSR1);
   signal(SIGPIPE, SIG_IGN);
+  signal(SIGHUP, SIG_IGN);
   pthread_sigmask(SIG_BLOCK, &ends, NULL);
   return signalfd(-1, &ends, SFD_CLOEXEC);
 }
@@ -84,13 +101,13 @@ static bool open_store(struct server *server) {
 }
 
 /* Serves until a signal comes. */
-static bool run(struct server *server, int signals) {
+static bool run(struct server *server, int signals, int told) {
   uint32_t started = 0, threads = server->options.threads;
   while (started < threads && worker_start(server, &server->workers[started])) started++;
-  if (started == threads) listen_accept(server, signals);
-  else fault("a thread can't be had", strerror(errno));
+  bool serves = (started == threads || fault("a thread can't be had", strerror(errno))) && serves_now(told);
+  if (serves) listen_accept(server, signals);
   for (uint32_t i = 0; i < started; i++) worker_stop(&server->workers[i]);
-  return started == threads;
+  return serves;
 }
 
 int main(int count, char **words) {
@@ -104,9 +121,9 @@ int main(int count, char **words) {
   raise_descriptors(&server.options);
   bool ran = listen_open(&server) && become_user(server.options.user) && open_store(&server);
   if (!ran) return listen_close(&server), 71;
-  int signals = -1;
-  ran = (!server.options.daemon || become_daemon()) && write_pid(server.options.pid_file) &&
-        (signals = catch_signals()) >= 0 && listen_tell_ports(&server) && run(&server, signals);
+  int signals = -1, told = -1;
+  ran = (!server.options.daemon || become_daemon(&told)) && write_pid(server.options.pid_file) &&
+        (signals = catch_signals()) >= 0 && listen_tell_ports(&server) && run(&server, signals, told);
   listen_close(&server);
   if (server.options.pid_file != NULL) unlink(server.options.pid_file);
   return store_close(&server.store) && ran ? 0 : 1;

@@ -104,7 +104,7 @@ def bad_places(command):
         file, long_name = Path(folder, "file"), "/" + "n" * 107
         file.touch()
         taken = ",".join(f"127.0.0.{i}" for i in range(1, 10))
-        for words, line in ((["-p", str(port), "-l", "127.0.0.1"], "127.0.0.1: Address already in use"),
+        for words, line in ((["-p", str(port), "-l", "127.0.0.1"], f"127.0.0.1, port {port}: Address already in use"),
                             (["-p", "-1", "-l", taken], "127.0.0.9: too many addresses"),
                             (["-s", long_name], f"{long_name}: the name is too long"),
                             (["-s", "/nowhere/s"], "/nowhere/s: No such file or directory"),
@@ -158,15 +158,10 @@ def background(command, names=("-d", "-P")):
         pid_file, ports = Path(folder, "pid"), Path(folder, "ports")
         environment = {**os.environ, "MEMCACHED_PORT_FILENAME": str(ports)}
         words = [*command, "-p", "-1", "-l", "127.0.0.1,127.0.0.2", *names, str(pid_file)]
-        check(subprocess.run(words, env=environment).returncode == 0, "-d ends well at once")
-        for _ in range(200):
-            if ports.exists():
-                break
-            time.sleep(0.05)
+        check(subprocess.run(words, env=environment).returncode == 0, "-d ends well once the server serves")
         text = ports.read_text()
         check(re.fullmatch(r"TCP INET: (\d+)\nTCP INET: \1\n", text), f"both addresses have one port: {text}")
         port, pid = int(text.split()[2]), int(pid_file.read_text())
-        wait_for(port)
         with connect(port) as connection, socket.create_connection(("127.0.0.2", port)) as other:
             say(other, "mn\r\n", "MN\r\n")
             check(os.getsid(pid) == pid, "-d leaves the terminal")
@@ -233,15 +228,18 @@ def shutdown(command):
 
 
 def ends(command):
-    """SIGINT ends the server as SIGTERM does. A reply to who is gone ends nothing."""
-    with start([*command, "-l", "127.0.0.1", "-p", str(port := free_port())]) as server:
-        wait_for(port, server)
-        with connect(port) as connection:
-            say(connection, "mn\r\n", "MN\r\n")
-            ignored = int(re.search(r"SigIgn:\s*(\w+)", Path(f"/proc/{server.pid}/status").read_text())[1], 16)
-            check(ignored >> signal.SIGPIPE - 1 & 1 == 1, "SIGPIPE is ignored")
-            server.send_signal(signal.SIGINT)
-            check(server.wait(timeout=60) == 0 and connection.recv(1) == b"", "SIGINT ends server and connections")
+    """SIGINT and SIGUSR1 end the server as SIGTERM does. SIGHUP, and a reply to who is gone, end nothing."""
+    for end in (signal.SIGINT, signal.SIGUSR1):
+        with start([*command, "-l", "127.0.0.1", "-p", str(port := free_port())]) as server:
+            wait_for(port, server)
+            with connect(port) as connection:
+                say(connection, "mn\r\n", "MN\r\n")
+                ignored = int(re.search(r"SigIgn:\s*(\w+)", Path(f"/proc/{server.pid}/status").read_text())[1], 16)
+                check(ignored >> signal.SIGPIPE - 1 & 1 == 1, "SIGPIPE is ignored")
+                server.send_signal(signal.SIGHUP)
+                say(connection, "mn\r\n", "MN\r\n")
+                server.send_signal(end)
+                check(server.wait(timeout=60) == 0 and connection.recv(1) == b"", f"{end} ends server and connections")
 
 
 def defaults(command):
