@@ -9,9 +9,10 @@ enum {
 };
 
 bool buffer_reserve(struct buffer *buffer, size_t more) {
+  if (buffer->at != NULL && buffer->room - buffer->length >= more) return true;
   size_t room = buffer->room == 0 ? FIRST_ROOM : buffer->room;
   while (room - buffer->length < more) room *= 2;
-  char *at = room == buffer->room ? buffer->at : realloc(buffer->at, room);
+  char *at = realloc(buffer->at, room);
   if (at == NULL) return false;
   buffer->at = at;
   buffer->room = room;

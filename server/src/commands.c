@@ -206,11 +206,14 @@ static bool serve_debugtime(struct connection *connection, const struct request 
 #endif
 
 bool serve_command(struct connection *connection, struct request *request) {
-  static const char *const writes[] = {"set", "add", "replace", "append", "prepend", "cas"};
   struct word verb = request->words[0];
   if (request->count == 0) return say(connection, false, "ERROR");
-  for (int kind = SET; kind <= CAS; kind++)
-    if (word_is(verb, writes[kind])) return serve_write(connection, (enum kind)kind, request);
+  if (word_is(verb, "set")) return serve_write(connection, SET, request);
+  if (word_is(verb, "add")) return serve_write(connection, ADD, request);
+  if (word_is(verb, "replace")) return serve_write(connection, REPLACE, request);
+  if (word_is(verb, "append")) return serve_write(connection, APPEND, request);
+  if (word_is(verb, "prepend")) return serve_write(connection, PREPEND, request);
+  if (word_is(verb, "cas")) return serve_write(connection, CAS, request);
   if (word_is(verb, "delete")) return serve_delete(connection, request);
   if (word_is(verb, "incr") || word_is(verb, "decr")) return serve_sum(connection, request, verb.at[0] == 'i');
   if (word_is(verb, "touch")) return serve_touch(connection, request);

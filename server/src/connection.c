@@ -38,9 +38,10 @@ void reply_bytes(struct connection *connection, const char *bytes, size_t length
 }
 
 bool say(struct connection *connection, bool quiet, const char *text) {
-  if (quiet) return true;
-  reply_bytes(connection, text, strlen(text));
-  reply_bytes(connection, "\r\n", 2);
+  size_t length = strlen(text);
+  if (quiet || !has_reply_room(connection, length + 2)) return true;
+  buffer_append(&connection->reply, text, length);
+  buffer_append(&connection->reply, "\r\n", 2);
   return true;
 }
 
@@ -86,10 +87,10 @@ static size_t serve(struct connection *connection, const char *input, size_t len
     return before + serve_keys(connection, rest.at, length - before);
   }
   struct request request = {.data = {newline + 1, length - whole}};
-  for (struct word word; (word = next_word(&line)).length > 0; request.count++) {
+  struct word last = {0};
+  for (struct word word; (word = next_word(&line)).length > 0; last = word, request.count++)
     if (request.count < MOST_WORDS) request.words[request.count] = word;
-    request.quiet = request.count > 0 && word_is(word, "noreply");
-  }
+  request.quiet = request.count > 1 && word_is(last, "noreply");
   bool meta = request.words[0].length == 2 && request.words[0].at[0] == 'm';
   return (meta ? serve_meta : serve_command)(connection, &request) ? whole + request.took : 0;
 }

@@ -62,9 +62,14 @@ static uint64_t budget_for(uint64_t bytes, uint32_t clients) {
   return least;
 }
 
-/* Makes a client of the library ready. */
+/* Makes a client of the library ready. Its lock is held for one call, so who waits for it tries for a while before it
+ * sleeps: sleep and waking take longer than the call. */
 static void begin_client(const struct store *store, struct store_client *client, segcache_client opened) {
-  pthread_mutex_init(&client->lock, NULL);
+  pthread_mutexattr_t kind;
+  pthread_mutexattr_init(&kind);
+  pthread_mutexattr_settype(&kind, PTHREAD_MUTEX_ADAPTIVE_NP);
+  pthread_mutex_init(&client->lock, &kind);
+  pthread_mutexattr_destroy(&kind);
   client->client = opened;
   client->store = store;
   client->time_to_live = UINT32_MAX;

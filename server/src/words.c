@@ -4,20 +4,6 @@
 
 static const char base64[] = "ABCDEFGHIJKLMNOPQRSTUVWXYZabcdefghijklmnopqrstuvwxyz0123456789+/";
 
-struct word next_word(struct word *line) {
-  const char *end = line->at + line->length, *begin = line->at;
-  while (begin < end && *begin == ' ') begin++;
-  const char *space = begin < end ? memchr(begin, ' ', (size_t)(end - begin)) : NULL;
-  struct word word = {begin, (size_t)((space == NULL ? end : space) - begin)};
-  line->at = begin + word.length;
-  line->length = (size_t)(end - line->at);
-  return word;
-}
-
-bool word_is(struct word word, const char *text) {
-  return word.length == strlen(text) && memcmp(word.at, text, word.length) == 0;
-}
-
 bool read_number(struct word word, uint64_t most, uint64_t *number) {
   uint64_t sum = 0;
   for (size_t i = 0; i < word.length; i++) {

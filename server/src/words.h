@@ -6,6 +6,7 @@
 #include <stdbool.h>
 #include <stddef.h>
 #include <stdint.h>
+#include <string.h>
 
 /* Some bytes of somebody else's. They need not end with a NUL. */
 struct word {
@@ -17,9 +18,20 @@ enum { DIGITS = 20 }; /* of the largest number of 64 bits */
 
 /* The next word of a line, which then begins behind it. Words stand between spaces. One of no bytes says that there
  * is none. */
-struct word next_word(struct word *line);
+static inline struct word next_word(struct word *line) {
+  const char *end = line->at + line->length, *begin = line->at;
+  while (begin < end && *begin == ' ') begin++;
+  const char *space = begin < end ? memchr(begin, ' ', (size_t)(end - begin)) : NULL;
+  struct word word = {begin, (size_t)((space == NULL ? end : space) - begin)};
+  line->at = begin + word.length;
+  line->length = (size_t)(end - line->at);
+  return word;
+}
 
-bool word_is(struct word word, const char *text);
+/* Here, so that it takes a few instructions where the text is written out: each command asks it of its words. */
+static inline bool word_is(struct word word, const char *text) {
+  return word.length == strlen(text) && memcmp(word.at, text, word.length) == 0;
+}
 
 /* A number of digits alone, `most` at most. False, and the number is unchanged, if the word is something else. */
 bool read_number(struct word word, uint64_t most, uint64_t *number);
