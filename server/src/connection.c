@@ -27,6 +27,7 @@ void connection_end(struct connection *connection) {
 }
 
 bool has_reply_room(struct connection *connection, size_t length) {
+  if (connection->closing) return false; /* what comes behind a gap would be taken for what stands in it */
   if (buffer_reserve(&connection->reply, length)) return true;
   connection->worker->counts.reply_refused++;
   connection->closing = true;

@@ -55,7 +55,7 @@ void connection_end(struct connection *connection);
 /* Serves commands until none is whole, too much is unsent, or so many were served. How many were. */
 uint32_t connection_serve(struct connection *connection, uint32_t most);
 
-/* Makes room for a reply. If memory is refused, the connection ends. */
+/* Makes room for a reply. If memory is refused, the connection ends, and nothing more is said on it. */
 bool has_reply_room(struct connection *connection, size_t length);
 
 /* Appends bytes to the replies, under the same rule. */

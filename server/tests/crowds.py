@@ -3,8 +3,11 @@
 
 import resource
 import socket
+import subprocess
+import sys
 import threading
 import time
+from collections import Counter
 from pathlib import Path
 
 import talk
@@ -87,6 +90,35 @@ def killed_clients(command):
         check(len(list(Path(f"/proc/{pid}/fd").iterdir())) < 24, "the descriptors of the others are free")
 
 
+CLIENTS = """
+import socket, sys, time
+port, others = int(sys.argv[1]), []
+for sent in (b"get", b"set k 0 0 5\\r\\nab", b"get k\\r\\n" * 30000, b"set j 0 0 999999\\r\\n" + b"x" * 5000, b"") * 10:
+    others.append(socket.create_connection(("127.0.0.1", port)))
+    others[-1].settimeout(0.1)
+    try:
+        others[-1].sendall(sent)
+    except TimeoutError:
+        pass
+print("sent", flush=True)
+time.sleep(600)
+"""
+
+
+def killed_program(command):
+    """A program of clients that is killed, in the midst of commands and with replies that it hasn't read."""
+    with running(command, "-t", "2") as port, connect(port) as connection:
+        say(connection, "set k 0 0 1\r\nx\r\n", "STORED\r\n")
+        with subprocess.Popen([sys.executable, "-c", CLIENTS, str(port)], stdout=subprocess.PIPE) as program:
+            program.stdout.readline()
+            check(stats_of(connection)["curr_connections"] == "51", "fifty connections are there")
+            say(connection, "get k\r\n", "VALUE k 0 1\r\nx\r\nEND\r\n")
+            program.kill()
+        pid = alone(connection)["pid"]
+        say(connection, "get k\r\n", "VALUE k 0 1\r\nx\r\nEND\r\n")
+        check(len(list(Path(f"/proc/{pid}/fd").iterdir())) < 24, "the descriptors of the killed are free")
+
+
 def connections(command):
     """No more than -c at a time. One that has ended is counted no longer, and its descriptor is free."""
     with running(command, "-c", "3", "--keys", "64", "-t", "2") as port, connect(port) as connection:
@@ -151,12 +183,26 @@ def memory_refused(command):
         say(connection, "set m 0 0 1\r\ny\r\nget m\r\n", "STORED\r\nVALUE m 0 1\r\ny\r\nEND\r\n")
 
 
+def may_have(count):
+    """Whether a process may have so many descriptors. This one then may."""
+    _, most = resource.getrlimit(resource.RLIMIT_NOFILE)
+    if most >= count:
+        resource.setrlimit(resource.RLIMIT_NOFILE, (most, most))
+    return most >= count
+
+
+def first_line(connection):
+    """The first line that comes, or that the connection was reset before."""
+    try:
+        return read_to(connection, b"\n")
+    except ConnectionError:
+        return b"reset"
+
+
 def crowd(command, count):
     """Many connections at a time: each is served, and a silent one costs little."""
-    _, most = resource.getrlimit(resource.RLIMIT_NOFILE)
-    if most < count + 400:
-        return print(f"left out: {count} connections: a process may have {most} descriptors")
-    resource.setrlimit(resource.RLIMIT_NOFILE, (most, most))
+    if not may_have(count + 400):
+        return print(f"left out: {count} connections: a process may not have as many descriptors")
     with running(command, "-c", str(count + 10)) as port:
         with connect(port) as first:
             before = memory_of(stats_of(first)["pid"])
@@ -172,6 +218,33 @@ def crowd(command, count):
         if command[0].endswith(("tested", "tested_standin")):
             check(resident < before + 1000 + count, f"a silent one holds no buffers: {before} KiB before")
         for other in others:
+            other.close()
+    return None
+
+
+def crowd_at_limit(command, count):
+    """As many connections as the server may have descriptors: all are served but a few, which are told, and when others
+    end, new ones are served."""
+    if not may_have(count + 400):
+        return print(f"left out: {count} connections at the limit of descriptors: a process may not have as many")
+    with running(["prlimit", f"--nofile={count}:{count}", *command], "-c", str(2 * count)) as port:
+        others = [connect(port) for _ in range(count)]
+        for other in others:
+            try:
+                other.sendall(b"mn\r\n")
+            except OSError:
+                pass  # it is told before, and closed
+        said = Counter(first_line(other) for other in others)
+        check(said[b"MN\r\n"] >= count - 40 and said.total() == count, f"of {count} nearly all are served: {said}")
+        for other in others[:100]:
+            other.close()
+        for _ in range(200):
+            if int(stats_of(others[200])["curr_connections"]) <= count - 100:
+                break
+            time.sleep(0.05)
+        with connect(port) as late:
+            say(late, "mn\r\n", "MN\r\n")
+        for other in others[100:]:
             other.close()
     return None
 

@@ -133,7 +133,11 @@ uint32_t segcache_raw_open(uint32_t keys, uint32_t threads, segcache_handle *cac
   map->most = keys > 0 ? keys : 1;
   for (uint32_t i = 0; i < threads; i++) {
     struct client *client = calloc(1, sizeof *client);
-    if (client == NULL) abort();
+    if (client == NULL) {
+      while (i > 0) free(clients[--i].at);
+      free(map);
+      return SEGCACHE_OUT_OF_MEMORY;
+    }
     client->map = map;
     client->first = i == 0;
     client->time_to_live = UINT32_MAX;
