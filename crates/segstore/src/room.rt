@@ -7,7 +7,7 @@ ghost use Rattle.segword.specs.Words.{span_of};
 
 use crate::row::RowRef;
 use segbase::{Board, Pass};
-use segword::{KeyWords, Value};
+use segword::{KeyWords, ValueBytes};
 
 /// No segment is current, or all rows of the current one are used.
 #[derive(Clone, Copy, Debug, PartialEq, Eq)]
@@ -28,7 +28,12 @@ pub fn has_room(pass: &Pass) -> bool
 
 /// The row that the pass stores this key and this value into next: the first of its current
 /// segment that isn't used, if as many are left as their item takes.
-pub fn next_row(board: &Board, pass: &Pass, key: &KeyWords, value: &Value) -> Result<RowRef, NoRoom>
+pub fn next_row(
+    board: &Board,
+    pass: &Pass,
+    key: &KeyWords,
+    value: &ValueBytes<'_>,
+) -> Result<RowRef, NoRoom>
     ensures next { IfOk result (λ next.
         (current_of pass.now ≡ Some next.segment) × (used_of pass.now next.segment ≡ Some next.row)
         × AreRows board.now.shape next.row (span_of key.now value.now)) }

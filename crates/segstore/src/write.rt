@@ -1,7 +1,8 @@
 //! Rows written before an item names them.
 ghost use Rattle.std.specs.Prelude.{◌≡◌, ◌≢◌, ◌<◌, ◌≤◌, ◌*◌, ◌↔◌, ℕ, List, slice_index, Some, false};
 ghost use Rattle.std.specs.Prelude.{IfOk, IsErr};
-ghost use Rattle.segword.specs.Words.{IsValue, item_width, place_behind, row_behind, span_of};
+ghost use Rattle.segword.specs.Words.{IsKey, IsValue, item_width, place_behind, row_behind, row_of};
+ghost use Rattle.segword.specs.Words.{span_of};
 ghost use Rattle.segcore.specs.Words.{AreOwnRows, Holds, IsOwnRow, row_after, row_alone, span_in};
 ghost use Rattle.segbase.specs.Words.{current_of, IsPassOf, number, sight, trace, used_of};
 ghost use Rattle.segbase.specs.Spots.{IsRowAt};
@@ -14,7 +15,7 @@ use crate::room::{NoRoom, next_row};
 use crate::row::{RowRef, load_item};
 use crate::spans::row_of_place;
 use segbase::{Board, Pass, RowPlace};
-use segword::{ITEM_WORDS, Key, KeyWords, MOST_SPAN, ROW_WORDS, Value, span_of_header};
+use segword::{ITEM_WORDS, Key, KeyWords, MOST_SPAN, ROW_WORDS, Value, ValueBytes, span_of_header};
 
 /// Writes a key and a value into the row that the pass stores into next.
 /// It returns the row's segment and the row. The call doesn't count the row as used.
@@ -42,14 +43,15 @@ pub fn write_row(
     ensures untouched { IsErr result → pass.new ≡ pass.old }
 {
     let words = KeyWords::new(key);
-    let row = next_row(board, pass, &words, value)?;
-    fill_row(board, pass, row, &words, value);
+    let bytes = ValueBytes::of(value);
+    let row = next_row(board, pass, &words, &bytes)?;
+    fill_row(board, pass, row, &words, &bytes);
     Ok((row.segment, row.row))
 }
 
 /// Writes a key and a value into a row of the pass's own that no item named in this filling, and
 /// into as many behind it as their item takes. The call doesn't count the rows as used.
-pub fn fill_row(board: &Board, pass: &mut Pass, row: RowRef, key: &KeyWords, value: &Value)
+pub fn fill_row(board: &Board, pass: &mut Pass, row: RowRef, key: &KeyWords, value: &ValueBytes<'_>)
     requires pass { IsPassOf board.now pass.old }
     requires own { AreOwnRows board.now.shape (trace pass.old) (number pass.old)
         row.segment row.row (span_of key.now value.now) }
@@ -62,6 +64,10 @@ pub fn fill_row(board: &Board, pass: &mut Pass, row: RowRef, key: &KeyWords, val
     ensures plain { pass.new.plain ≡ pass.old.plain }
     ensures memo { (sight pass.new).memo ≡ (sight pass.old).memo }
 {
+    if MOST_SPAN > 1 {
+        store_item(board, pass, row, key, value);
+        return;
+    }
     store_words(board, pass, row, key.span(value), &key.row(value));
 }
 
@@ -109,6 +115,32 @@ fn store_words(board: &Board, pass: &mut Pass, row: RowRef, rows: u32, words: &[
     let at = board.row_at(row.segment, row.row);
     for place in 0..ROW_WORDS as u32 * rows {
         store_word(board, pass, at, place, words[place as usize]);
+    }
+}
+
+// Makes rows of the pass's own, as many as the item takes, that no item named in this filling, have
+// the words of this key and this value, one by one from where they stand.
+#[inline(always)]
+fn store_item(board: &Board, pass: &mut Pass, row: RowRef, key: &KeyWords, value: &ValueBytes<'_>)
+    requires pass { IsPassOf board.now pass.old }
+    requires own { AreOwnRows board.now.shape (trace pass.old) (number pass.old)
+        row.segment row.row (span_of key.now value.now) }
+    ensures moved { FillsRow board.now row.segment row.row key.now value.now pass.old pass.new }
+    ensures steps { TakesAtMost (2 * item_width) pass.old pass.new }
+    ensures own { AreOwnRows board.now.shape (trace pass.new) (number pass.new)
+        row.segment row.row (span_of key.now value.now) }
+    ensures words { (place : ℕ) → place < ROW_WORDS * span_of key.now value.now
+        → (row_alone (trace pass.new) row.segment (row_behind row.row place)).words
+        (place_behind place) ≡ slice_index (row_of key.now value.now) place }
+    ensures key { IsKey key.now }
+    ensures valid { IsValue value.now }
+    ensures plain { pass.new.plain ≡ pass.old.plain }
+    ensures memo { (sight pass.new).memo ≡ (sight pass.old).memo }
+{
+    let at = board.row_at(row.segment, row.row);
+    let rows = key.span(value);
+    for place in 0..ROW_WORDS as u32 * rows {
+        store_word(board, pass, at, place, key.item_word(value, place as usize));
     }
 }
 

@@ -11,7 +11,7 @@ use crate::key::KEY_WORDS;
 use crate::row::HEAD_WORDS;
 use crate::spans::{ITEM_WORDS, MOST_SPAN, key_width, span};
 use crate::value::VALUE_WORDS;
-use crate::{Key, Value};
+use crate::{Key, ValueBytes};
 use std::marker::Model;
 
 /// A key as rows hold it: its length, and its bytes in `KEY_WORDS` words.
@@ -65,18 +65,17 @@ impl KeyWords {
 
     /// How many rows the item of this key and a value takes.
     #[inline(always)]
-    pub fn span(&self, value: &Value) -> u32
+    pub fn span(&self, value: &ValueBytes<'_>) -> u32
         ensures rows { result ≡ span_of self.now value.now }
         ensures some { 1 ≤ result }
+        ensures key { IsKey self.now }
+        ensures valid { IsValue value.now }
     {
-        if MOST_SPAN == 1 {
-            return 1;
-        }
-        span(self.words[0] as u32, value.as_bytes().len() as u32)
+        span(self.words[0] as u32, value.len() as u32)
     }
 
     /// The words of this key and a value.
-    pub fn row(&self, value: &Value) -> [u64; ITEM_WORDS]
+    pub fn row(&self, value: &ValueBytes<'_>) -> [u64; ITEM_WORDS]
         ensures row { result ≡ row_of self.now value.now }
         ensures key { IsKey self.now }
         ensures valid { IsValue value.now }
@@ -94,6 +93,22 @@ impl KeyWords {
         row[0] |= (value.len() as u64) << 8;
         row[HEAD_WORDS..].copy_from_slice(&value.words());
         row
+    }
+
+    /// The word at a place of the item of this key and a value.
+    #[inline(always)]
+    pub fn item_word(&self, value: &ValueBytes<'_>, place: usize) -> u64
+        requires place { place < ITEM_WORDS }
+        ensures word { result ≡ slice_index (row_of self.now value.now) place }
+    {
+        let head = self.head();
+        if head <= place {
+            return value.word(place - head);
+        }
+        if place == 0 {
+            return self.words[0] | (value.len() as u64) << 8;
+        }
+        self.words[place]
     }
 
     /// How many of an item's words have the lengths and this key.

@@ -7,7 +7,7 @@ ghost use Rattle.segword.specs.Spans.{span, span_of, span_of_header, value_place
 use crate::key::KEY_WORDS;
 use crate::row::{HEAD_WORDS, ROW_WORDS};
 use crate::value::VALUE_WORDS;
-use crate::{Key, Value};
+use crate::{Key, Value, ValueBytes};
 
 /// How many words the longest item has, in whole rows.
 pub const ITEM_WORDS: usize = (HEAD_WORDS + VALUE_WORDS + ROW_WORDS - 1) / ROW_WORDS * ROW_WORDS;
@@ -60,7 +60,16 @@ pub fn span_of(key: &Key, value: &Value) -> u32
     ensures rows { result ≡ span_of key.now value.now }
     ensures some { 1 ≤ result }
 {
-    span(key.as_bytes().len() as u32, value.as_bytes().len() as u32)
+    span_of_bytes(key, &ValueBytes::of(value))
+}
+
+/// The same of a value in place.
+#[inline(always)]
+pub fn span_of_bytes(key: &Key, value: &ValueBytes<'_>) -> u32
+    ensures rows { result ≡ span_of key.now value.now }
+    ensures some { 1 ≤ result }
+{
+    span(key.as_bytes().len() as u32, value.len() as u32)
 }
 
 /// How many rows an item with this word 0 takes.

@@ -18,7 +18,7 @@ pub(crate) fn words_of<const N: usize>(bytes: &[u8]) -> [u64; N]
 
 // The word of the eight bytes from `from` on, or of as many as there are.
 #[inline(always)]
-fn word_at(bytes: &[u8], from: usize) -> u64
+pub(crate) fn word_at(bytes: &[u8], from: usize) -> u64
     ensures { result ≡ word_at bytes.now from }
 {
     if bytes.len() <= from {

@@ -9,4 +9,7 @@ mod write;
 
 pub use find::Target;
 pub use removal::{clear, delete};
-pub use write::{add, cas, replace, set, set_and_tell};
+pub use write::{
+    add, add_bytes, cas, cas_bytes, replace, replace_bytes, set, set_and_tell, set_bytes,
+    set_bytes_and_tell,
+};

@@ -24,7 +24,7 @@ use crate::spans::use_rows;
 use segbase::{Board, Pass};
 use segmodel::WriteAnswer;
 use segstore::{RowRef, Sought, fill_row, next_row, take_to_write};
-use segword::{Item, Key, Value};
+use segword::{Item, Key, Value, ValueBytes};
 
 // When a write stores.
 #[derive(Clone, Copy, Drop)]
@@ -42,7 +42,7 @@ pub(crate) enum When {
 #[derive(Clone, Copy, Drop)]
 struct WriteCall<'v> {
     sought: Sought,
-    value: &'v Value,
+    value: &'v ValueBytes<'v>,
     when: When,
     clock: u32,
 }
@@ -54,13 +54,23 @@ pub fn set(board: &Board, pass: &mut Pass, key: &Key, value: &Value, now: u32) -
     ensures writes { Writes board.now (Set key.now value.now now) result pass.old pass.new }
     ensures set { IsSetAnswer result }
 {
-    let set = WriteCall {
-        sought: Sought::of(key, board),
-        value,
-        when: When::Always,
-        clock: now,
-    };
-    write(board, pass, &set).0
+    set_bytes(board, pass, key, &ValueBytes::of(value), now)
+}
+
+/// Stores the value under the key, from where its bytes stand.
+#[inline(always)]
+pub fn set_bytes(
+    board: &Board,
+    pass: &mut Pass,
+    key: &Key,
+    value: &ValueBytes<'_>,
+    now: u32,
+) -> WriteAnswer
+    requires quiet { IsQuiet board.now pass.old }
+    ensures writes { Writes board.now (Set key.now value.now now) result pass.old pass.new }
+    ensures set { IsSetAnswer result }
+{
+    set_bytes_and_tell(board, pass, key, value, now).0
 }
 
 /// Stores the value under the key as `set` does, and tells which row the key had before.
@@ -77,6 +87,23 @@ pub fn set_and_tell(
     ensures writes { Writes board.now (Set key.now value.now now) result.0 pass.old pass.new }
     ensures set { IsSetAnswer result.0 }
 {
+    set_bytes_and_tell(board, pass, key, &ValueBytes::of(value), now)
+}
+
+/// Stores the value under the key as `set_bytes` does, and tells which row the key had before.
+/// No contract says what the second part is.
+#[inline(always)]
+pub fn set_bytes_and_tell(
+    board: &Board,
+    pass: &mut Pass,
+    key: &Key,
+    value: &ValueBytes<'_>,
+    now: u32,
+) -> (WriteAnswer, Option<RowRef>)
+    requires quiet { IsQuiet board.now pass.old }
+    ensures writes { Writes board.now (Set key.now value.now now) result.0 pass.old pass.new }
+    ensures set { IsSetAnswer result.0 }
+{
     let set = WriteCall {
         sought: Sought::of(key, board),
         value,
@@ -87,7 +114,23 @@ pub fn set_and_tell(
 }
 
 /// Stores the value under the key if the key is absent. Else it returns NotStored.
+#[inline(always)]
 pub fn add(board: &Board, pass: &mut Pass, key: &Key, value: &Value, now: u32) -> WriteAnswer
+    requires quiet { IsQuiet board.now pass.old }
+    ensures writes { Writes board.now (Add key.now value.now now) result pass.old pass.new }
+{
+    add_bytes(board, pass, key, &ValueBytes::of(value), now)
+}
+
+/// The same, from where the value's bytes stand.
+#[inline(always)]
+pub fn add_bytes(
+    board: &Board,
+    pass: &mut Pass,
+    key: &Key,
+    value: &ValueBytes<'_>,
+    now: u32,
+) -> WriteAnswer
     requires quiet { IsQuiet board.now pass.old }
     ensures writes { Writes board.now (Add key.now value.now now) result pass.old pass.new }
 {
@@ -101,7 +144,23 @@ pub fn add(board: &Board, pass: &mut Pass, key: &Key, value: &Value, now: u32) -
 }
 
 /// Stores the value under the key if the key is present. Else it returns NotStored.
+#[inline(always)]
 pub fn replace(board: &Board, pass: &mut Pass, key: &Key, value: &Value, now: u32) -> WriteAnswer
+    requires quiet { IsQuiet board.now pass.old }
+    ensures writes { Writes board.now (Replace key.now value.now now) result pass.old pass.new }
+{
+    replace_bytes(board, pass, key, &ValueBytes::of(value), now)
+}
+
+/// The same, from where the value's bytes stand.
+#[inline(always)]
+pub fn replace_bytes(
+    board: &Board,
+    pass: &mut Pass,
+    key: &Key,
+    value: &ValueBytes<'_>,
+    now: u32,
+) -> WriteAnswer
     requires quiet { IsQuiet board.now pass.old }
     ensures writes { Writes board.now (Replace key.now value.now now) result pass.old pass.new }
 {
@@ -116,11 +175,29 @@ pub fn replace(board: &Board, pass: &mut Pass, key: &Key, value: &Value, now: u3
 
 /// Stores the value under the key if the key's bucket has the expected version. Else it returns
 /// Exists, or NotFound if the key is absent.
+#[inline(always)]
 pub fn cas(
     board: &Board,
     pass: &mut Pass,
     key: &Key,
     value: &Value,
+    expected: u32,
+    now: u32,
+) -> WriteAnswer
+    requires quiet { IsQuiet board.now pass.old }
+    ensures writes { Writes board.now (Cas key.now value.now expected now) result
+        pass.old pass.new }
+{
+    cas_bytes(board, pass, key, &ValueBytes::of(value), expected, now)
+}
+
+/// The same, from where the value's bytes stand.
+#[inline(always)]
+pub fn cas_bytes(
+    board: &Board,
+    pass: &mut Pass,
+    key: &Key,
+    value: &ValueBytes<'_>,
     expected: u32,
     now: u32,
 ) -> WriteAnswer

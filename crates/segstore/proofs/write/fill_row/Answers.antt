@@ -1,5 +1,5 @@
-use Rattle.std.proofs.Common.{◌*◌, ◌<◌, ◌≤◌, ℕ, List, sym, subst, arith}
-use Rattle.segword.specs.Words.{item_width, row_width}
+use Rattle.std.proofs.Common.{◌*◌, ◌<◌, ◌≤◌, ℕ, List, refl, sym, subst, arith}
+use Rattle.segword.specs.Words.{item_width, row_of, row_width}
 use Rattle.segcore.specs.Words.{AreOwnRows}
 use Rattle.segbase.specs.Words.{number, trace}
 use Rattle.segstore.specs.Rows.{StoresRow}
@@ -31,3 +31,7 @@ pub returns-clause-holds : goal.returns-clause-holds
 returns-clause-holds c =
     words_hold (trace c.store_words.new.pass) c.args.row.segment c.args.row.row c.args.key.now c.args.value.now c.row.result c.row.ensures.key c.row.ensures.valid c.row.ensures.row
     (λ place lt. c.store_words.ensures.words place (subst (λ n. place < row_width * n) (sym c.span.ensures.rows) lt))
+
+pub returns-then-this-gt-MOST_SPAN-clause-holds : goal.returns-then-this-gt-MOST_SPAN-clause-holds
+returns-then-this-gt-MOST_SPAN-clause-holds c = let key = c.args.key.now in let value = c.args.value.now in let stores = c.store_item.ensures in
+    words_hold (trace c.store_item.new.pass) c.args.row.segment c.args.row.row key value (row_of key value) stores.key stores.valid refl stores.words

@@ -4,4 +4,7 @@ use Rattle.segwrite.specs.Writes.{Writes}
 use Rattle.segwrite.proofs.write.add.Goals as goal
 
 pub returns : goal.returns
-returns c = record { writes = subst (λ k. Writes c.args.board.now (Add k c.args.value.now c.args.now) c.write.result.0 c.args.pass.now c.write.new.pass) c.of.ensures.key c.write.ensures.writes }
+returns c = record {
+  writes = subst (λ v. Writes c.args.board.now (Add c.args.key.now v c.args.now) c.add_bytes.result c.args.pass.now c.add_bytes.new.pass)
+      c.of.ensures.value c.add_bytes.ensures.writes;
+}

@@ -5,7 +5,6 @@ use Rattle.segwrite.proofs.write.cas.Goals as goal
 
 pub returns : goal.returns
 returns c = record {
-  writes = subst (λ k. Writes c.args.board.now
-      (Cas k c.args.value.now c.args.expected c.args.now) c.write.result.0 c.args.pass.now c.write.new.pass)
-      c.of.ensures.key c.write.ensures.writes;
+  writes = subst (λ v. Writes c.args.board.now (Cas c.args.key.now v c.args.expected c.args.now) c.cas_bytes.result c.args.pass.now c.cas_bytes.new.pass)
+      c.of.ensures.value c.cas_bytes.ensures.writes;
 }

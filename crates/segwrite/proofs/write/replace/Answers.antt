@@ -4,4 +4,7 @@ use Rattle.segwrite.specs.Writes.{Writes}
 use Rattle.segwrite.proofs.write.replace.Goals as goal
 
 pub returns : goal.returns
-returns c = record { writes = subst (λ k. Writes c.args.board.now (Replace k c.args.value.now c.args.now) c.write.result.0 c.args.pass.now c.write.new.pass) c.of.ensures.key c.write.ensures.writes }
+returns c = record {
+  writes = subst (λ v. Writes c.args.board.now (Replace c.args.key.now v c.args.now) c.replace_bytes.result c.args.pass.now c.replace_bytes.new.pass)
+      c.of.ensures.value c.replace_bytes.ensures.writes;
+}

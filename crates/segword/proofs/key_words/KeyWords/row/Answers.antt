@@ -17,7 +17,7 @@ returns-then-this-gt-MOST_SPAN-clause-row c =
     let is_key : IsKey key = c.head-head.ensures.key in
     let front : c.copy_from_slice.new.self ≡ take at (key_words key) = c.copy_from_slice.ensures.after
     ∙ ap (take at) (sym (ap key_words (sym c.self.view_is) ∙ c.self.invariant.same_words)) in
-    let long : c.len.result ≡ length value = c.len.ensures in
+    let long : c.len.result ≡ length value = c.len.ensures.len in
     let back : c.copy_from_slice-then-this-gt-MOST_SPAN.new.self ≡ words_from VALUE_WORDS value 0 =
     c.copy_from_slice-then-this-gt-MOST_SPAN.ensures.after ∙ c.words.ensures.value in
     let made = λ (head : List ℕ) (n : ℕ) (tail : List ℕ).
@@ -33,7 +33,7 @@ returns-clause-row c =
     let is_key : IsKey key = subst IsKey c.self.view_is c.self.invariant.is_key in
     let is_value : IsValue value = c.words-2.ensures.valid in
     let front : c.copy_from_slice-2.new.self ≡ key_words key = c.copy_from_slice-2.ensures.after ∙ sym (ap key_words (sym c.self.view_is) ∙ c.self.invariant.same_words) in
-    let long : c.len-2.result ≡ length value = c.len-2.ensures in
+    let long : c.len-2.result ≡ length value = c.len-2.ensures.len in
     let back : c.copy_from_slice-3.new.self ≡ words_from VALUE_WORDS value 0 =
     c.copy_from_slice-3.ensures.after ∙ c.words-2.ensures.value in
     let made = λ (head : List ℕ) (n : ℕ) (tail : List ℕ).
