@@ -5,7 +5,7 @@ use crate::index::Index;
 use segbase::Pass;
 use segmodel::{DeleteAnswer, WriteAnswer};
 use segstore::RowRef;
-use segword::{Key, Value};
+use segword::{Key, Value, ValueBytes};
 
 impl Index {
     ghost use Rattle.segstore.specs.Words.{IsQuiet};
@@ -20,6 +20,22 @@ impl Index {
         ensures set { IsSetAnswer result }
     {
         segwrite::set(&self.board, pass, key, value, now)
+    }
+
+    /// The same, from where the value's bytes stand: they go straight into the words of the row.
+    pub fn set_bytes(
+        &self,
+        pass: &mut Pass,
+        key: &Key,
+        value: &ValueBytes<'_>,
+        now: u32,
+    ) -> WriteAnswer
+        requires quiet { IsQuiet (board_of self.now) pass.old }
+        ensures writes { Writes (board_of self.now) (Set key.now value.now now) result
+            pass.old pass.new }
+        ensures set { IsSetAnswer result }
+    {
+        segwrite::set_bytes(&self.board, pass, key, value, now)
     }
 
     /// Stores the value under the key, and tells which row the key had before.
@@ -40,6 +56,23 @@ impl Index {
         segwrite::set_and_tell(&self.board, pass, key, value, now)
     }
 
+    /// The same, from where the value's bytes stand.
+    #[inline(always)]
+    pub fn set_bytes_and_tell(
+        &self,
+        pass: &mut Pass,
+        key: &Key,
+        value: &ValueBytes<'_>,
+        now: u32,
+    ) -> (WriteAnswer, Option<RowRef>)
+        requires quiet { IsQuiet (board_of self.now) pass.old }
+        ensures writes { Writes (board_of self.now) (Set key.now value.now now) result.0
+            pass.old pass.new }
+        ensures set { IsSetAnswer result.0 }
+    {
+        segwrite::set_bytes_and_tell(&self.board, pass, key, value, now)
+    }
+
     /// Stores the value if the key is absent. Otherwise it returns NotStored.
     pub fn add(&self, pass: &mut Pass, key: &Key, value: &Value, now: u32) -> WriteAnswer
         requires quiet { IsQuiet (board_of self.now) pass.old }
@@ -49,6 +82,21 @@ impl Index {
         segwrite::add(&self.board, pass, key, value, now)
     }
 
+    /// The same, from where the value's bytes stand.
+    pub fn add_bytes(
+        &self,
+        pass: &mut Pass,
+        key: &Key,
+        value: &ValueBytes<'_>,
+        now: u32,
+    ) -> WriteAnswer
+        requires quiet { IsQuiet (board_of self.now) pass.old }
+        ensures writes { Writes (board_of self.now) (Add key.now value.now now) result
+            pass.old pass.new }
+    {
+        segwrite::add_bytes(&self.board, pass, key, value, now)
+    }
+
     /// Stores the value if the key is present. Otherwise it returns NotStored.
     pub fn replace(&self, pass: &mut Pass, key: &Key, value: &Value, now: u32) -> WriteAnswer
         requires quiet { IsQuiet (board_of self.now) pass.old }
@@ -56,6 +104,21 @@ impl Index {
             pass.old pass.new }
     {
         segwrite::replace(&self.board, pass, key, value, now)
+    }
+
+    /// The same, from where the value's bytes stand.
+    pub fn replace_bytes(
+        &self,
+        pass: &mut Pass,
+        key: &Key,
+        value: &ValueBytes<'_>,
+        now: u32,
+    ) -> WriteAnswer
+        requires quiet { IsQuiet (board_of self.now) pass.old }
+        ensures writes { Writes (board_of self.now) (Replace key.now value.now now) result
+            pass.old pass.new }
+    {
+        segwrite::replace_bytes(&self.board, pass, key, value, now)
     }
 
     /// Stores the value if the key is present and its bucket has the expected version.
@@ -73,6 +136,22 @@ impl Index {
             pass.old pass.new }
     {
         segwrite::cas(&self.board, pass, key, value, expected, now)
+    }
+
+    /// The same, from where the value's bytes stand.
+    pub fn cas_bytes(
+        &self,
+        pass: &mut Pass,
+        key: &Key,
+        value: &ValueBytes<'_>,
+        expected: u32,
+        now: u32,
+    ) -> WriteAnswer
+        requires quiet { IsQuiet (board_of self.now) pass.old }
+        ensures writes { Writes (board_of self.now) (Cas key.now value.now expected now) result
+            pass.old pass.new }
+    {
+        segwrite::cas_bytes(&self.board, pass, key, value, expected, now)
     }
 
     /// Takes the key out. A delete needs no row.
