@@ -3,6 +3,7 @@
 #![tactic(auto)]
 
 mod all;
+mod bytes;
 mod choosing;
 mod clearing;
 mod client;
@@ -35,7 +36,7 @@ pub use ring::own_ring;
 pub use segindex::{
     DeleteAnswer, GetAnswer, GetsAnswer, GetsIntoAnswer, Hold, HoldAnswer, Index, IndexStats,
     IntoAnswer, Key, MakeFault, Note, OutOfMemory, Pass, RowAnswer, Shape, ShapeFault, Share,
-    Value, WriteAnswer, hold_stays,
+    Value, ValueBytes, WriteAnswer, hold_stays,
 };
 pub use stats::Stats;
 pub use tally::Tally;

@@ -8,7 +8,7 @@ use crate::choosing::{choose, is_filled_fine, is_fine, is_outside};
 use crate::clearing::{clear_some, is_due};
 use crate::effort::Effort;
 use crate::lives::{FINE_PARTS, PARTS, deadline_by, window_for};
-use crate::put::{Order, PutAnswer, clear_after, put_by};
+use crate::put::PutAnswer;
 use crate::queues::{queues_of, tell_deleted, tell_stored};
 use crate::ring::own_ring;
 use crate::segments::{Policy, Segments, Window};
@@ -17,7 +17,7 @@ use crate::stats::Stats;
 use crate::tally::Tally;
 use segindex::{Index, IndexStats, Pass, RowRef};
 use segmodel::{DeleteAnswer, GetAnswer, GetsAnswer, WriteAnswer};
-use segword::{Key, Value, hash};
+use segword::{Key, Value, ValueBytes, hash};
 use std::alloc::{AllocError, Global};
 
 /// What a client has beside its index: a pass of it, the segments of the pass, its draws,
@@ -171,7 +171,7 @@ impl Member {
 
     // The row that the key has, as it seems. Only queues need to know.
     #[inline(always)]
-    fn row_of(&self, index: &Index, key: &Key) -> Option<RowRef> {
+    pub(crate) fn row_of(&self, index: &Index, key: &Key) -> Option<RowRef> {
         if self.segments.queues.is_none() {
             return None;
         }
@@ -181,7 +181,7 @@ impl Member {
     // Before a write: the pass stores into an open segment with a deadline that is asked, if it has
     // one. The write can be made unless what it stores into then has another deadline.
     #[inline(always)]
-    fn begin_write(&mut self, index: &Index) -> bool
+    pub(crate) fn begin_write(&mut self, index: &Index) -> bool
         requires member { IsMember index.now self.old }
         ensures member { IsMember index.now self.new }
         ensures begins { BeginsWrite result (board_of index.now) self.old self.new }
@@ -221,7 +221,13 @@ impl Member {
 
     // Counts a write that was answered so, and what is cleared then.
     #[inline(always)]
-    fn end_write(&mut self, index: &Index, key: &Key, told: WriteAnswer, replaced: Option<RowRef>)
+    pub(crate) fn end_write(
+        &mut self,
+        index: &Index,
+        key: &Key,
+        told: WriteAnswer,
+        replaced: Option<RowRef>,
+    )
         requires member { IsMember index.now self.old }
         ensures member { IsMember index.now self.new }
         ensures ends { EndsWrite told (board_of index.now) self.old self.new }
@@ -234,7 +240,7 @@ impl Member {
     // A write that can't be made has no room.
     #[cold]
     #[inline(never)]
-    fn refuse_write(&mut self, index: &Index, key: &Key) -> WriteAnswer
+    pub(crate) fn refuse_write(&mut self, index: &Index, key: &Key) -> WriteAnswer
         requires member { IsMember index.now self.old }
         ensures member { IsMember index.now self.new }
         ensures refuses { result ≡ NoRoom }
@@ -245,6 +251,7 @@ impl Member {
     }
 
     /// As `Client::set`.
+    #[inline(always)]
     pub fn set(&mut self, index: &Index, key: &Key, value: &Value) -> WriteAnswer
         requires member { IsMember index.now self.old }
         ensures member { IsMember index.now self.new }
@@ -252,60 +259,40 @@ impl Member {
             (board_of index.now) self.old self.new }
         ensures set { IsSetAnswer result }
     {
-        if !self.begin_write(index) {
-            return self.refuse_write(index, key);
-        }
-        let (told, replaced) = index.set_and_tell(&mut self.pass, key, value, self.clock);
-        self.end_write(index, key, told, replaced);
-        told
+        self.set_bytes(index, key, &ValueBytes::of(value))
     }
 
     /// As `Client::add`.
+    #[inline(always)]
     pub fn add(&mut self, index: &Index, key: &Key, value: &Value) -> WriteAnswer
         requires member { IsMember index.now self.old }
         ensures member { IsMember index.now self.new }
         ensures writes { MakesWrite (Add key.now value.now) result
             (board_of index.now) self.old self.new }
     {
-        if !self.begin_write(index) {
-            return self.refuse_write(index, key);
-        }
-        let replaced = self.row_of(index, key);
-        let told = index.add(&mut self.pass, key, value, self.clock);
-        self.end_write(index, key, told, replaced);
-        told
+        self.add_bytes(index, key, &ValueBytes::of(value))
     }
 
     /// As `Client::replace`.
+    #[inline(always)]
     pub fn replace(&mut self, index: &Index, key: &Key, value: &Value) -> WriteAnswer
         requires member { IsMember index.now self.old }
         ensures member { IsMember index.now self.new }
         ensures writes { MakesWrite (Replace key.now value.now) result
             (board_of index.now) self.old self.new }
     {
-        if !self.begin_write(index) {
-            return self.refuse_write(index, key);
-        }
-        let replaced = self.row_of(index, key);
-        let told = index.replace(&mut self.pass, key, value, self.clock);
-        self.end_write(index, key, told, replaced);
-        told
+        self.replace_bytes(index, key, &ValueBytes::of(value))
     }
 
     /// As `Client::cas`.
+    #[inline(always)]
     pub fn cas(&mut self, index: &Index, key: &Key, value: &Value, expected: u32) -> WriteAnswer
         requires member { IsMember index.now self.old }
         ensures member { IsMember index.now self.new }
         ensures writes { MakesWrite (Cas key.now value.now expected) result
             (board_of index.now) self.old self.new }
     {
-        if !self.begin_write(index) {
-            return self.refuse_write(index, key);
-        }
-        let replaced = self.row_of(index, key);
-        let told = index.cas(&mut self.pass, key, value, expected, self.clock);
-        self.end_write(index, key, told, replaced);
-        told
+        self.cas_bytes(index, key, &ValueBytes::of(value), expected)
     }
 
     /// As `Client::delete`.
@@ -337,7 +324,7 @@ impl Member {
     // How room is made for what is put now for this time. While many segments are free,
     // or two fifths of what is evicted have expired, those are opened that have finer deadlines.
     #[inline(always)]
-    fn policy_for(&self, index: &Index, time: u32) -> Policy
+    pub(crate) fn policy_for(&self, index: &Index, time: u32) -> Policy
         requires member { IsMember index.now self.now }
         ensures { IsPolicyFor time self.now result }
     {
@@ -409,14 +396,6 @@ impl Member {
         ensures puts { PutsFor time_to_live key.now value.now result
             (board_of index.now) self.old self.new }
     {
-        let policy = self.policy_for(index, time_to_live);
-        let order = Order { key, value, policy };
-        choose(index, &mut self.pass, &self.segments, policy.window);
-        let (told, effort) = put_by(index, &mut self.pass, &mut self.segments, order);
-        self.stats.count_effort(effort);
-        let cleared = clear_after(index, &mut self.pass, &mut self.segments, policy, told);
-        self.stats.count_effort(cleared);
-        self.stats.count(Tally::of_put(told));
-        told
+        self.put_bytes_for(index, key, &ValueBytes::of(value), time_to_live)
     }
 }

@@ -21,7 +21,7 @@ use crate::segments::{Policy, Segments};
 use crate::spans::make_room_for;
 use segindex::{Index, Pass, RowRef};
 use segmodel::WriteAnswer;
-use segword::{Key, Value};
+use segword::{Key, ValueBytes};
 
 /// The answer to a put.
 #[derive(Clone, Copy, Debug, PartialEq, Eq)]
@@ -43,7 +43,7 @@ pub enum PutAnswer {
 #[derive(Clone, Copy)]
 pub(crate) struct Order<'p> {
     pub(crate) key: &'p Key,
-    pub(crate) value: &'p Value,
+    pub(crate) value: &'p ValueBytes<'p>,
     pub(crate) policy: Policy,
 }
 
@@ -62,7 +62,12 @@ fn set_once(
     ensures writes { Writes (board_of index.now) (request_of order.entry) result pass.old pass.new }
     ensures set { IsSetAnswer result }
 {
-    let (told, before) = index.set_and_tell(pass, order.key, order.value, order.policy.moment);
+    let (told, before) = index.set_bytes_and_tell(
+        pass,
+        order.key,
+        order.value,
+        order.policy.moment,
+    );
     *replaced = before;
     told
 }

@@ -20,7 +20,7 @@ use crate::room::{
 };
 use crate::segments::{Policy, Segments};
 use segindex::{Index, Pass};
-use segword::{MOST_SPAN, span_of};
+use segword::{MOST_SPAN, span_of_bytes};
 
 // Whether so many rows of a segment are left, of which these are used.
 #[inline(always)]
@@ -123,7 +123,7 @@ pub(crate) fn make_room_for(
     if MOST_SPAN == 1 {
         return make_row_by(index, pass, segments, order.policy);
     }
-    let rows = span_of(order.key, order.value);
+    let rows = span_of_bytes(order.key, order.value);
     if index.shape().rows < rows {
         return (false, Effort::none());
     }

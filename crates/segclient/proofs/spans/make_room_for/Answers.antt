@@ -10,7 +10,7 @@ pub returns-then-shape-rows-clause-room : goal.returns-then-shape-rows-clause-ro
 returns-then-shape-rows-clause-room c =
     let b = board_of c.args.index.now in
     let policy = c.args.order.policy in
-    let rows = c.span_of-rows.ensures.rows in
+    let rows = c.span_of_bytes-rows.ensures.rows in
     let long = c.if-shape-rows.true in
     let shape = ap (λ s. s.rows) c.shape.ensures in
     room_too_long b policy.cutoff policy.deadline (most_for_room b.shape) (rows_of (request_of c.args.order)) c.none.result c.args.pass.now (ne_eqb most_span 1 c.if-this-eq-MOST_SPAN.false)
