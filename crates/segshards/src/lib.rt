@@ -5,6 +5,7 @@
 
 mod ahead;
 mod budget;
+mod bytes;
 mod cache;
 mod client;
 mod closing;
@@ -30,7 +31,7 @@ pub use plan::ShardPlan;
 pub use segclient::{
     DeleteAnswer, GetAnswer, GetsAnswer, GetsIntoAnswer, Hold, HoldAnswer, Index, IndexStats,
     IntoAnswer, Key, MakeFault, Note, OutOfMemory, Pass, PutAnswer, Shape, ShapeFault, Stats,
-    Value, WriteAnswer,
+    Value, ValueBytes, WriteAnswer,
 };
 pub use shard::{MOST_SHARDS, shard_of};
 pub use stats::{no_stats, stats_sum, table_sum};

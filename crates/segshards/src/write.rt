@@ -1,6 +1,6 @@
 //! How a client of all shards writes.
 use crate::client::Client;
-use segclient::{DeleteAnswer, Key, PutAnswer, Value, WriteAnswer};
+use segclient::{DeleteAnswer, Key, PutAnswer, Value, ValueBytes, WriteAnswer};
 
 impl<'c> Client<'c> {
     ghost use Rattle.segmodel.specs.declared.request.Request.TheVariants.{Set, Add, Replace, Cas};
@@ -16,10 +16,7 @@ impl<'c> Client<'c> {
         ensures puts { MakesCall key.now (Puts key.now value.now result) self.old self.new }
         ensures same { IsSame self.old self.new }
     {
-        let place = self.place_of(key);
-        let shard = &mut self.shards[place];
-        shard.set_now(self.clock);
-        shard.put(key, value)
+        self.put_bytes(key, &ValueBytes::of(value))
     }
 
     /// Stores the value under the key as `put` does, but for this time to live in place
@@ -30,10 +27,7 @@ impl<'c> Client<'c> {
             self.old self.new }
         ensures same { IsSame self.old self.new }
     {
-        let place = self.place_of(key);
-        let shard = &mut self.shards[place];
-        shard.set_now(self.clock);
-        shard.put_for(key, value, time_to_live)
+        self.put_bytes_for(key, &ValueBytes::of(value), time_to_live)
     }
 
     /// Stores the value under the key. It makes no room, but `put` does.
@@ -43,10 +37,7 @@ impl<'c> Client<'c> {
         ensures set { IsSetAnswer result }
         ensures same { IsSame self.old self.new }
     {
-        let place = self.place_of(key);
-        let shard = &mut self.shards[place];
-        shard.set_now(self.clock);
-        shard.set(key, value)
+        self.set_bytes(key, &ValueBytes::of(value))
     }
 
     /// Stores the value if the key is absent. Otherwise it returns NotStored.
@@ -55,10 +46,7 @@ impl<'c> Client<'c> {
             self.old self.new }
         ensures same { IsSame self.old self.new }
     {
-        let place = self.place_of(key);
-        let shard = &mut self.shards[place];
-        shard.set_now(self.clock);
-        shard.add(key, value)
+        self.add_bytes(key, &ValueBytes::of(value))
     }
 
     /// Stores the value if the key is present. Otherwise it returns NotStored.
@@ -67,10 +55,7 @@ impl<'c> Client<'c> {
             self.old self.new }
         ensures same { IsSame self.old self.new }
     {
-        let place = self.place_of(key);
-        let shard = &mut self.shards[place];
-        shard.set_now(self.clock);
-        shard.replace(key, value)
+        self.replace_bytes(key, &ValueBytes::of(value))
     }
 
     /// Stores the value if the key is present and its bucket has the expected version.
@@ -80,10 +65,7 @@ impl<'c> Client<'c> {
             self.old self.new }
         ensures same { IsSame self.old self.new }
     {
-        let place = self.place_of(key);
-        let shard = &mut self.shards[place];
-        shard.set_now(self.clock);
-        shard.cas(key, value, expected)
+        self.cas_bytes(key, &ValueBytes::of(value), expected)
     }
 
     /// Takes the key out.
