@@ -6,7 +6,8 @@ ghost use Rattle.segcache.specs.Made.{WritesWhen};
 use crate::guest::Guest;
 use crate::when::When;
 use segclient::{
-    DeleteAnswer, GetsIntoAnswer, Index, IntoAnswer, Key, Member, PutAnswer, Value, WriteAnswer,
+    DeleteAnswer, GetsIntoAnswer, Index, IntoAnswer, Key, Member, PutAnswer, ValueBytes,
+    WriteAnswer,
 };
 
 impl Guest {
@@ -33,25 +34,38 @@ impl Guest {
     }
 
     /// Stores the value under the key, and makes room for it if there is none.
-    pub(crate) fn put(&mut self, key: &Key, value: &Value, now: u32) -> PutAnswer
+    pub(crate) fn put(&mut self, key: &Key, value: &ValueBytes<'_>, now: u32) -> PutAnswer
         ensures { MakesCall (At now (Puts key.now value.now result)) self.old self.new }
     {
         self.member.set_now(now);
-        self.member.put(self.share.index(), key, value)
+        self.member.put_bytes(self.share.index(), key, value)
     }
 
     /// Stores the value under the key as `put` does, but for this time to live.
-    pub(crate) fn put_for(&mut self, key: &Key, value: &Value, seconds: u32, now: u32) -> PutAnswer
+    pub(crate) fn put_for(
+        &mut self,
+        key: &Key,
+        value: &ValueBytes<'_>,
+        seconds: u32,
+        now: u32,
+    ) -> PutAnswer
         ensures { MakesCall (At now (PutsFor seconds key.now value.now result))
             self.old self.new }
     {
         self.member.set_now(now);
-        self.member.put_for(self.share.index(), key, value, seconds)
+        self.member
+            .put_bytes_for(self.share.index(), key, value, seconds)
     }
 
     /// Stores the value under the key, if that is to be, and makes no room.
     #[inline(always)]
-    pub(crate) fn write(&mut self, when: When, key: &Key, value: &Value, now: u32) -> WriteAnswer
+    pub(crate) fn write(
+        &mut self,
+        when: When,
+        key: &Key,
+        value: &ValueBytes<'_>,
+        now: u32,
+    ) -> WriteAnswer
         ensures { MakesCall (At now (WritesWhen when key.now value.now result)) self.old self.new }
     {
         self.member.set_now(now);
@@ -74,7 +88,7 @@ fn write_when(
     index: &Index,
     when: When,
     key: &Key,
-    value: &Value,
+    value: &ValueBytes<'_>,
 ) -> WriteAnswer
     requires member { IsMember index.now member.old }
     ensures member { IsMember index.now member.new }
@@ -82,9 +96,9 @@ fn write_when(
         (board_of index.now) member.old member.new }
 {
     match when {
-        When::Always => member.set(index, key, value),
-        When::IfAbsent => member.add(index, key, value),
-        When::IfPresent => member.replace(index, key, value),
-        When::IfVersion(version) => member.cas(index, key, value, version),
+        When::Always => member.set_bytes(index, key, value),
+        When::IfAbsent => member.add_bytes(index, key, value),
+        When::IfPresent => member.replace_bytes(index, key, value),
+        When::IfVersion(version) => member.cas_bytes(index, key, value, version),
     }
 }

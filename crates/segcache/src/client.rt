@@ -5,7 +5,9 @@ ghost use Rattle.segcache.specs.Wants.{put_wants, write_wants};
 
 use crate::guest::Guest;
 use crate::when::When;
-use segclient::{DeleteAnswer, GetsIntoAnswer, IntoAnswer, Key, PutAnswer, Value, WriteAnswer};
+use segclient::{
+    DeleteAnswer, GetsIntoAnswer, IntoAnswer, Key, PutAnswer, ValueBytes, WriteAnswer,
+};
 use segshards::shard_of;
 use segword::hash;
 
@@ -79,7 +81,7 @@ impl SharedClient {
     }
 
     /// Stores the value under the key, and makes room for it in its shard if there is none.
-    pub(crate) fn put(&mut self, key: &Key, value: &Value, now: u32) -> PutAnswer
+    pub(crate) fn put(&mut self, key: &Key, value: &ValueBytes<'_>, now: u32) -> PutAnswer
         ensures calls { CallsKey key.now (At now (Puts key.now value.now result))
             self.old self.new }
         ensures wants { self.new.wants
@@ -94,7 +96,13 @@ impl SharedClient {
 
     /// Stores the value under the key as `put` does, but for this time to live in place
     /// of the client's own.
-    pub(crate) fn put_for(&mut self, key: &Key, value: &Value, seconds: u32, now: u32) -> PutAnswer
+    pub(crate) fn put_for(
+        &mut self,
+        key: &Key,
+        value: &ValueBytes<'_>,
+        seconds: u32,
+        now: u32,
+    ) -> PutAnswer
         ensures calls { CallsKey key.now (At now (PutsFor seconds key.now value.now result))
             self.old self.new }
         ensures wants { self.new.wants
@@ -109,7 +117,13 @@ impl SharedClient {
 
     /// Stores the value under the key, if that is to be, and makes no room.
     #[inline(always)]
-    pub(crate) fn write(&mut self, when: When, key: &Key, value: &Value, now: u32) -> WriteAnswer
+    pub(crate) fn write(
+        &mut self,
+        when: When,
+        key: &Key,
+        value: &ValueBytes<'_>,
+        now: u32,
+    ) -> WriteAnswer
         ensures calls { CallsKey key.now (At now (WritesWhen when key.now value.now result))
             self.old self.new }
         ensures wants { self.new.wants

@@ -8,7 +8,7 @@ use crate::handle::Handle;
 use crate::kept::Kept;
 use crate::status::Status;
 use crate::when::When;
-use segclient::{DeleteAnswer, Key, PutAnswer, Value, WriteAnswer};
+use segclient::{DeleteAnswer, Key, PutAnswer, ValueBytes, WriteAnswer};
 use std::alloc::Global;
 
 // The status of an answer to a put.
@@ -77,7 +77,7 @@ fn put(kept: &mut Kept, key: &[u8], value: &[u8], now: u32) -> Status
     let Some(key) = Key::new(key) else {
         return Status::BadKey;
     };
-    let Some(value) = Value::new(value) else {
+    let Some(value) = ValueBytes::new(value) else {
         return Status::BadValue;
     };
     of_put(client.put(&key, &value, now))
@@ -114,7 +114,7 @@ fn put_for(kept: &mut Kept, key: &[u8], value: &[u8], seconds: u32, now: u32) ->
     let Some(key) = Key::new(key) else {
         return Status::BadKey;
     };
-    let Some(value) = Value::new(value) else {
+    let Some(value) = ValueBytes::new(value) else {
         return Status::BadValue;
     };
     of_put(client.put_for(&key, &value, seconds, now))
@@ -212,7 +212,7 @@ fn write(kept: &mut Kept, when: When, key: &[u8], value: &[u8], now: u32) -> Sta
     let Some(key) = Key::new(key) else {
         return Status::BadKey;
     };
-    let Some(value) = Value::new(value) else {
+    let Some(value) = ValueBytes::new(value) else {
         return Status::BadValue;
     };
     of_write(client.write(when, &key, &value, now))

@@ -10,10 +10,10 @@ use Rattle.segcache.proofs.guest.Guest.put.Goals as goal
 pub invariant_of-self-clause-row : goal.invariant_of-self-clause-row
 invariant_of-self-clause-row c =
     let self = c.args.self.now in
-    row_stays (shape_of self.share.index.value) self.member.pass c.put.new.self.pass self.share.held (c.put.ensures.puts.memo ∙ ap memo c.set_now.ensures.sets.rest.pass) self.row
+    row_stays (shape_of self.share.index.value) self.member.pass c.put_bytes.new.self.pass self.share.held (c.put_bytes.ensures.puts.memo ∙ ap memo c.set_now.ensures.sets.rest.pass) self.row
 
 pub returns : goal.returns
 returns c =
-    let Made = Puts c.args.key.now c.args.value.now c.put.result in
+    let Made = Puts c.args.key.now c.args.value.now c.put_bytes.result in
     makes_call (At c.args.now Made) _ c.args.self.now _ c.index.ensures
-    (at_moment c.args.now Made _ c.args.self.now.member c.set_now.new.self c.put.new.self c.set_now.ensures.sets c.put.ensures.puts) refl refl
+    (at_moment c.args.now Made _ c.args.self.now.member c.set_now.new.self c.put_bytes.new.self c.set_now.ensures.sets c.put_bytes.ensures.puts) refl refl

@@ -10,12 +10,12 @@ use Rattle.segcache.proofs.guest.Guest.put_for.Goals as goal
 pub invariant_of-self-clause-row : goal.invariant_of-self-clause-row
 invariant_of-self-clause-row c =
     let self = c.args.self.now in
-    row_stays (shape_of self.share.index.value) self.member.pass c.put_for.new.self.pass self.share.held
-    (c.put_for.ensures.puts.memo ∙ ap memo c.set_now.ensures.sets.rest.pass) self.row
+    row_stays (shape_of self.share.index.value) self.member.pass c.put_bytes_for.new.self.pass self.share.held
+    (c.put_bytes_for.ensures.puts.memo ∙ ap memo c.set_now.ensures.sets.rest.pass) self.row
 
 pub returns : goal.returns
 returns c =
-    let Made = PutsFor c.args.seconds c.args.key.now c.args.value.now c.put_for.result in
+    let Made = PutsFor c.args.seconds c.args.key.now c.args.value.now c.put_bytes_for.result in
     makes_call (At c.args.now Made) _ c.args.self.now _ c.index.ensures
-    (at_moment c.args.now Made _ c.args.self.now.member c.set_now.new.self c.put_for.new.self
-    c.set_now.ensures.sets c.put_for.ensures.puts) refl refl
+    (at_moment c.args.now Made _ c.args.self.now.member c.set_now.new.self c.put_bytes_for.new.self
+    c.set_now.ensures.sets c.put_bytes_for.ensures.puts) refl refl
