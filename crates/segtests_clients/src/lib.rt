@@ -64,3 +64,5 @@ mod shared_keys;
 mod timely_writes;
 #[cfg(test)]
 mod updates;
+#[cfg(test)]
+mod values_in_place;

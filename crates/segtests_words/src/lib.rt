@@ -23,4 +23,6 @@ mod storing;
 #[cfg(test)]
 mod table;
 #[cfg(test)]
+mod values_in_place;
+#[cfg(test)]
 mod words;
