@@ -44,33 +44,23 @@ impl Kinds {
         }
     }
 
-    // With so many rows more of a kind.
-    pub(crate) fn with(self, rows: u32, is_update: bool) -> Kinds {
+    // So many rows more of a kind.
+    #[inline(always)]
+    pub(crate) fn add(&mut self, rows: u32, is_update: bool) {
         if is_update {
-            Kinds {
-                updates: self.updates.saturating_add(short(rows)),
-                ..self
-            }
+            self.updates = self.updates.saturating_add(short(rows));
         } else {
-            Kinds {
-                others: self.others.saturating_add(short(rows)),
-                ..self
-            }
+            self.others = self.others.saturating_add(short(rows));
         }
     }
 
-    // With so many rows less of a kind.
-    fn without(self, rows: u32, is_update: bool) -> Kinds {
+    // So many rows less of a kind.
+    #[inline(always)]
+    fn take(&mut self, rows: u32, is_update: bool) {
         if is_update {
-            Kinds {
-                updates: self.updates.saturating_sub(short(rows)),
-                ..self
-            }
+            self.updates = self.updates.saturating_sub(short(rows));
         } else {
-            Kinds {
-                others: self.others.saturating_sub(short(rows)),
-                ..self
-            }
+            self.others = self.others.saturating_sub(short(rows));
         }
     }
 
@@ -221,10 +211,11 @@ impl Live {
 
     // So many rows more of the segment were used. The pass stored an item into them, or moved one
     // there.
+    #[inline(always)]
     pub(crate) fn were_used(&mut self, at: u32, rows: u32, is_stored: bool, is_update: bool) {
         if let Some(place) = self.segments.get_mut(at as usize) {
             place.used = place.used.wrapping_add(rows);
-            place.alive = place.alive.with(rows, is_update);
+            place.alive.add(rows, is_update);
         }
         if is_stored {
             self.stored = self.stored.wrapping_add(rows);
@@ -232,9 +223,10 @@ impl Live {
     }
 
     // So many rows of the segment died by a write of the pass.
+    #[inline(always)]
     pub(crate) fn have_died(&mut self, at: u32, rows: u32, is_update: bool) {
         if let Some(place) = self.segments.get_mut(at as usize) {
-            place.alive = place.alive.without(rows, is_update);
+            place.alive.take(rows, is_update);
         }
     }
 

@@ -15,6 +15,11 @@ const NEED_OF_UPDATE: u8 = 0;
 // that of its last row.
 const GOES_ON: u8 = u8::MAX;
 
+// Whether an item that needs so much was stored in place of another, and seldom moved since.
+pub(crate) fn is_of_update(need: u8) -> bool {
+    need < NEED_OF_RECENT
+}
+
 // The needs of the rows of a pass's segments, and as many marks of keys.
 #[derive(Drop)]
 pub(crate) struct Needs {
@@ -50,7 +55,7 @@ impl Needs {
 
     // Whether the item of the row was stored in place of another, and seldom moved since.
     pub(crate) fn is_update(&self, segment: u32, row: u32) -> bool {
-        self.of(segment, row) < NEED_OF_RECENT
+        is_of_update(self.of(segment, row))
     }
 
     // The last row of the item that has this one first.
@@ -70,12 +75,16 @@ impl Needs {
         }
     }
 
-    // From now on the item from the first row to the last one needs so much.
-    pub(crate) fn set(&mut self, segment: u32, first: u32, last: u32, need: u8) {
+    // From now on the item that has this row last needs so much.
+    pub(crate) fn set(&mut self, segment: u32, last: u32, need: u8) {
+        self.set_row(segment, last, need.min(GOES_ON - 1));
+    }
+
+    // The item of the first row goes on up to the last one.
+    pub(crate) fn go_on(&mut self, segment: u32, first: u32, last: u32) {
         for row in first..last {
             self.set_row(segment, row, GOES_ON);
         }
-        self.set_row(segment, last, need.min(GOES_ON - 1));
     }
 
     // What an item needs whose key, of this hash, is put now. A key that is new is marked.

@@ -6,7 +6,7 @@ ghost use Rattle.std.specs.Prelude.{◌≤◌};
 
 use crate::lists::{Lists, Queue};
 use crate::live::{ALL, Live};
-use crate::needs::Needs;
+use crate::needs::{Needs, is_of_update};
 use crate::open::Open;
 use crate::source::Clearing;
 use std::alloc::{AllocError, Global};
@@ -189,16 +189,28 @@ impl Queues {
 
     // An item with this need has the next rows of the segment, up to this one. If no row is left
     // then, the segment is open no more.
+    #[inline(always)]
     fn was_used(&mut self, at: Place, need: u8, is_stored: bool) {
-        let first = self.live.used(at.segment);
-        self.needs.set(at.segment, first, at.row, need);
-        let rows = at.row.saturating_add(1).saturating_sub(first);
-        self.longest = self.longest.max(rows);
-        let is_update = self.needs.is_update(at.segment, at.row);
-        self.live.were_used(at.segment, rows, is_stored, is_update);
-        if self.live.used(at.segment) >= self.rows {
+        self.needs.set(at.segment, at.row, need);
+        let is_update = is_of_update(need);
+        if self.live.used(at.segment) == at.row {
+            self.live.were_used(at.segment, 1, is_stored, is_update);
+        } else {
+            self.were_used(at, is_stored, is_update);
+        }
+        if at.row.wrapping_add(1) >= self.rows {
             self.was_closed(at.segment);
         }
+    }
+
+    // An item has the next rows of the segment, up to this one: more than one.
+    #[inline(never)]
+    fn were_used(&mut self, at: Place, is_stored: bool, is_update: bool) {
+        let first = self.live.used(at.segment);
+        self.needs.go_on(at.segment, first, at.row);
+        let rows = at.row.saturating_add(1).saturating_sub(first);
+        self.longest = self.longest.max(rows);
+        self.live.were_used(at.segment, rows, is_stored, is_update);
     }
 
     /// An item of the source moved, which goes up to a row there, into the next rows of another
@@ -218,6 +230,17 @@ impl Queues {
 
     /// The item that has this row first was replaced or deleted by the pass.
     pub fn has_died(&mut self, at: Place) {
+        if self.longest == 1 {
+            let is_update = self.needs.is_update(at.segment, at.row);
+            self.live.have_died(at.segment, 1, is_update);
+        } else {
+            self.have_died(at);
+        }
+    }
+
+    // All rows died of the item that has this one first.
+    #[inline(never)]
+    fn have_died(&mut self, at: Place) {
         let last = self.needs.last_of(at.segment, at.row);
         let rows = last.saturating_sub(at.row).saturating_add(1);
         let is_update = self.needs.is_update(at.segment, last);
@@ -227,6 +250,9 @@ impl Queues {
     // How many rows of the segment can have items: all of them, or those that are used, if the
     // longest item doesn't fit into the others.
     pub(crate) fn rows_in(&self, segment: u32) -> u32 {
+        if self.longest == 1 {
+            return self.rows;
+        }
         let used = self.live.used(segment);
         if self.rows.saturating_sub(used) < self.longest {
             used

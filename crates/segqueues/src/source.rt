@@ -429,12 +429,12 @@ impl Queues {
 
     /// The next rows of the source are done, up to this one. Their item was alive, or wasn't.
     pub fn was_done(&mut self, at: Place, is_alive: bool) {
-        let looked = at.row.saturating_add(1);
+        let looked = at.row.wrapping_add(1);
         let rows = looked.saturating_sub(self.clearing.looked);
         self.clearing.looked = looked;
         if is_alive {
             let is_update = self.needs.is_update(at.segment, at.row);
-            self.clearing.alive = self.clearing.alive.with(rows, is_update);
+            self.clearing.alive.add(rows, is_update);
         }
     }
 
