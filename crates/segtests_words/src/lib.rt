@@ -26,3 +26,5 @@ mod table;
 mod values_in_place;
 #[cfg(test)]
 mod words;
+#[cfg(test)]
+mod worked_spans;
