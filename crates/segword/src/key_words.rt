@@ -46,6 +46,10 @@ impl KeyWords {
     {
         let mut words = [0; HEAD_WORDS];
         words[0] = key.as_bytes().len() as u64;
+        if MOST_SPAN > 1 {
+            key.write_words(&mut words[1..]);
+            return KeyWords { words };
+        }
         words[1..].copy_from_slice(&key.words());
         KeyWords { words }
     }
