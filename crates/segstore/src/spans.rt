@@ -45,6 +45,9 @@ pub(crate) fn load_place(board: &Board, pass: &mut Pass, at: RowPlace, place: u3
     if MOST_SPAN == 1 {
         return board.row_load_at(pass, at, place as u8);
     }
+    if place < ROW {
+        return board.row_load_at(pass, at, place as u8);
+    }
     let behind = place / ROW;
     if board.rows_behind(at) <= behind {
         return 0;
