@@ -16,6 +16,7 @@ impl Guest {
     ghost use Rattle.segcache.specs.Guest.{At, MakesCall};
 
     /// The value under a key, which goes to the front of a buffer, if that has room for it.
+    #[inline(always)]
     pub(crate) fn get_into(&mut self, key: &Key, now: u32, bytes: &mut [u8]) -> IntoAnswer
         ensures { MakesCall (At now (GetsInto key.now result bytes.old bytes.new))
             self.old self.new }
@@ -25,6 +26,7 @@ impl Guest {
     }
 
     /// The value under a key, with the version of its bucket. The value goes to the buffer so, too.
+    #[inline(always)]
     pub(crate) fn gets_into(&mut self, key: &Key, now: u32, bytes: &mut [u8]) -> GetsIntoAnswer
         ensures { MakesCall (At now (GetsVersionInto key.now result bytes.old bytes.new))
             self.old self.new }
