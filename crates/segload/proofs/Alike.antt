@@ -1,6 +1,6 @@
 -- The model serves no command of a load by the frequencies of items: what it serves in one state it serves so in each that differs in them alone.
-use Rattle.std.proofs.Common.{◌≡◌, ℕ, ◌&&◌, ◌++◌, not, Bool, true, false, cond, eqb, List, [], ◌∷◌, Option, Some, None, refl, ap, subst, ◌∙◌, MatchBool, MatchOption}
-use Rattle.segword.specs.Words.{Shape}
+use Rattle.std.proofs.Common.{◌≡◌, ℕ, ◌==◌, ◌&&◌, ◌++◌, not, Bool, true, false, cond, eqb, List, [], ◌∷◌, Option, Some, None, refl, ap, replicate, subst, ◌∙◌, MatchBool, MatchOption}
+use Rattle.segword.specs.Words.{Shape, span_of}
 use Rattle.segmodel.specs.declared.answer.Answer.TheVariants as answer
 use Rattle.segmodel.specs.declared.answer.Command.{Command}
 use Rattle.segmodel.specs.declared.answer.Command.TheVariants as command
@@ -11,10 +11,10 @@ use Rattle.segmodel.specs.declared.answer.WriteAnswer.TheVariants as write
 use Rattle.segmodel.specs.declared.answer.SegState.TheVariants as segment_is
 use Rattle.segmodel.specs.declared.request.Request.TheVariants as request
 use Rattle.segmodel.specs.declared.request.Reply.TheVariants as reply
-use Rattle.segmodel.specs.Words.{after_hit, after_refill, after_reply, Answer, Cached, chained, DeleteAnswer, EvictAnswer, Evicts, Filling, is_in, is_locked, is_out_of_rows, is_own, IsGiven, key_of}
+use Rattle.segmodel.specs.Words.{after_hit, after_refill, after_reply, Answer, Cached, chained, DeleteAnswer, EvictAnswer, Evicts, Filling, is_in, is_locked, is_own, IsGiven, key_of}
 use Rattle.segmodel.specs.Words.{lacks_word, may_chain, may_go, placed, present, raised, raised_in, refill_answer, RefillAnswer, reply_in, reply_of_delete, reply_of_write, Reply, Request}
 use Rattle.segmodel.specs.Words.{SegState, Serves, ServesDelete, ServesEvict, ServesStore, State, stored, taken_out, value_of, with_at, with_filling, with_key, WriteAnswer, bucket_of}
-use Rattle.segmodel.specs.Serving.{IsReplied, refusal}
+use Rattle.segmodel.specs.Serving.{IsReplied, lacks_rows, refusal, with_rows}
 use Rattle.segsolo.specs.Alone.{IsSameButFrequencies, with_frequencies}
 
 -- a segment whose items have other frequencies
@@ -48,11 +48,33 @@ module _ (shape : Shape) (f : ℕ → List ℕ) (s : State) where
 
   -- ---- what is left
 
+  -- these frequencies, and those of an item that takes so many rows more
+  abbrev with_more : ℕ → List ℕ → List ℕ
+  with_more rows before = cond (rows == 1) (before ++ 1 ∷ []) (before ++ replicate rows 1)
+
+  abbrev several : ℕ → List ℕ → Filling → Filling
+  several rows key before = record before { keys = before.keys ++ replicate rows key; frequencies = before.frequencies ++ replicate rows 1 }
+
+  rows_as : (rows : ℕ) (key : List ℕ) (filling : Filling) (g : List ℕ) → with_rows rows key 1 (other filling g) ≡ other (with_rows rows key 1 filling) (with_more rows g)
+  rows_as rows key filling g = by (rows == 1)
+    where
+      by : (one : Bool)
+          → ◌≡◌ {A = Filling} (cond one (with_key key 1 (other filling g)) (several rows key (other filling g)))
+          (other (cond one (with_key key 1 filling) (several rows key filling)) (cond one (g ++ 1 ∷ []) (g ++ replicate rows 1)))
+      by true = refl
+      by false = refl
+
+  placed_at : (rows : ℕ) (key : List ℕ) (segment n : ℕ) → with_at old.filling segment (with_rows rows key 1 (old.filling segment)) n
+      ≡ other (with_at s.filling segment (with_rows rows key 1 (s.filling segment)) n) (new_at segment (with_more rows (f segment)) n)
+  placed_at rows key segment n =
+      ap (λ (filling : Filling). with_at old.filling segment filling n) (rows_as rows key (s.filling segment) (f segment))
+      ∙ at_place segment (with_rows rows key 1 (s.filling segment)) (with_more rows (f segment)) n
+
   -- a state that goes on from one with these frequencies is one that goes on from the other, but for frequencies
   placed_as : (key value : List ℕ) (segment : ℕ) → IsSameButFrequencies (placed shape key value segment s) (placed shape key value segment old)
   placed_as key value segment =
-      let g : List ℕ = f segment ++ 1 ∷ [] in
-      (new_at segment g, λ i. record (placed shape key value segment s) { filling = λ n. at_place segment (with_key key 1 (s.filling segment)) g n i })
+      let rows : ℕ = span_of key value in
+      (new_at segment (with_more rows (f segment)), λ i. record (placed shape key value segment s) { filling = λ n. placed_at rows key segment n i })
 
   chained_as : (bucket : ℕ) (grows : Bool) (one two : State) → IsSameButFrequencies one two → IsSameButFrequencies (chained bucket grows one) (chained bucket grows two)
   chained_as bucket grows one two (g, is) = (g, ap (chained bucket grows) is ∙ by grows)
@@ -118,13 +140,13 @@ module _ (shape : Shape) (f : ℕ → List ℕ) (s : State) where
       let replied = replied_as asked (reply_in shape s.cache asked) in
       (after_reply shape asked (reply_in shape s.cache asked) s, (is, refl), (replied.0, left ∙ replied.1))
 
-  rows_alike : (current : Option ℕ) → is_out_of_rows shape old.filling current ≡ is_out_of_rows shape s.filling current
-  rows_alike None = refl
-  rows_alike (Some segment) = refl
+  rows_alike : (rows : ℕ) (current : Option ℕ) → lacks_rows shape rows old.filling current ≡ lacks_rows shape rows s.filling current
+  rows_alike rows None = refl
+  rows_alike rows (Some segment) = refl
 
   refused_alike : (asked : Request) → refusal shape old asked ≡ refusal shape s asked
   refused_alike asked = ap (λ out. cond out (Some write.NoRoom) (cond (is_locked shape s (key_of asked)) (Some write.Busy)
-      (cond (lacks_word shape s asked && not (may_chain shape s (bucket_of shape (key_of asked)))) (Some write.BucketFull) None))) (rows_alike s.current)
+      (cond (lacks_word shape s asked && not (may_chain shape s (bucket_of shape (key_of asked)))) (Some write.BucketFull) None))) (rows_alike (span_of (key_of asked) (value_of asked)) s.current)
 
   store_alike : (asked : Request) (told : WriteAnswer) (new : State) → ServesStore shape old asked told new → ServesAlike (ServesStore shape s asked told) new
   store_alike asked told new served = by (refusal shape s asked)

@@ -25,9 +25,9 @@ use Rattle.segbase.specs.declared.pass.PlainPart.{PlainPart}
 use Rattle.segbase.specs.Words.{Board, holding, locked_of, marked, mine, number, Pass, seen, state_of, trace}
 use Rattle.segbase.specs.Words.{used_of}
 use Rattle.segbase.proofs.Alone.{bounced_alone, glanced_alone}
-use Rattle.segstore.specs.Words.{ChangesNothing, GoesOn, has_room, is_below, is_held_in, IsBusy}
+use Rattle.segstore.specs.Words.{ChangesNothing, GoesOn, has_room, has_room_for, is_below, is_held_in, IsBusy}
 use Rattle.segstore.specs.Words.{IsQuiet, memo}
-use Rattle.segwrite.specs.Words.{Deletes, HasNoWord, WasFull, Writes}
+use Rattle.segwrite.specs.Words.{Deletes, HasNoWord, rows_of, WasFull, Writes}
 use Rattle.segread.specs.Words.{IsDisturbed, IsGetAnswer, IsGetsAnswer, ReadsBetween, PresentLocked}
 use Rattle.segindex.specs.Words.{AnswersCommand, IsBeingRead, IsRefillAnswer, Refills}
 use Rattle.segevict.specs.Words.{IsEvictAnswer}
@@ -46,6 +46,7 @@ use Rattle.segclient.specs.Tallies.{delete_tally, write_tally}
 use Rattle.segload.specs.Making.{ClientState, load_deadline, load_moment, turned_on, AtMoment, ReadsWhen, IsReadAs, IsVersionReadAs, IsFullFor, IsWrittenAs, Empties, IsStoredAs, CameTo}
 use Rattle.segload.specs.Calls.{asked_by, tally_of, course_after}
 use Rattle.segload.proofs.Lists.{both_begin}
+use Rattle.segload.proofs.Short.{IsShort}
 
 -- The pass has no bucket locked, and holds nothing.
 abbrev pub HoldsNothing : Pass → Type 0
@@ -326,19 +327,19 @@ stored_nowhere : (b : Board) (asked : Request) (p q r : Pass) (from to : ClientS
 stored_nowhere b asked p q r from to same room turned =
     inr ((mine r, subst (λ x. Empties (number x) (next_of from.segments) (mine x) (mine r)) same room.0, inr (refl, refl, room.1)), turned)
 
--- or is made once more, and then there is room
-stored_again : (b : Board) (asked : Request) (told : WriteAnswer) (p q r s : Pass) (from to : ClientState) → q ≡ p
+-- or is made once more, and then there is room for its one row
+stored_again : (b : Board) (asked : Request) (told : WriteAnswer) (p q r s : Pass) (from to : ClientState) → rows_of asked ≡ 1 → q ≡ p
     → GoesOn b q r → HoldsNothing r → GivesUpSegment b.shape (next_of from.segments) true q r → to ≡ turned_on from
     → Writes b asked told r s
     → IsStoredAs b.shape (seen s) (number p) asked (write_tally told) from to (mine p) (mine s)
-stored_again b asked told p q r s from to same on free made turned writes =
+stored_again b asked told p q r s from to one same on free made turned writes =
     subst (λ x. IsStoredAs b.shape (seen s) (number x) asked (write_tally told) from to (mine x) (mine s)) same (inr (
       (
         made.0,
         made.1,
         inl (subst (λ n. IsWrittenAs b.shape (seen s) n asked (write_tally told) (Refilled (number q) (next_of from.segments) load_deadline ∷ made.0) (mine s)) on.same
             (subst (λ own. IsWrittenAs b.shape (seen s) (number r) asked (write_tally told) own (mine s)) made.2
-            (written b asked told r s (λ none. false≢true (sym (writes.no_room.0 none) ∙ made.3)) on.quiet free writes))),
+            (written b asked told r s (λ none. false≢true (sym (writes.no_room.0 none) ∙ subst (λ rows. has_room_for b.shape rows r ≡ true) (sym one) made.3)) on.quiet free writes))),
       ),
       turned,
     ))
@@ -354,23 +355,23 @@ came_nowhere b kind.Cas load draw from to p q r is room turned = stored_nowhere 
 came_nowhere b of load draw from to p q r is room turned = absurd is
 
 pub came_again : (b : Board) (of : Kind) (load : Load) (draw : ℕ) (told : Answer) (from to : ClientState)
-    (p q r s : Pass) → AnswersCommand b (asked_by of from.version load) draw (answer.Write write.NoRoom) p q
+    (p q r s : Pass) → IsShort load → AnswersCommand b (asked_by of from.version load) draw (answer.Write write.NoRoom) p q
     → GoesOn b q r → HoldsNothing r → GivesUpSegment b.shape (next_of from.segments) true q r → to ≡ turned_on from
     → AnswersCommand b (asked_by of from.version load) draw told r s → CameTo b.shape (seen s) (number p) of load (tally_of told) from to (mine p) (mine s)
-came_again b kind.Set load draw (answer.Write told) from to p q r s is on free made turned again =
-    stored_again b (request.Set load.key load.value load_moment) told p q r s from to is.answer on free made turned
+came_again b kind.Set load draw (answer.Write told) from to p q r s one is on free made turned again =
+    stored_again b (request.Set load.key load.value load_moment) told p q r s from to one is.answer on free made turned
     again
-came_again b kind.Add load draw (answer.Write told) from to p q r s is on free made turned again =
-    stored_again b (request.Add load.key load.value load_moment) told p q r s from to is.answer on free made turned
+came_again b kind.Add load draw (answer.Write told) from to p q r s one is on free made turned again =
+    stored_again b (request.Add load.key load.value load_moment) told p q r s from to one is.answer on free made turned
     again
-came_again b kind.Replace load draw (answer.Write told) from to p q r s is on free made turned again =
-    stored_again b (request.Replace load.key load.value load_moment) told p q r s from to is.answer on free made
+came_again b kind.Replace load draw (answer.Write told) from to p q r s one is on free made turned again =
+    stored_again b (request.Replace load.key load.value load_moment) told p q r s from to one is.answer on free made
     turned again
-came_again b kind.Cas load draw (answer.Write told) from to p q r s is on free made turned again =
-    stored_again b (request.Cas load.key load.value from.version load_moment) told p q r s from to is.answer on free
+came_again b kind.Cas load draw (answer.Write told) from to p q r s one is on free made turned again =
+    stored_again b (request.Cas load.key load.value from.version load_moment) told p q r s from to one is.answer on free
     made turned again
-came_again b kind.Set load draw told from to p q r s is on free made turned again = absurd again
-came_again b kind.Add load draw told from to p q r s is on free made turned again = absurd again
-came_again b kind.Replace load draw told from to p q r s is on free made turned again = absurd again
-came_again b kind.Cas load draw told from to p q r s is on free made turned again = absurd again
-came_again b of load draw told from to p q r s is on free made turned again = absurd is
+came_again b kind.Set load draw told from to p q r s one is on free made turned again = absurd again
+came_again b kind.Add load draw told from to p q r s one is on free made turned again = absurd again
+came_again b kind.Replace load draw told from to p q r s one is on free made turned again = absurd again
+came_again b kind.Cas load draw told from to p q r s one is on free made turned again = absurd again
+came_again b of load draw told from to p q r s one is on free made turned again = absurd is

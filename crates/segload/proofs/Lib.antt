@@ -2,6 +2,7 @@ pub mod Lists
 pub mod Counted
 pub mod Recycling
 pub mod Ending
+pub mod Short
 pub mod Answered
 pub mod Served
 pub mod Made

@@ -23,6 +23,7 @@ use Rattle.segload.specs.Working.{course_of, HasCounted, IsAtWork}
 use Rattle.segclient.specs.Rings.{IsOwnRing}
 use Rattle.segload.proofs.Answered.{HoldsNothing}
 use Rattle.segload.proofs.Served.{serves_came, serves_own}
+use Rattle.segload.proofs.Short.{next_short}
 
 -- what holds of all commands so far holds of a longer history
 moment_later : (shape : Shape) (history later : List Entry) (pass : ℕ) (own : List Entry) (IsSo : Cache → Type 0)
@@ -153,7 +154,8 @@ module _ (b : Board) (n : ℕ) (draws : Draws) (first : Pass) (new : IsNewPass b
   came_so_far (suc made) t course q (told, before, from, last, calls, served, counts) =
       let load = next_load (draws_after draws made) in
       let was = came_so_far made before from last calls in
-      let one = serves_came b load told from course last q was.quiet was.free (subst (λ m. IsOwnRing b.shape m from.segments) (sym was.same) was.own) served in record {
+      let one = serves_came b load told from course last q was.quiet was.free
+      (subst (λ m. IsOwnRing b.shape m from.segments) (sym was.same) was.own) (next_short (draws_after draws made)) served in record {
         quiet = one.on.quiet;
         same = one.on.same ∙ was.same;
         free = one.free;

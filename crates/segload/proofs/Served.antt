@@ -19,6 +19,7 @@ use Rattle.segclient.proofs.Turns.{own_turned}
 use Rattle.segload.specs.Making.{ClientState, CameTo, ComesTo, turned_on}
 use Rattle.segload.specs.Calls.{asked_by, course_after, tally_of, MakesRoom, IsNotEvicted, IsNotRefilled, TriesForRoom, ServedAtOnce, ServedInNewRoom, ServedNoRoom, ServesLoad}
 use Rattle.segload.proofs.Answered.{came, came_again, came_nowhere, command_free, empties, evict_free, refill_free, is_refilled, not_evicted, room_made, HoldsNothing, GivesUpSegment}
+use Rattle.segload.proofs.Short.{IsShort}
 
 -- ---- one call
 
@@ -137,8 +138,8 @@ module _ (b : Board) (load : Load) (told : Tally) (from to : ClientState) (p q :
     full_own : IsOwnRing b.shape (number full) from.segments
     full_own = subst (λ n. IsOwnRing b.shape n from.segments) (sym full_on.same) own
 
-  in_new_room : ServedInNewRoom (AnswersCommand b) load told from to p q → Came b load told from to p q
-  in_new_room served =
+  in_new_room : IsShort load → ServedInNewRoom (AnswersCommand b) load told from to p q → Came b load told from to p q
+  in_new_room one served =
       let full = served.full in let filled = served.filled in
       let on = full_on full served.found_none in
       let tried = made b from.segments full filled on.quiet (full_free full served.found_none) (full_own full served.found_none) served.room in
@@ -146,7 +147,7 @@ module _ (b : Board) (load : Load) (told : Tally) (from to : ClientState) (p q :
         on = goes_then b p full q on (goes_then b full filled q tried.0.on again_on);
         free = command_free b load.kind from.version load load.draw served.given filled q served.again tried.0.free;
         came = counted (tally_of served.given) (turned_on from) served.counted served.course
-            (came_again b load.kind load load.draw served.given from (turned_on from) p full filled q served.found_none tried.0.on tried.0.free tried.1 refl served.again);
+            (came_again b load.kind load load.draw served.given from (turned_on from) p full filled q one served.found_none tried.0.on tried.0.free tried.1 refl served.again);
       }
 
   no_room : ServedNoRoom (AnswersCommand b) load told from to p q → Came b load told from to p q
@@ -160,7 +161,7 @@ module _ (b : Board) (load : Load) (told : Tally) (from to : ClientState) (p q :
             (came_nowhere b load.kind load load.draw from (turned_on from) p full q served.found_none tried.1 refl);
       }
 
-  pub serves_came : ServesLoad (AnswersCommand b) load told from to p q → Came b load told from to p q
-  serves_came (inl served) = at_once served
-  serves_came (inr (inl served)) = in_new_room served
-  serves_came (inr (inr served)) = no_room served
+  pub serves_came : IsShort load → ServesLoad (AnswersCommand b) load told from to p q → Came b load told from to p q
+  serves_came one (inl served) = at_once served
+  serves_came one (inr (inl served)) = in_new_room one served
+  serves_came one (inr (inr served)) = no_room served

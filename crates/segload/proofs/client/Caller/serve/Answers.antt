@@ -1,4 +1,6 @@
 use Rattle.std.proofs.Common.{◌≡◌, ◌≢◌, true, false, refl, sym, ap, ◌∙◌, subst, inl, inr, rules}
+use Rattle.std.proofs.lemmas.Bool.{false≢true}
+use Rattle.segmodel.specs.Words.{Answer}
 use Rattle.segmodel.specs.declared.answer.Answer.TheVariants.{Write}
 use Rattle.segmodel.specs.declared.answer.WriteAnswer.TheVariants.{NoRoom}
 use Rattle.segevict.proofs.RowsOut.{goes_then}
@@ -48,12 +50,19 @@ returns-clause-on c =
     let b = c.args.index.now.board in let p = c.args.self.now.pass in let q = c.ask-answer.new.self.pass in let r = c.make_room.new.self.pass in let s = c.ask.new.self.pass in
     goes_then b p q s c.ask-answer.ensures.on (goes_then b q r s c.make_room.ensures.on c.ask.ensures.on)
 
+was_full : (c : goal.After-tally_of-2) → c.ask-answer.result ≡ Write NoRoom
+was_full c = by c.ask-answer.result refl
+  where
+    by : (told : Answer) → c.ask-answer.result ≡ told → c.ask-answer.result ≡ Write NoRoom
+    by (Write NoRoom) is = is
+    by _ is = absurd (false≢true (sym c.if-ne.false ∙ (c.ne.ensures ∙ rw is refl)))
+
 pub returns-clause-serves : goal.returns-clause-serves
 returns-clause-serves c =
     let b = c.args.index.now.board in let p = c.args.self.now.pass in let q = c.ask-answer.new.self.pass in let r = c.make_room.new.self.pass in let s = c.ask.new.self.pass in
     let load = c.args.load in let told = c.ask-answer.result in let room = c.if-not-make_room.ensures in
     let asked = subst (λ x. AnswersCommand b x load.draw told p q) c.command_of-command.ensures c.ask-answer.ensures.answers in
-    let full : told ≡ Write NoRoom = search rules in
+    let full = was_full c in
     inr (inl (record {
       full = q;
       filled = r;
