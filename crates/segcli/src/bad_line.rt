@@ -1,10 +1,11 @@
 //! What the program prints of the fault of a bad line.
 ghost use Rattle.std.specs.Prelude.{◌≡◌, ◌++◌, IfOk, codes, decimal};
 ghost use Rattle.segcli.specs.BadLines.{part_text, word_fault_text, place_text, fault_text};
-ghost use Rattle.segcli.specs.BadLines.{bad_line_text};
+ghost use Rattle.segcli.specs.BadLines.{bad_line_text, length_text};
 
 use crate::totals::{put, put_count};
-use segscript::{BadLine, LineFault, Part, WordFault};
+use segscript::{BadLine, LINE_BYTES, LineFault, Part, WordFault};
+use segword::{KEY_BYTES, VALUE_BYTES};
 use std::alloc::{AllocError, Global};
 
 fn part_text(part: Part) -> &'static [u8]
@@ -32,6 +33,15 @@ fn put_number(text: &mut Vec<u8>, name: &[u8], number: usize, rest: &[u8]) -> Re
     put(text, rest)
 }
 
+// Puts a name, and how many bytes a word has and may have, at the end of the text.
+fn put_length(text: &mut Vec<u8>, name: &[u8], length: usize, most: usize) -> Result<(), AllocError>
+    ensures text { IfOk result (λ _. text.new.items
+        ≡ text.old.items ++ (name.now ++ length_text length most)) }
+{
+    put_number(text, name, length, b" bytes, of ")?;
+    put_number(text, b"", most, b" at most")
+}
+
 fn put_place(text: &mut Vec<u8>, place: usize) -> Result<(), AllocError>
     ensures text { IfOk result (λ _. text.new.items ≡ text.old.items ++ place_text place) }
 {
@@ -42,12 +52,8 @@ fn put_word_fault(text: &mut Vec<u8>, why: WordFault) -> Result<(), AllocError>
     ensures text { IfOk result (λ _. text.new.items ≡ text.old.items ++ word_fault_text why) }
 {
     match why {
-        WordFault::LongKey(length) => {
-            put_number(text, b"the key has ", length, b" bytes, of 24 at most")
-        }
-        WordFault::LongValue(length) => {
-            put_number(text, b"the value has ", length, b" bytes, of 32 at most")
-        }
+        WordFault::LongKey(length) => put_length(text, b"the key has ", length, KEY_BYTES),
+        WordFault::LongValue(length) => put_length(text, b"the value has ", length, VALUE_BYTES),
         WordFault::Empty => put(text, b"no word stands between two spaces, or at an end"),
         WordFault::NotPass => put(text, b"a pass is p and its number, as p0"),
         WordFault::NoPass => put(text, b"no pass has this number (see --passes)"),
@@ -90,7 +96,7 @@ fn put_fault(text: &mut Vec<u8>, fault: LineFault) -> Result<(), AllocError>
     ensures text { IfOk result (λ _. text.new.items ≡ text.old.items ++ fault_text fault) }
 {
     match fault {
-        LineFault::TooLong => put(text, b": it has more than 128 bytes"),
+        LineFault::TooLong => put_number(text, b": it has more than ", LINE_BYTES, b" bytes"),
         LineFault::Word { place, why } => put_bad_word(text, place, why),
         LineFault::Missing { place, part } => put_missing(text, place, part),
         LineFault::Extra { place } => put_extra(text, place),
