@@ -156,6 +156,25 @@ fn dead_rows_are_found_among_many_segments(rt: HostRuntime) {
     same(&rt, &found_of(&rt, &mut client, 0, 300), &300);
 }
 
+// 56 keys that nobody updates, and after each of them one of eight others: half of all rows are dead
+// then, but no segment is. No key goes for the updates that follow, and few items move.
+#[test]
+fn half_dead_segments_are_cleared_and_no_key_goes(rt: HostRuntime) {
+    let (index, passes) = Index::new(rt.alloc(), SHAPE).expect(&rt, "an index");
+    let mut client = only_client(&rt, &index, passes);
+    for number in 0..56 {
+        put(&rt, &mut client, number);
+        put(&rt, &mut client, 56 + number % 8);
+    }
+    for number in 0..400 {
+        put(&rt, &mut client, 56 + number % 8);
+    }
+    let counted = client.stats();
+    same(&rt, &counted.keys_evicted, &0);
+    same(&rt, &found_of(&rt, &mut client, 0, 64), &64);
+    check_that(&rt, counted.items_kept < 40);
+}
+
 // The same with deletes: sessions begin and end, one after another.
 #[test]
 fn what_was_deleted_goes_before_keys_that_nobody_reads(rt: HostRuntime) {

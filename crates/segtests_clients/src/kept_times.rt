@@ -39,6 +39,23 @@ fn what_has_expired_is_cleared_at_once(rt: HostRuntime) {
     same(&rt, &(counted.items_kept, counted.keys_evicted), &(0, 64));
 }
 
+// Half of the keys have expired when a put takes one of the last two free segments, and begins to
+// clear: what has expired, and not the oldest, which lives.
+#[test]
+fn what_has_expired_goes_first_where_few_segments_are_free(rt: HostRuntime) {
+    let (index, passes) = Index::new(rt.alloc(), SHAPE).expect(&rt, "an index");
+    let mut client = only_client(&rt, &index, passes);
+    for number in 0..240 {
+        let time = if number < 120 { LONG } else { SHORT };
+        put_for(&rt, &mut client, number, time);
+    }
+    client.set_now(SHORT);
+    for number in 1_000..1_016 {
+        put_for(&rt, &mut client, number, LONG);
+    }
+    same(&rt, &found_of(&rt, &mut client, 0, 120), &120);
+}
+
 // Fine deadlines while many segments are free, and coarse ones when few are.
 #[test]
 fn deadlines_are_fine_while_many_segments_are_free(rt: HostRuntime) {

@@ -31,6 +31,8 @@ mod keeping;
 #[cfg(test)]
 mod keeping_at_once;
 #[cfg(test)]
+mod kept_parts;
+#[cfg(test)]
 mod kept_reads;
 #[cfg(test)]
 mod kept_rows;
