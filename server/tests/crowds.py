@@ -111,7 +111,11 @@ def killed_program(command):
         say(connection, "set k 0 0 1\r\nx\r\n", "STORED\r\n")
         with subprocess.Popen([sys.executable, "-c", CLIENTS, str(port)], stdout=subprocess.PIPE) as program:
             program.stdout.readline()
-            check(stats_of(connection)["curr_connections"] == "51", "fifty connections are there")
+            for _ in range(200):
+                if (count := stats_of(connection)["curr_connections"]) == "51":
+                    break
+                time.sleep(0.05)
+            check(count == "51", f"fifty connections and this one are there: {count}")
             say(connection, "get k\r\n", "VALUE k 0 1\r\nx\r\nEND\r\n")
             program.kill()
         pid = alone(connection)["pid"]

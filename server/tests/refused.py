@@ -11,7 +11,7 @@ from contextlib import contextmanager
 from pathlib import Path
 
 import talk
-from talk import alone, check, connect, free_port, read, running, say, start, stats_of
+from talk import alone, check, connect, free_port, running, say, start, stats_of
 
 SANITIZER = 99  # the status of a program that a sanitizer ends
 MOST_AT_START = 60
@@ -45,13 +45,18 @@ def refusing():
 
 
 def told(port, sent, length):
-    """What is answered up to a length, or to the connection's end."""
+    """What is answered up to a length, or to the connection's end. It is never left silent."""
+    got = b""
     try:
         with connect(port) as connection:
             connection.sendall(sent)
-            return read(connection, length)
+            while len(got) < length and (more := connection.recv(65536)):
+                got += more
     except ConnectionError:
-        return b""
+        pass
+    except TimeoutError:
+        check(False, f"a connection ends, or {sent[:20]} is answered whole")
+    return got
 
 
 def asks(port):
@@ -76,7 +81,8 @@ def no_start(command):
                     serves = False
                 if not serves and server.poll() is None:
                     serves = asks(port)  # what was refused before was a connection
-                server.send_signal(signal.SIGTERM)
+                if serves:
+                    server.send_signal(signal.SIGTERM)
                 said, status = server.stderr.read(), server.wait(timeout=2 * talk.patience)
             right = status == 0 if serves else status in (1, 71) and re.fullmatch(r"segcache-server: .+\n", said)
             check(right, f"request {number} refused, serves {serves}: {status} {said}")
