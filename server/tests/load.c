@@ -6,8 +6,8 @@
  *
  * Keys are drawn by Zipf's law with the exponent 0.99; a get that misses is not put. First each key is set once.
  * Values have 16 bytes if MEAN is 0. Else a key's value has a length of its own, by a log-normal law of that mean.
- * It prints one line of JSON: commands a second, hits, and how long a piece took, at the median and the 99th
- * percentile.
+ * It prints a line once that is done, and at the end one of JSON: commands a second, hits, and how long a piece took, at
+ * the median and the 99th percentile.
  *
  * With a rate above 0 it sends so many commands a second, one in a piece, each when its time has come, on a connection
  * that waits for no reply. A command took the time from then until its reply is there. Gets and sets are told apart. */
@@ -249,6 +249,8 @@ int main(int count, char **words) {
   for (int key = 0; key < keys; key++) bounds[key] /= sum;
   draw_lengths(atof(words[8]));
   fill();
+  puts("filled");
+  fflush(stdout);
   double start = now();
   until = start + seconds;
   for (int i = 0; i < threads; i++) {
