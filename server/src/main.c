@@ -96,6 +96,10 @@ static bool open_store(struct server *server) {
                             options->time_to_live, options->keep_from};
   const char *why = store_open(&server->store, &plan);
   if (why != NULL) return fault("the cache can't be opened", why);
+  uint32_t longest = plan.bytes > 0 ? store_longest(&plan) : STORE_MOST_VALUE;
+  if (longest < HEADER + options_most_data(options, 0))
+    fprintf(stderr, "segcache-server: -m %u with -t %u: no item of more than about %u bytes has room\n",
+            options->megabytes, options->threads, longest < HEADER ? 0 : longest - HEADER);
   for (uint32_t i = 0; i < options->threads; i++) server->workers[i].client = &server->store.clients[i];
   return true;
 }

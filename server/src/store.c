@@ -19,6 +19,10 @@ enum {
   CLIENT = 8192,
 };
 
+/* A client has a row of 64 bytes for each 67 of its share, in 64 segments or more. Of a segment an item has about seven
+ * eighths for its bytes, but for those of a short key and around it. */
+enum { ROW = 64, ROW_WITH_CLIENT = 67, SEGMENTS = 64, AROUND = 24 };
+
 /* Whether a call is to be made again, since it was Busy. */
 static bool was_busy(uint32_t status, int *tries) {
   if (status != SEGCACHE_BUSY || ++*tries == TRIES) return false;
@@ -60,6 +64,13 @@ static uint64_t budget_for(uint64_t bytes, uint32_t clients) {
     else over = middle;
   }
   return least;
+}
+
+uint32_t store_longest(const struct store_plan *plan) {
+  uint64_t table = table_of(budget_for(plan->bytes, plan->clients), plan->clients);
+  uint64_t bytes = table / ROW_WITH_CLIENT / plan->clients / SEGMENTS * ROW, longest = bytes / 8 * 7;
+  if (longest < AROUND) return 0;
+  return longest - AROUND < STORE_MOST_VALUE ? (uint32_t)(longest - AROUND) : STORE_MOST_VALUE;
 }
 
 /* Makes a client of the library ready. Its lock is held for one call, so who waits for it tries for a while before it

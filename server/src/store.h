@@ -70,6 +70,10 @@ struct store_counts {
  * opens within a number of bytes, it takes as much again for a moment, and at most 32 MiB. */
 const char *store_open(struct store *store, const struct store_plan *plan);
 
+/* About how many bytes a value has at most that ever has room in a store of a number of bytes: a client has an equal
+ * share, and all of a value stands in one of its segments. */
+uint32_t store_longest(const struct store_plan *plan);
+
 /* Gives all memory back. False if the library says that it can't. No thread uses a client any longer. */
 bool store_close(struct store *store);
 

@@ -264,6 +264,26 @@ def unopened(command):
     ends_with(command, words, 71, "the cache can't be opened: out of memory")
 
 
+def too_small(command):
+    """Where a thread's share has no room for the longest items, the server says so, and what it says has room has."""
+    for words, most in (("-m 1 -t 64", 60), ("-m 1 -t 16", 1000), ("-m 64 -t 32", 3500), ("-m 64 -t 4", None)):
+        words_of_it = [*command, "-p", str(port := free_port()), *words.split()]
+        with start(words_of_it, stderr=subprocess.PIPE, text=True) as server:
+            wait_for(port, server)
+            with connect(port) as connection:
+                most_data = int(stats_of(connection)["most_data_bytes"])
+                told = server.stderr.readline() if most and most < most_data else ""
+                found = re.fullmatch(rf"segcache-server: {words}: no item of more than about (\d+) bytes has room\n",
+                                     told.replace(" with", ""))
+                length = int(found[1]) if found else most_data
+                for i in range(50):
+                    say(connection, f"set key{i} 0 0 {length}\r\n{'x' * length}\r\n", "STORED\r\n")
+            server.send_signal(signal.SIGTERM)
+            more = server.stderr.read()
+        check((found is not None and length < most) == bool(most and most < most_data) and more == "",
+              f"{words}: {told} {more}")
+
+
 def again(command):
     """A port that a server has just left is free for the next one."""
     port = free_port()
