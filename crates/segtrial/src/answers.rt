@@ -1,22 +1,14 @@
 //! What an answer means for the cache, as the checker takes it.
-use crate::keys::Place;
 use crate::values::number_of;
 use segcheck::{
-    Access, CasReply, EACH, Ended, Item, Operation, PutEnd, Read, Reads, Recycled, Refusal,
+    Access, CasReply, EACH, Ended, Item, Operation, Place, PutEnd, Read, Reads, Recycled, Refusal,
+    Said, StoreEnd,
 };
 use segclient::PutAnswer;
 use segmodel::{
     Answer, Command, DeleteAnswer, EvictAnswer, GetAnswer, GetsAnswer, KeepAnswer, RefillAnswer,
     Request, WriteAnswer,
 };
-
-/// What an answer means.
-#[derive(Drop)]
-pub enum Said {
-    Operation(Operation),
-    /// No such call returns this.
-    Wrong,
-}
 
 /// What the answer to a command on a key means. The item is what the command would store.
 pub fn said_by(command: &Command, answer: &Answer, place: Place, item: Item) -> Said {
@@ -26,31 +18,6 @@ pub fn said_by(command: &Command, answer: &Answer, place: Place, item: Item) -> 
     match access_of(command, answer, item) {
         Some((now, access)) => place.says(now, access),
         None => Said::Wrong,
-    }
-}
-
-/// What a call said that recycled so much. Of the calls that make no room only a store recycles,
-/// once it stored.
-pub fn with_recycled(said: Said, recycled: Recycled) -> Said {
-    if recycled.is_nothing() {
-        return said;
-    }
-    match said {
-        Said::Operation(
-            Operation::OnKey {
-                bucket,
-                key,
-                now,
-                access,
-            },
-        ) if access.stored().is_some() => Said::Operation(Operation::ClearingStore {
-            bucket,
-            key,
-            now,
-            access,
-            recycled,
-        }),
-        _ => Said::Wrong,
     }
 }
 
@@ -84,6 +51,24 @@ pub fn said_by_put(answer: PutAnswer, place: Place, recycled: Recycled, item: It
             PutAnswer::Busy => PutEnd::Refused(Refusal::StoreBusy),
         },
     })
+}
+
+/// What the answer to a put says of the segment that it stores into.
+pub fn end_of_put(answer: PutAnswer) -> StoreEnd {
+    match answer {
+        PutAnswer::Stored => StoreEnd::Stored,
+        PutAnswer::NoRoom => StoreEnd::NoRoom,
+        PutAnswer::BucketFull | PutAnswer::Busy => StoreEnd::Unstored,
+    }
+}
+
+/// What the answer to a write says of that segment.
+pub fn end_of_write(answer: WriteAnswer) -> StoreEnd {
+    match answer {
+        WriteAnswer::Stored => StoreEnd::Stored,
+        WriteAnswer::NoRoom => StoreEnd::NoRoom,
+        _ => StoreEnd::Unstored,
+    }
 }
 
 /// What the answer to an evict means.

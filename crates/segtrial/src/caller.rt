@@ -5,9 +5,9 @@ ghost use Rattle.segindex.specs.Words.{board_of};
 ghost use Rattle.segstore.specs.Words.{IsQuiet};
 
 use crate::client::ClientCaller;
-use crate::log::Notes;
 use crate::pass::PassCaller;
 use crate::session::Desk;
+use segcheck::Notes;
 use segindex::{Index, Pass};
 use std::alloc::{AllocError, Global};
 use std::thread;

@@ -6,14 +6,13 @@ ghost use Rattle.segbase.specs.Words.{holding};
 ghost use Rattle.segindex.specs.Words.{shape_of};
 ghost use Rattle.segread.specs.Words.{IsHoldOf};
 
-use crate::answers::{Said, said_by_get_many, said_by_put};
-use crate::current::{Current, Refill};
+use crate::answers::{end_of_put, end_of_write, said_by_get_many, said_by_put};
 use crate::draws::{ClientTurn, Keeping};
-use crate::keys::{BUCKETS, Place};
-use crate::log::Notes;
 use crate::session::{Asked, Desk, Session};
 use crate::values::number_of;
-use segcheck::{Access, EACH, Item, Operation, Recycled, Refusal};
+use segcheck::{
+    Access, BUCKETS, Current, EACH, Item, Notes, Operation, Place, Recycled, Refill, Refusal, Said,
+};
 use segclient::{Client, Hold, HoldAnswer, PutAnswer, Stats, hold_stays};
 use segmodel::{Answer, Command, GetAnswer, Request, WriteAnswer};
 use segword::{Key, Value};
@@ -131,7 +130,7 @@ impl<'a> ClientCaller<'a> {
         let recycled = self.recycled(before);
         let refill = self.refill(before);
         let is_timely = answer != PutAnswer::Stored || self.is_timely(refill.deadline, *now);
-        let is_allowed = self.current.was_put(answer, *now, refill) && is_timely;
+        let is_allowed = self.current.was_put(end_of_put(answer), *now, refill) && is_timely;
         self.current.were_moved(recycled.kept);
         let deadline = self.current.deadline();
         let said = said_by_put(answer, place, recycled, Item { deadline, ..item });
@@ -155,8 +154,8 @@ impl<'a> ClientCaller<'a> {
         self.session
             .note_answer((called, returned), asked, &answer, recycled);
         if let Answer::Write(told) = answer {
-            if !self.current.was_stored_into(told) || self.is_late(asked, told) {
-                self.session.note((called, returned), Said::Wrong);
+            if !self.current.was_stored_into(end_of_write(told)) || self.is_late(asked, told) {
+                self.session.log.note((called, returned), Said::Wrong);
             }
             self.current.were_moved(recycled.kept);
         }
@@ -189,7 +188,7 @@ impl<'a> ClientCaller<'a> {
         ensures held { holding self.new.client.member.pass ≡ holding self.old.client.member.pass }
     {
         let said = if is_allowed { said } else { Said::Wrong };
-        self.session.note(stamps, said);
+        self.session.log.note(stamps, said);
     }
 
     // If keys were evicted, looks which still stand, at a moment before all deadlines.
@@ -213,7 +212,7 @@ impl<'a> ClientCaller<'a> {
         get_many(&mut self.client, keys, self.answers.as_mut_slice());
         let returned = self.session.log.stamp();
         let said = said_by_get_many(bucket, now, self.answers.as_slice());
-        self.session.note((called, returned), said);
+        self.session.log.note((called, returned), said);
     }
 
     // Whether a call refilled segments, by the counts before it, and what the client stores until.
@@ -268,25 +267,20 @@ impl<'a> ClientCaller<'a> {
         self.client.set_now(now);
         let called = self.session.log.stamp();
         let answer = self.client.hold(key);
-        let returned = self.session.log.stamp();
+        let log = &mut self.session.log;
+        let stamps = (called, log.stamp());
         match answer {
             HoldAnswer::Holding(hold) => {
                 hold_stays();
                 let value = self.client.held_value(&hold);
                 let read = Access::Hold(Some(number_of(&value)));
-                self.session.note((called, returned), place.says(now, read));
+                log.note(stamps, place.says(now, read));
                 self.make_commands();
                 self.end_hold(place.bucket, hold);
             }
-            HoldAnswer::Miss => {
-                let said = place.says(now, Access::Hold(None));
-                self.session.note((called, returned), said);
-            }
-            HoldAnswer::Busy => {
-                let said = place.refuses(Refusal::ReadBusy);
-                self.session.note((called, returned), said);
-            }
-            HoldAnswer::AlreadyHolding => self.session.note((called, returned), Said::Wrong),
+            HoldAnswer::Miss => log.note(stamps, place.says(now, Access::Hold(None))),
+            HoldAnswer::Busy => log.note(stamps, place.refuses(Refusal::ReadBusy)),
+            HoldAnswer::AlreadyHolding => log.note(stamps, Said::Wrong),
         }
     }
 
@@ -305,12 +299,12 @@ impl<'a> ClientCaller<'a> {
     {
         let called = self.session.log.stamp();
         let value = self.client.held_value(&hold);
-        let returned = self.session.log.stamp();
-        self.session.note_held((called, returned), bucket, &value);
-        let called = self.session.log.stamp();
+        let log = &mut self.session.log;
+        log.note_held((called, log.stamp()), bucket, number_of(&value));
+        let called = log.stamp();
         self.client.release(hold);
-        let returned = self.session.log.stamp();
-        self.session.note_release((called, returned), bucket);
+        let log = &mut self.session.log;
+        log.note_release((called, log.stamp()), bucket);
     }
 }
 

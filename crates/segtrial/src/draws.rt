@@ -1,8 +1,7 @@
 //! What a pass does next, drawn at random so that the same seed makes the same draws.
-use crate::keys::{BUCKETS, Place};
 use rand_core::utils::NextWord;
 use rand_pcg::Lcg64Xsh32;
-use segcheck::EACH;
+use segcheck::{BUCKETS, Draw, EACH, Place};
 use segmodel::{Command, Request};
 use segword::{Key, Shape, Value};
 
@@ -61,11 +60,6 @@ impl Draws {
             pass,
             values: 0,
         }
-    }
-
-    /// A number below a bound.
-    pub fn below(&mut self, bound: u32) -> u32 {
-        self.generator.next_word() % bound.max(1)
     }
 
     /// The shape of an index with so many passes. Chains can grow, but mostly not all of them,
@@ -186,5 +180,11 @@ impl Draws {
             18..=23 => return Command::Gets(key, now),
             _ => return Command::Get(key, now),
         })
+    }
+}
+
+impl Draw for Draws {
+    fn below(&mut self, bound: u32) -> u32 {
+        self.generator.next_word() % bound.max(1)
     }
 }

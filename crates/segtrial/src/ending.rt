@@ -1,7 +1,6 @@
 //! What an index lists at its end, as the checker takes it.
-use crate::keys::{BUCKETS, Place};
 use crate::values::number_of;
-use segcheck::KEYS;
+use segcheck::{BUCKETS, KEYS, Place};
 use segword::{Key, Value};
 use std::alloc::{AllocError, Global};
 

@@ -6,16 +6,12 @@ mod answers;
 mod arguments;
 mod caller;
 mod client;
-mod current;
 mod draws;
 mod ending;
 mod keys;
-mod log;
 mod pass;
 mod round;
 mod session;
-mod start;
-mod strength;
 mod values;
 
 use arguments::{Options, read_options};
@@ -109,23 +105,24 @@ fn tell_counts(rt: &HostRuntime, options: &Options, counts: &Counts) -> io::Resu
 
 // Prints how many answers there were of each sort.
 fn tell_numbers(rt: &HostRuntime, counts: &Counts) -> io::Result<()> {
+    let answers = &counts.answers;
     eprintln!(rt;
         "{} answers, {} on threads, {} beside other calls",
-        counts.answers, counts.on_threads, counts.beside
+        answers.all, counts.on_threads, answers.beside
     )?;
     eprintln!(rt;
         "refused: {} Busy, {} NoRoom, {} BucketFull, {} Held",
-        counts.busy, counts.no_room, counts.bucket_full, counts.held
+        answers.busy, answers.no_room, answers.bucket_full, answers.held
     )?;
     eprintln!(rt;
         "{} items moved, {} answers altered, {} of them accepted",
-        counts.moved, counts.of_passes.altered, counts.of_passes.accepted
+        answers.moved, counts.of_passes.altered, counts.of_passes.accepted
     )?;
     eprintln!(rt;
         "clients: {} answers, {} items kept, {} keys evicted, {} answers altered, {} of them accepted",
         counts.to_clients,
-        counts.kept,
-        counts.evicted,
+        answers.kept,
+        answers.evicted,
         counts.of_clients.altered,
         counts.of_clients.accepted
     )
@@ -133,7 +130,7 @@ fn tell_numbers(rt: &HostRuntime, counts: &Counts) -> io::Result<()> {
 
 // Whether the order that explains the answers has moves of items.
 fn moves_of(counts: &Counts) -> &'static str {
-    if counts.moved > 0 {
+    if counts.answers.moved > 0 {
         "with items that moved"
     } else {
         "and no item moved"
@@ -142,7 +139,7 @@ fn moves_of(counts: &Counts) -> &'static str {
 
 // Whether clients kept and evicted anything.
 fn recycling_of(counts: &Counts) -> &'static str {
-    if counts.kept > 0 && counts.evicted > 0 {
+    if counts.answers.kept > 0 && counts.answers.evicted > 0 {
         "with items kept and keys evicted"
     } else {
         "but not with both items kept and keys evicted"

@@ -5,12 +5,11 @@ ghost use Rattle.segindex.specs.Words.{board_of, shape_of};
 ghost use Rattle.segstore.specs.Words.{IsQuiet, IsQuiet-prop};
 ghost use Rattle.segread.specs.Words.{IsHoldOf};
 
-use crate::answers::{Said, said_by_evict, said_by_keep, said_by_refill};
+use crate::answers::{said_by_evict, said_by_keep, said_by_refill};
 use crate::draws::Turn;
-use crate::log::Notes;
 use crate::session::{Desk, Session};
 use crate::values::number_of;
-use segcheck::{Access, Operation, Recycled, Refusal};
+use segcheck::{Access, Draw, Notes, Operation, Recycled, Refusal, Said};
 use segindex::{Hold, HoldAnswer, Index, LockAnswer, Pass, hold_stays};
 use segmodel::{Answer, Command, EvictAnswer, KeepAnswer, RefillAnswer, WriteAnswer};
 use std::alloc::Global;
@@ -117,7 +116,7 @@ impl<'a> PassCaller<'a> {
         let answer = keep(self.index, &mut self.pass, segment, cutoff);
         let returned = self.session.log.stamp();
         let said = said_by_keep(segment, self.segment, cutoff, answer);
-        self.session.note((called, returned), said);
+        self.session.log.note((called, returned), said);
         self.evict(segment);
     }
 
@@ -136,6 +135,7 @@ impl<'a> PassCaller<'a> {
         let answer = evict(self.index, &mut self.pass, segment);
         let returned = self.session.log.stamp();
         self.session
+            .log
             .note((called, returned), said_by_evict(segment, answer));
     }
 
@@ -151,7 +151,7 @@ impl<'a> PassCaller<'a> {
         let called = self.session.log.stamp();
         let answer = refill(self.index, &mut self.pass, segment, deadline);
         let returned = self.session.log.stamp();
-        self.session.note(
+        self.session.log.note(
             (called, returned),
             said_by_refill(segment, deadline, answer),
         );
@@ -171,25 +171,20 @@ impl<'a> PassCaller<'a> {
         let index = self.index;
         let called = self.session.log.stamp();
         let answer = index.hold(&mut self.pass, key, now);
-        let returned = self.session.log.stamp();
+        let log = &mut self.session.log;
+        let stamps = (called, log.stamp());
         match answer {
             HoldAnswer::Holding(hold) => {
                 hold_stays();
                 let value = index.held_value(&mut self.pass, &hold);
                 let read = Access::Hold(Some(number_of(&value)));
-                self.session.note((called, returned), place.says(now, read));
+                log.note(stamps, place.says(now, read));
                 self.make_commands();
                 self.end_hold(place.bucket, hold);
             }
-            HoldAnswer::Miss => {
-                let said = place.says(now, Access::Hold(None));
-                self.session.note((called, returned), said);
-            }
-            HoldAnswer::Busy => {
-                let said = place.refuses(Refusal::ReadBusy);
-                self.session.note((called, returned), said);
-            }
-            HoldAnswer::AlreadyHolding => self.session.note((called, returned), Said::Wrong),
+            HoldAnswer::Miss => log.note(stamps, place.says(now, Access::Hold(None))),
+            HoldAnswer::Busy => log.note(stamps, place.refuses(Refusal::ReadBusy)),
+            HoldAnswer::AlreadyHolding => log.note(stamps, Said::Wrong),
         }
     }
 
@@ -208,12 +203,12 @@ impl<'a> PassCaller<'a> {
     {
         let called = self.session.log.stamp();
         let value = self.index.held_value(&mut self.pass, &hold);
-        let returned = self.session.log.stamp();
-        self.session.note_held((called, returned), bucket, &value);
-        let called = self.session.log.stamp();
+        let log = &mut self.session.log;
+        log.note_held((called, log.stamp()), bucket, number_of(&value));
+        let called = log.stamp();
         self.index.release(&mut self.pass, hold);
-        let returned = self.session.log.stamp();
-        self.session.note_release((called, returned), bucket);
+        let log = &mut self.session.log;
+        log.note_release((called, log.stamp()), bucket);
     }
 
     // Locks a bucket for the next turns, unless the pass has one locked.
@@ -231,7 +226,7 @@ impl<'a> PassCaller<'a> {
             LockAnswer::Busy => place.refuses(Refusal::Busy),
             LockAnswer::AlreadyLocked => Said::Wrong,
         };
-        self.session.note((called, returned), said);
+        self.session.log.note((called, returned), said);
         if answer == LockAnswer::Locked {
             self.locked = Some((bucket, MEANWHILE));
         }
@@ -251,11 +246,8 @@ impl<'a> PassCaller<'a> {
         let is_unlocked = self.index.unlock_bucket(&mut self.pass);
         let returned = self.session.log.stamp();
         let unlock = Said::Operation(Operation::Unlock { bucket });
-        self.session.log.note(
-            called,
-            returned,
-            if is_unlocked { unlock } else { Said::Wrong },
-        );
+        let said = if is_unlocked { unlock } else { Said::Wrong };
+        self.session.log.note((called, returned), said);
         self.locked = None;
     }
 }

@@ -8,12 +8,10 @@ use crate::caller::{Course, work_of_clients, work_of_passes};
 use crate::draws::Draws;
 use crate::ending::content_of;
 use crate::keys::colliding_keys;
-use crate::log::Notes;
 use crate::session::Desk;
-use crate::start::Start;
-use crate::strength::{Strength, strength_of};
 use segcheck::{
-    Call, Fault, HistoryFault, Operation, PutEnd, Refusal, Replay, Sizes, check, judge_histories,
+    AnswerCounts, Call, Fault, HistoryFault, Notes, Replay, Sizes, Start, Strength, check,
+    judge_histories, strength_of,
 };
 use segindex::{Index, Pass};
 use segword::{Key, Shape, Value};
@@ -22,27 +20,14 @@ use std::sync::atomic::AtomicU64;
 use std::thread::Threads;
 use thiserror::Error;
 
-/// How many answers there were.
+/// How many answers there were in all rounds.
 #[derive(Clone, Copy, Default)]
 pub struct Counts {
     /// Those that are explained.
-    pub answers: u64,
-    /// Those of them to passes that had a thread each.
+    pub answers: AnswerCounts,
+    /// Those of them to passes that had a thread each, and those to clients.
     pub on_threads: u64,
-    /// Those of them between whose stamps another pass drew one.
-    pub beside: u64,
-    /// The refusals among them, by what was in the way: others, rows, words, a reader.
-    pub busy: u64,
-    pub no_room: u64,
-    pub bucket_full: u64,
-    pub held: u64,
-    /// The items that were moved.
-    pub moved: u64,
-    /// The answers to clients.
     pub to_clients: u64,
-    /// The items that clients kept, and the keys that they evicted.
-    pub kept: u64,
-    pub evicted: u64,
     /// The answers to passes that were altered, one at a time, and those of them that are accepted all the same.
     /// An evict or keep that ended early leaves open which keys it took out, so some can be.
     pub of_passes: Strength,
@@ -253,17 +238,23 @@ fn pop(index: &Index, passes: &mut Vec<Pass>) -> Option<Pass>
     passes.pop()
 }
 
-// The counts of all answers.
+// The counts of all answers, if none was wrong and each could be noted.
 fn counts_of(logs: &[Notes], kind: Kind) -> Result<Counts, RoundFault> {
     let mut counts = Counts::default();
     for log in logs {
-        counts.add(log)?;
+        if log.is_wrong {
+            return Err(RoundFault::WrongAnswer);
+        }
+        if log.is_short {
+            return Err(RoundFault::OutOfMemory);
+        }
+        counts.answers.add(&log.calls);
     }
     if !kind.is_in_turn {
-        counts.on_threads = counts.answers;
+        counts.on_threads = counts.answers.all;
     }
     if kind.has_clients {
-        counts.to_clients = counts.answers;
+        counts.to_clients = counts.answers.all;
     }
     Ok(counts)
 }
@@ -308,17 +299,9 @@ impl Counts {
     /// The sums of both counts.
     pub fn plus(self, other: Counts) -> Counts {
         Counts {
-            answers: self.answers.saturating_add(other.answers),
+            answers: self.answers.plus(other.answers),
             on_threads: self.on_threads.saturating_add(other.on_threads),
-            beside: self.beside.saturating_add(other.beside),
-            busy: self.busy.saturating_add(other.busy),
-            no_room: self.no_room.saturating_add(other.no_room),
-            bucket_full: self.bucket_full.saturating_add(other.bucket_full),
-            held: self.held.saturating_add(other.held),
-            moved: self.moved.saturating_add(other.moved),
             to_clients: self.to_clients.saturating_add(other.to_clients),
-            kept: self.kept.saturating_add(other.kept),
-            evicted: self.evicted.saturating_add(other.evicted),
             of_passes: self.of_passes.plus(other.of_passes),
             of_clients: self.of_clients.plus(other.of_clients),
         }
@@ -327,54 +310,6 @@ impl Counts {
     /// Whether so many in a thousand of the answers to passes on threads came beside other calls.
     pub fn are_beside(&self, share: u32) -> bool {
         let wanted = self.on_threads.saturating_mul(u64::from(share));
-        wanted <= self.beside.saturating_mul(1000)
-    }
-
-    // Counts the answers to a pass, if no answer was wrong and each could be noted.
-    fn add(&mut self, log: &Notes) -> Result<(), RoundFault> {
-        if log.is_wrong {
-            return Err(RoundFault::WrongAnswer);
-        }
-        if log.is_short {
-            return Err(RoundFault::OutOfMemory);
-        }
-        for call in log.calls.iter() {
-            self.answers = self.answers.saturating_add(1);
-            if call.called.saturating_add(1) < call.returned {
-                self.beside = self.beside.saturating_add(1);
-            }
-            self.count(&call.operation);
-        }
-        Ok(())
-    }
-
-    // Counts a refusal, or what was moved or evicted.
-    fn count(&mut self, operation: &Operation) {
-        if let Some(recycled) = operation.recycled() {
-            self.kept = self.kept.saturating_add(u64::from(recycled.kept));
-            self.evicted = self.evicted.saturating_add(u64::from(recycled.taken));
-        }
-        match operation {
-            Operation::Refused { refusal, .. }
-            | Operation::Put {
-                ended: PutEnd::Refused(refusal),
-                ..
-            } => self.count_refusal(*refusal),
-            Operation::RefillRefused { is_held: true, .. } => {
-                self.held = self.held.saturating_add(1);
-            }
-            Operation::Keep { taken, .. } => {
-                self.moved = self.moved.saturating_add(u64::from(*taken));
-            }
-            _ => {}
-        }
-    }
-
-    fn count_refusal(&mut self, refusal: Refusal) {
-        match refusal {
-            Refusal::NoRoom => self.no_room = self.no_room.saturating_add(1),
-            Refusal::BucketFull => self.bucket_full = self.bucket_full.saturating_add(1),
-            _ => self.busy = self.busy.saturating_add(1),
-        }
+        wanted <= self.answers.beside.saturating_mul(1000)
     }
 }

@@ -1,13 +1,10 @@
 //! What a pass draws and notes, whether it makes its calls by itself or by a client.
-use crate::answers::{Said, said_by, with_recycled};
+use crate::answers::said_by;
 use crate::draws::Draws;
-use crate::keys::{BUCKETS, Place};
-use crate::log::Log;
-use crate::start::Start;
-use crate::values::{number_of, value_of};
-use segcheck::{Item, Operation, Recycled};
+use crate::values::value_of;
+use segcheck::{BUCKETS, Item, Log, Place, Recycled, Start};
 use segmodel::{Answer, Command, GetsAnswer};
-use segword::{Key, Value};
+use segword::Key;
 use std::alloc::Global;
 use std::sync::atomic::AtomicU64;
 
@@ -77,11 +74,6 @@ impl<'a> Session<'a> {
         })
     }
 
-    /// Notes what a call's answer means, with the stamps before and after it.
-    pub fn note(&mut self, stamps: (u64, u64), said: Said) {
-        self.log.note(stamps.0, stamps.1, said);
-    }
-
     /// Notes the answer to a command, which recycled so much.
     pub fn note_answer(
         &mut self,
@@ -91,24 +83,11 @@ impl<'a> Session<'a> {
         recycled: Recycled,
     ) {
         let said = said_by(&asked.command, answer, asked.place, asked.item);
-        self.note(stamps, with_recycled(said, recycled));
+        self.log.note(stamps, said.with_recycled(recycled));
         if let Answer::Gets(GetsAnswer::Found(_, version)) = answer {
             if let Some(last) = self.versions.get_mut(asked.place.bucket) {
                 *last = *version;
             }
         }
-    }
-
-    /// Notes the value that was read from a hold of a key of this bucket.
-    pub fn note_held(&mut self, stamps: (u64, u64), bucket: usize, value: &Value) {
-        let value = number_of(value);
-        let held = Operation::Held { bucket, value };
-        self.note(stamps, Said::Operation(held));
-    }
-
-    /// Notes the end of a hold.
-    pub fn note_release(&mut self, stamps: (u64, u64), bucket: usize) {
-        let release = Operation::Release { bucket };
-        self.note(stamps, Said::Operation(release));
     }
 }

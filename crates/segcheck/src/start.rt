@@ -1,11 +1,11 @@
-//! A start that passes on threads make together.
+//! A start that threads make together.
 use std::sync::atomic::{AtomicU64, Ordering};
 use std::thread::yield_now;
 
-/// How often a pass looks for the others. Then it goes on without them: one can have got no thread.
+/// How often a thread looks for the others. Then it goes on without them: one may not have begun.
 const LOOKS: u32 = 1 << 20;
 
-/// How many passes are there.
+/// How many threads are there.
 #[derive(Drop)]
 pub struct Start {
     there: AtomicU64,
@@ -18,11 +18,11 @@ impl Start {
         }
     }
 
-    /// Counts the calling pass as there, and waits until so many passes are.
-    pub fn wait_for(&self, passes: u32) {
+    /// Counts the calling thread as there, and waits until so many are.
+    pub fn wait_for(&self, threads: u32) {
         self.there.fetch_add(1, Ordering::SeqCst);
         for _ in 0..LOOKS {
-            if self.there.load(Ordering::SeqCst) >= u64::from(passes) {
+            if self.there.load(Ordering::SeqCst) >= u64::from(threads) {
                 break;
             }
             yield_now();

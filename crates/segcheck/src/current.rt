@@ -1,8 +1,15 @@
 //! What is known of the segment that a client stores into, by the answers to the client's calls.
 //! A client with queues also refills segments aside, for the items that it moves. So the count of
 //! its refills doesn't tell which segment was refilled, but the rows that are left do.
-use segclient::PutAnswer;
-use segmodel::WriteAnswer;
+
+/// How a store ended, as far as its segment allows it or not.
+#[derive(Clone, Copy, PartialEq, Eq)]
+pub enum StoreEnd {
+    Stored,
+    NoRoom,
+    /// It found room, and stored nothing.
+    Unstored,
+}
 
 /// The segment that a client stores into.
 #[derive(Clone, Copy)]
@@ -55,21 +62,21 @@ impl Current {
         }
     }
 
-    /// Goes on by a put at this moment, which was answered so. Returns whether the segment allows
+    /// Goes on by a put at this moment, which ended so. Returns whether the segment allows
     /// the answer: a put refills one for itself just if no row is left, or this one has expired.
-    pub fn was_put(&mut self, answer: PutAnswer, now: u32, refill: Refill) -> bool {
+    pub fn was_put(&mut self, ended: StoreEnd, now: u32, refill: Refill) -> bool {
         let Some(left) = self.left else {
             return self.was_refilled(refill);
         };
         let lacks_room = left.most == 0 || self.deadline <= now;
-        if answer == PutAnswer::NoRoom {
+        if ended == StoreEnd::NoRoom {
             self.is_unsure = left.most > 0;
             return lacks_room && !refill.came_about;
         }
         if lacks_room {
             self.was_refilled(refill);
         }
-        let is_stored = answer == PutAnswer::Stored;
+        let is_stored = ended == StoreEnd::Stored;
         if is_stored {
             self.use_row();
         }
@@ -93,18 +100,18 @@ impl Current {
     }
 
     /// Goes on by a store that makes no room. Returns whether the segment allows the answer.
-    pub fn was_stored_into(&mut self, answer: WriteAnswer) -> bool {
+    pub fn was_stored_into(&mut self, ended: StoreEnd) -> bool {
         let Some(left) = self.left else {
             return true;
         };
         let was_unsure = self.is_unsure;
         self.is_unsure = false;
-        if answer == WriteAnswer::NoRoom {
+        if ended == StoreEnd::NoRoom {
             self.left = Some(Left { least: 0, most: 0 });
             return left.least == 0 || was_unsure;
         }
         self.has_row();
-        if answer == WriteAnswer::Stored {
+        if ended == StoreEnd::Stored {
             self.use_row();
         }
         left.most > 0

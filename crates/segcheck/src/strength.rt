@@ -1,8 +1,15 @@
 //! How strong the checker is: of answers that are altered in a history, one at a time, how many it refuses.
-use crate::draws::Draws;
-use segcheck::{Call, Fault, KINDS, Operation, Sizes, altered, check};
+use crate::alterations::{KINDS, altered};
+use crate::call::{Call, Operation};
+use crate::replay::{Fault, Sizes, check};
 use std::alloc::Global;
 use std::mem;
+
+/// Numbers at random.
+pub trait Draw {
+    /// A number below a bound.
+    fn below(&mut self, bound: u32) -> u32;
+}
 
 /// Only the first calls of each thread are altered, so that what comes before them is short.
 const FIRST: u32 = 1000;
@@ -34,11 +41,11 @@ impl Strength {
 }
 
 /// Alters so many answers of the threads, each alone. The calls were made in turn.
-pub fn strength_of(
+pub fn strength_of<D: Draw>(
     alloc: Global,
     sizes: Sizes,
     told: &mut [Vec<Call>],
-    draws: &mut Draws,
+    draws: &mut D,
     count: u32,
 ) -> Result<Strength, Fault> {
     for calls in told.iter_mut() {
@@ -66,7 +73,7 @@ fn kinds_of(sizes: Sizes) -> u32 {
 }
 
 // A call, drawn at random, and its operation with another answer.
-fn alteration(told: &[Vec<Call>], draws: &mut Draws, kinds: u32) -> Option<(Spot, Operation)> {
+fn alteration<D: Draw>(told: &[Vec<Call>], draws: &mut D, kinds: u32) -> Option<(Spot, Operation)> {
     for _ in 0..TRIES {
         let thread = draws.below(number(told.len())) as usize;
         let calls = told.get(thread)?;
