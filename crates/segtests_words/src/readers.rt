@@ -7,11 +7,12 @@ use crate::calls::{get, pop, quiet_board, refill, set};
 use crate::same::same;
 use segbase::{Board, Pass};
 use segmodel::{GetAnswer, RefillAnswer, WriteAnswer};
-use segword::{Key, Shape, Value};
+use segword::{Key, MOST_SPAN, Shape, Value};
 use std::test::Fail;
 use std::thread::join;
 
-const TIMES: u32 = 100_000;
+/// Each get returns a value, so it is fewer times where a value may be long.
+const TIMES: u32 = 100_000 / MOST_SPAN as u32;
 
 /// No hit counts from the frequency 16 on, which doesn't divide it.
 const DRAW: u32 = 1;
