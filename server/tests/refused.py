@@ -66,8 +66,8 @@ def asks(port):
 
 
 def no_start(command):
-    """Where a request at the start is refused, the server says so in a line, gives all memory back and ends. Where one is
-    refused later, a connection is."""
+    """Where a request at the start is refused, the server says so in a line, gives all memory back and ends. Where one
+    is refused later, a connection is."""
     with refusing() as (refusals, environment):
         ended = 0
         for number in range(1, MOST_AT_START):
