@@ -155,7 +155,8 @@ fn what_is_read_is_kept_up_to_its_own_deadline(rt: HostRuntime) {
     }
 }
 
-// The first numbers have a long time, the next a short one. Then no segment is free.
+// The first numbers have a long time, the next a short one. Then room is made for other times,
+// until no segment is free.
 fn fill(rt: &impl Abort, client: &mut Client<'_>) {
     for number in 0..8 {
         put_for(rt, client, number, LONG);
@@ -163,8 +164,8 @@ fn fill(rt: &impl Abort, client: &mut Client<'_>) {
     for number in 8..16 {
         put_for(rt, client, number, SHORT);
     }
-    client.set_time_to_live(LONG);
-    for _ in 2..32 {
+    for times in 3..33u32 {
+        client.set_time_to_live(times.saturating_mul(LONG));
         check_that(rt, client.make_room());
     }
 }
