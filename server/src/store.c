@@ -73,14 +73,9 @@ uint32_t store_longest(const struct store_plan *plan) {
   return longest - AROUND < STORE_MOST_VALUE ? (uint32_t)(longest - AROUND) : STORE_MOST_VALUE;
 }
 
-/* Makes a client of the library ready. Its lock is held for one call, so who waits for it tries for a while before it
- * sleeps: sleep and waking take longer than the call. */
+/* Makes a client of the library ready. */
 static void begin_client(const struct store *store, struct store_client *client, segcache_client opened) {
-  pthread_mutexattr_t kind;
-  pthread_mutexattr_init(&kind);
-  pthread_mutexattr_settype(&kind, PTHREAD_MUTEX_ADAPTIVE_NP);
-  pthread_mutex_init(&client->lock, &kind);
-  pthread_mutexattr_destroy(&kind);
+  pthread_mutex_init(&client->lock, NULL);
   client->client = opened;
   client->store = store;
   client->time_to_live = UINT32_MAX;
