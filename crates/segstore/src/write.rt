@@ -51,6 +51,7 @@ pub fn write_row(
 
 /// Writes a key and a value into a row of the pass's own that no item named in this filling, and
 /// into as many behind it as their item takes. The call doesn't count the rows as used.
+#[inline(always)]
 pub fn fill_row(board: &Board, pass: &mut Pass, row: RowRef, key: &KeyWords, value: &ValueBytes<'_>)
     requires pass { IsPassOf board.now pass.old }
     requires own { AreOwnRows board.now.shape (trace pass.old) (number pass.old)

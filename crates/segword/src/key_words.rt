@@ -79,6 +79,7 @@ impl KeyWords {
     }
 
     /// The words of this key and a value.
+    #[inline(always)]
     pub fn row(&self, value: &ValueBytes<'_>) -> [u64; ITEM_WORDS]
         ensures row { result ≡ row_of self.now value.now }
         ensures key { IsKey self.now }
