@@ -1,5 +1,5 @@
 -- The machine values of a `Loose` and of a `OnceBox`. Assumes `Logic`.
-use Rattle.std.proofs.Common.{◌≡◌, ℕ, List, [], ◌∷◌, ◌++◌, refl, subst}
+use Rattle.std.proofs.Common.{◌≡◌, ℕ, List, [], ◌∷◌, ◌++◌, refl, subst, ap}
 use mathlib.Core.Bool.{Bool, true, false, ◌&&◌}
 use lib.Dec.{T, lit<}
 use seplogic.Ra.Ura.{Ura}
@@ -95,33 +95,44 @@ module _ {M : Type 1} {𝓤 : Ura M} {𝓛 : Logic 𝓤} {K : Type 0} {Γ : List
       (vptr b o ∷ []) (vptr b o ∷ []) refl $ fjoin t $ feq_i t (List Val) (v ∷ []) (v ∷ []) refl $ fjoin t $
       fpack t (Valss fields) (within (shape handle.the_type) (block_ptr b o, (true, tt)) (v ∷ [])) (vptr b o ∷ [], (vbool true ∷ [], tt)) $ fjoin t $ s)
 
-  -- a handle of nothing
+  -- a handle of nothing, whatever its pointer is
+  pub none_at : K → (p : Ptr)
+      → Step K 𝓛 (‵ (Handle.own_val (record { at = p; full = false; value = None }) (both (ptr_val p) (vbool false) ∷ [])) ∷ Γ) G Γ G
+  none_at t p = step (λ s. let v : Val = both (ptr_val p) (vbool false) in
+      nothing t $ nothing t $ feq_i t (List Val) (vbool false ∷ []) (vbool false ∷ []) refl $ fjoin t $ feq_i t
+      (List Val) (ptr_val p ∷ []) (ptr_val p ∷ []) refl $ fjoin t $ feq_i t (List Val) (v ∷ []) (v ∷ []) refl $ fjoin
+      t $
+      fpack t (Valss fields) (within (shape handle.the_type) (p, (false, tt)) (v ∷ [])) (ptr_val p ∷ [], (vbool false ∷ [], tt)) $ fjoin t $ s)
+
   pub none_in : K
       → Step K 𝓛 (‵ (Handle.own_val (record { at = null_ptr; full = false; value = None }) (both vnull (vbool false) ∷ [])) ∷ Γ) G Γ G
-  none_in t = step (λ s. let v : Val = both vnull (vbool false) in
-      nothing t $ nothing t $ feq_i t (List Val) (vbool false ∷ []) (vbool false ∷ []) refl $ fjoin t $ feq_i t
-      (List Val) (vnull ∷ []) (vnull ∷ []) refl $ fjoin t $ feq_i t (List Val) (v ∷ []) (v ∷ []) refl $ fjoin
-      t $
-      fpack t (Valss fields) (within (shape handle.the_type) (null_ptr, (false, tt)) (v ∷ [])) (vnull ∷ [], (vbool false ∷ [], tt)) $ fjoin t $ s)
+  none_in t = none_at t null_ptr
 
   -- a handle has a box, or nothing
+  pub handle_is : K → (d : Handle.Denot) (vs : List Val)
+      → ((b o : ℕ) (x : Kept.Denot) → d ≡ record { at = block_ptr b o; full = true; value = Some x } → vs ≡ both (vptr b o) (vbool true) ∷ [] → Seq K 𝓛 (‵ (box_owns token Kept (block_ptr b o) x) ∷ Γ) G)
+      → (d ≡ record { at = d.at; full = false; value = None } → vs ≡ both (ptr_val d.at) (vbool false) ∷ [] → Seq K 𝓛 Γ G)
+      → Seq K 𝓛 (‵ (Handle.own_val d vs) ∷ Γ) G
+  handle_is t d vs some none =
+      fsplit t $ fpick t (λ vss. fsplit t $ feq_l t (λ ev. fsplit t $ feq_l t (λ ep. fsplit t $ feq_l t (λ eb. drop t $
+      by_case d.full d.value refl refl (ev ∙ (λ j. vstruct (of_list (ep j ++ (eb j ++ []))) ∷ []))))))
+    where
+      impossible : Seq K 𝓛 (‵ ffalse ∷ Γ) G
+      impossible = use1 𝓛 (given ⊥ (‵ ftrue)) (never_e 𝓤 _) $ learn t (λ z. absurd z)
+
+      by_case : (f : Bool) (x : Option Kept.Denot) → d.full ≡ f → d.value ≡ x → vs ≡ both (ptr_val d.at) (vbool f) ∷ [] → Seq K 𝓛 (‵ (owns_if token Kept d.at f x) ∷ Γ) G
+      by_case true (Some x) has is e = in_a_block t d.at (λ p. box_owns token Kept p x) (fst∗ 𝓤 (never 𝓤) (sem 𝓛 (token (bare (lone Kept.mir)) null_ptr))) (λ b o at.
+          some b o x (λ i. record { at = at i; full = has i; value = is i }) (subst (λ (p : Ptr). vs ≡ both (ptr_val p) (vbool true) ∷ []) at e))
+      by_case true None has is e = impossible
+      by_case false (Some x) has is e = impossible
+      by_case false None has is e = drop t $ none (λ i. record { at = d.at; full = has i; value = is i }) e
+
   pub handle_out : K → (d : Handle.Denot) (vs : List Val)
       → ((b o : ℕ) (x : Kept.Denot) → d.value ≡ Some x → vs ≡ both (vptr b o) (vbool true) ∷ [] → Seq K 𝓛 (‵ (box_owns token Kept (block_ptr b o) x) ∷ Γ) G)
       → ((p : Ptr) → d.value ≡ None → vs ≡ both (ptr_val p) (vbool false) ∷ [] → Seq K 𝓛 Γ G)
       → Seq K 𝓛 (‵ (Handle.own_val d vs) ∷ Γ) G
   handle_out t d vs some none =
-      fsplit t $ fpick t (λ vss. fsplit t $ feq_l t (λ ev. fsplit t $ feq_l t (λ ep. fsplit t $ feq_l t (λ eb. drop t $
-      by_case d.full d.value refl (ev ∙ (λ j. vstruct (of_list (ep j ++ (eb j ++ []))) ∷ []))))))
-    where
-      impossible : Seq K 𝓛 (‵ ffalse ∷ Γ) G
-      impossible = use1 𝓛 (given ⊥ (‵ ftrue)) (never_e 𝓤 _) $ learn t (λ z. absurd z)
-
-      by_case : (f : Bool) (x : Option Kept.Denot) → d.value ≡ x → vs ≡ both (ptr_val d.at) (vbool f) ∷ [] → Seq K 𝓛 (‵ (owns_if token Kept d.at f x) ∷ Γ) G
-      by_case true (Some x) is e = in_a_block t d.at (λ p. box_owns token Kept p x) (fst∗ 𝓤 (never 𝓤) (sem 𝓛 (token (bare (lone Kept.mir)) null_ptr))) (λ b o at.
-          some b o x is (subst (λ (p : Ptr). vs ≡ both (ptr_val p) (vbool true) ∷ []) at e))
-      by_case true None is e = impossible
-      by_case false (Some x) is e = impossible
-      by_case false None is e = drop t $ none d.at is e
+      handle_is t d vs (λ b o x is. some b o x (ap (λ (k : Handle.Denot). k.value) is)) (λ is. none d.at (ap (λ (k : Handle.Denot). k.value) is))
 
 abbrev pub heap_al : Al
 heap_al = record { row = heap; laws = heap_laws.the_row_laws; g = ghosts; d = impl [] tnil dnil; drops = impl [] tnil dnil }

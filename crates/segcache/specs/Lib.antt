@@ -7,6 +7,7 @@ pub mod Exports
 pub mod Guest
 pub mod Holding
 pub mod Home
+pub mod Lending
 pub mod Made
 pub mod Making
 pub mod Many

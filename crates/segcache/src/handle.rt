@@ -25,6 +25,9 @@ impl Model for Handle {
 }
 
 impl Handle {
+    ghost use Rattle.std.specs.Borrow.{sem};
+    ghost use Rattle.segcache.specs.Lending.{LendsKept};
+
     // No value.
     fn none() -> Handle
         ensures { result.value ≡ None }
@@ -59,6 +62,19 @@ impl Handle {
         } else {
             None
         }
+    }
+
+    /// The value, if it has one, where it stands.
+    #[inline(always)]
+    pub(crate) fn kept(&mut self) -> Option<&mut Kept>
+        ensures* lends { sem 𝓛 (LendsKept self.entry result) }
+        ensures kept { MatchOption result (self.old.value ≡ None)
+            (λ kept. self.old.value ≡ Some kept.now) }
+    {
+        if !self.full {
+            return None;
+        }
+        unsafe { Some(&mut *(self.at as *mut Kept)) }
     }
 
     /// Takes the value out, and leaves none.

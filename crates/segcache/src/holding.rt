@@ -8,25 +8,21 @@ use crate::handle::Handle;
 use crate::kept::Kept;
 use crate::status::Status;
 use segclient::Key;
-use std::alloc::Global;
 
 /// Holds the item of a key. A client holds one item at most.
 #[unsafe(no_mangle)]
-pub extern "C" fn segcache_raw_hold(alloc: Global, client: &mut Handle, key: &[u8], now: u32) -> u32
+pub extern "C" fn segcache_raw_hold(client: &mut Handle, key: &[u8], now: u32) -> u32
     ensures { Answers result (Held key.now now client.old.value client.new.value) }
 {
-    let Some(mut kept) = client.take(alloc) else {
+    let Some(kept) = client.kept() else {
         return Status::NoHandle.number();
     };
-    let status = hold(&mut kept, key, now);
-    client.fill(alloc, kept);
-    status.number()
+    hold(kept, key, now).number()
 }
 
 /// Copies the value that is held to the buffer, as a get does.
 #[unsafe(no_mangle)]
 pub extern "C" fn segcache_raw_held_value(
-    alloc: Global,
     client: &mut Handle,
     value: &mut [u8],
     value_len: &mut usize,
@@ -34,25 +30,21 @@ pub extern "C" fn segcache_raw_held_value(
     ensures { Answers result (GotHeld client.old.value client.new.value
         (value.old, value_len.old) (value.new, value_len.new)) }
 {
-    let Some(mut kept) = client.take(alloc) else {
+    let Some(kept) = client.kept() else {
         return Status::NoHandle.number();
     };
-    let status = held_value(&mut kept, value, value_len);
-    client.fill(alloc, kept);
-    status.number()
+    held_value(kept, value, value_len).number()
 }
 
 /// Ends a hold.
 #[unsafe(no_mangle)]
-pub extern "C" fn segcache_raw_release(alloc: Global, client: &mut Handle) -> u32
+pub extern "C" fn segcache_raw_release(client: &mut Handle) -> u32
     ensures { Answers result (Released client.old.value client.new.value) }
 {
-    let Some(mut kept) = client.take(alloc) else {
+    let Some(kept) = client.kept() else {
         return Status::NoHandle.number();
     };
-    let status = release(&mut kept);
-    client.fill(alloc, kept);
-    status.number()
+    release(kept).number()
 }
 
 fn hold(kept: &mut Kept, key: &[u8], now: u32) -> Status

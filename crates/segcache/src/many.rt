@@ -12,7 +12,6 @@ use crate::status::Status;
 use segclient::{Index, Key};
 use segshards::{LEAST_AHEAD, ROUND, Shards, is_large, look_ahead};
 use segword::VALUE_BYTES;
-use std::alloc::Global;
 
 /// The place of a key among the bytes of a call, and what its lookup came to.
 #[repr(C)]
@@ -38,7 +37,6 @@ pub struct KeyPlace {
 /// The call itself is Ok, whatever the lookups came to.
 #[unsafe(no_mangle)]
 pub extern "C" fn segcache_raw_get_many(
-    alloc: Global,
     client: &mut Handle,
     keys: &[u8],
     lookups: &mut [Lookup],
@@ -47,18 +45,15 @@ pub extern "C" fn segcache_raw_get_many(
     ensures { Answers result (GotMany false keys.now now lookups.old lookups.new
         client.old.value client.new.value) }
 {
-    let Some(mut kept) = client.take(alloc) else {
+    let Some(kept) = client.kept() else {
         return Status::NoHandle.number();
     };
-    let status = get_many(&mut kept, keys, lookups, false, now);
-    client.fill(alloc, kept);
-    status.number()
+    get_many(kept, keys, lookups, false, now).number()
 }
 
 /// The same, with the version of each key's bucket, for later compare-and-swaps.
 #[unsafe(no_mangle)]
 pub extern "C" fn segcache_raw_gets_many(
-    alloc: Global,
     client: &mut Handle,
     keys: &[u8],
     lookups: &mut [Lookup],
@@ -67,31 +62,26 @@ pub extern "C" fn segcache_raw_gets_many(
     ensures { Answers result (GotMany true keys.now now lookups.old lookups.new
         client.old.value client.new.value) }
 {
-    let Some(mut kept) = client.take(alloc) else {
+    let Some(kept) = client.kept() else {
         return Status::NoHandle.number();
     };
-    let status = get_many(&mut kept, keys, lookups, true, now);
-    client.fill(alloc, kept);
-    status.number()
+    get_many(kept, keys, lookups, true, now).number()
 }
 
 /// Loads what gets of the first sixteen of the keys will read, so that their waits for memory overlap.
 /// No answer depends on it.
 #[unsafe(no_mangle)]
 pub extern "C" fn segcache_raw_look_ahead(
-    alloc: Global,
     client: &mut Handle,
     keys: &[u8],
     places: &[KeyPlace],
 ) -> u32
     ensures { Answers result (LooksAhead client.old.value client.new.value) }
 {
-    let Some(kept) = client.take(alloc) else {
+    let Some(kept) = client.kept() else {
         return Status::NoHandle.number();
     };
-    let status = ahead_of(&kept, keys, places);
-    client.fill(alloc, kept);
-    status.number()
+    ahead_of(kept, keys, places).number()
 }
 
 fn ahead_of(kept: &Kept, keys: &[u8], places: &[KeyPlace]) -> Status

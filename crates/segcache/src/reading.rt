@@ -9,13 +9,11 @@ use crate::handle::Handle;
 use crate::kept::Kept;
 use crate::status::Status;
 use segclient::{GetsIntoAnswer, IntoAnswer, Key};
-use std::alloc::Global;
 
 /// Looks up a key at a moment, and copies its value to the buffer.
 /// A buffer that is too short is left as it is, and the length says how much is wanted.
 #[unsafe(no_mangle)]
 pub extern "C" fn segcache_raw_get(
-    alloc: Global,
     client: &mut Handle,
     key: &[u8],
     value: &mut [u8],
@@ -25,18 +23,15 @@ pub extern "C" fn segcache_raw_get(
     ensures { Answers result (Got key.now now client.old.value client.new.value
         (value.old, value_len.old) (value.new, value_len.new)) }
 {
-    let Some(mut kept) = client.take(alloc) else {
+    let Some(kept) = client.kept() else {
         return Status::NoHandle.number();
     };
-    let status = get(&mut kept, key, value, value_len, now);
-    client.fill(alloc, kept);
-    status.number()
+    get(kept, key, value, value_len, now).number()
 }
 
 /// The same, with the version of the key's bucket, for a later compare-and-swap.
 #[unsafe(no_mangle)]
 pub extern "C" fn segcache_raw_gets(
-    alloc: Global,
     client: &mut Handle,
     key: &[u8],
     value: &mut [u8],
@@ -47,12 +42,10 @@ pub extern "C" fn segcache_raw_gets(
     ensures { Answers result (GotVersion key.now now client.old.value client.new.value
         (value.old, value_len.old) (value.new, value_len.new) version.old version.new) }
 {
-    let Some(mut kept) = client.take(alloc) else {
+    let Some(kept) = client.kept() else {
         return Status::NoHandle.number();
     };
-    let status = gets(&mut kept, key, value, value_len, version, now);
-    client.fill(alloc, kept);
-    status.number()
+    gets(kept, key, value, value_len, version, now).number()
 }
 
 fn get(kept: &mut Kept, key: &[u8], value: &mut [u8], value_len: &mut usize, now: u32) -> Status

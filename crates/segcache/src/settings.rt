@@ -7,7 +7,6 @@ ghost use Rattle.segcache.specs.Setting.{SetTimeToLive};
 use crate::handle::Handle;
 use crate::kept::Kept;
 use crate::status::Status;
-use std::alloc::Global;
 
 /// What a client's calls came to.
 #[repr(C)]
@@ -40,81 +39,68 @@ pub struct TableStats {
 /// Sets how long what is stored from now on can be read.
 #[unsafe(no_mangle)]
 pub extern "C" fn segcache_raw_set_time_to_live(
-    alloc: Global,
     client: &mut Handle,
     seconds: u32,
 ) -> u32
     ensures { Answers result (SetTimeToLive seconds client.old.value client.new.value) }
 {
-    let Some(mut kept) = client.take(alloc) else {
+    let Some(kept) = client.kept() else {
         return Status::NoHandle.number();
     };
-    let status = set_time_to_live(&mut kept, seconds);
-    client.fill(alloc, kept);
-    status.number()
+    set_time_to_live(kept, seconds).number()
 }
 
 /// Sets the least frequency of an item that a put keeps, in place of the two queues by which a
 /// client keeps at the start. With 0 it keeps nothing.
 /// A frequency has 8 bits, so what is higher counts as 255.
 #[unsafe(no_mangle)]
-pub extern "C" fn segcache_raw_keep_from(alloc: Global, client: &mut Handle, cutoff: u32) -> u32
+pub extern "C" fn segcache_raw_keep_from(client: &mut Handle, cutoff: u32) -> u32
     ensures { Answers result (KeptFrom cutoff client.old.value client.new.value) }
 {
-    let Some(mut kept) = client.take(alloc) else {
+    let Some(kept) = client.kept() else {
         return Status::NoHandle.number();
     };
-    let status = keep_from(&mut kept, cutoff);
-    client.fill(alloc, kept);
-    status.number()
+    keep_from(kept, cutoff).number()
 }
 
 /// Makes room for a write.
 #[unsafe(no_mangle)]
-pub extern "C" fn segcache_raw_make_room(alloc: Global, client: &mut Handle, now: u32) -> u32
+pub extern "C" fn segcache_raw_make_room(client: &mut Handle, now: u32) -> u32
     ensures { Answers result (MadeRoom now client.old.value client.new.value) }
 {
-    let Some(mut kept) = client.take(alloc) else {
+    let Some(kept) = client.kept() else {
         return Status::NoHandle.number();
     };
-    let status = make_room(&mut kept, now);
-    client.fill(alloc, kept);
-    status.number()
+    make_room(kept, now).number()
 }
 
 /// Writes what the client's calls came to.
 #[unsafe(no_mangle)]
 pub extern "C" fn segcache_raw_stats(
-    alloc: Global,
     client: &mut Handle,
     counts: &mut ClientStats,
 ) -> u32
     ensures { Answers result (Counted client.old.value client.new.value counts.old counts.new) }
 {
-    let Some(mut kept) = client.take(alloc) else {
+    let Some(kept) = client.kept() else {
         return Status::NoHandle.number();
     };
-    let status = stats(&mut kept, counts);
-    client.fill(alloc, kept);
-    status.number()
+    stats(kept, counts).number()
 }
 
 /// Writes what the client sees of the table. It goes over all rows of the client.
 #[unsafe(no_mangle)]
 pub extern "C" fn segcache_raw_index_stats(
-    alloc: Global,
     client: &mut Handle,
     counts: &mut TableStats,
 ) -> u32
     ensures { Answers result (CountedTable client.old.value client.new.value
         counts.old counts.new) }
 {
-    let Some(mut kept) = client.take(alloc) else {
+    let Some(kept) = client.kept() else {
         return Status::NoHandle.number();
     };
-    let status = index_stats(&mut kept, counts);
-    client.fill(alloc, kept);
-    status.number()
+    index_stats(kept, counts).number()
 }
 
 fn set_time_to_live(kept: &mut Kept, seconds: u32) -> Status

@@ -9,7 +9,6 @@ use crate::kept::Kept;
 use crate::status::Status;
 use crate::when::When;
 use segclient::{DeleteAnswer, Key, PutAnswer, ValueBytes, WriteAnswer};
-use std::alloc::Global;
 
 // The status of an answer to a put.
 fn of_put(answer: PutAnswer) -> Status
@@ -52,7 +51,6 @@ fn of_delete(answer: DeleteAnswer) -> Status
 /// Stores a value under a key, and makes room for it if there is none.
 #[unsafe(no_mangle)]
 pub extern "C" fn segcache_raw_put(
-    alloc: Global,
     client: &mut Handle,
     key: &[u8],
     value: &[u8],
@@ -60,12 +58,10 @@ pub extern "C" fn segcache_raw_put(
 ) -> u32
     ensures { Answers result (Put key.now value.now now client.old.value client.new.value) }
 {
-    let Some(mut kept) = client.take(alloc) else {
+    let Some(kept) = client.kept() else {
         return Status::NoHandle.number();
     };
-    let status = put(&mut kept, key, value, now);
-    client.fill(alloc, kept);
-    status.number()
+    put(kept, key, value, now).number()
 }
 
 fn put(kept: &mut Kept, key: &[u8], value: &[u8], now: u32) -> Status
@@ -87,7 +83,6 @@ fn put(kept: &mut Kept, key: &[u8], value: &[u8], now: u32) -> Status
 /// of the client's own.
 #[unsafe(no_mangle)]
 pub extern "C" fn segcache_raw_put_for(
-    alloc: Global,
     client: &mut Handle,
     key: &[u8],
     value: &[u8],
@@ -97,12 +92,10 @@ pub extern "C" fn segcache_raw_put_for(
     ensures { Answers result (PutFor seconds key.now value.now now
         client.old.value client.new.value) }
 {
-    let Some(mut kept) = client.take(alloc) else {
+    let Some(kept) = client.kept() else {
         return Status::NoHandle.number();
     };
-    let status = put_for(&mut kept, key, value, seconds, now);
-    client.fill(alloc, kept);
-    status.number()
+    put_for(kept, key, value, seconds, now).number()
 }
 
 fn put_for(kept: &mut Kept, key: &[u8], value: &[u8], seconds: u32, now: u32) -> Status
@@ -123,7 +116,6 @@ fn put_for(kept: &mut Kept, key: &[u8], value: &[u8], seconds: u32, now: u32) ->
 /// Stores a value under a key, and makes no room.
 #[unsafe(no_mangle)]
 pub extern "C" fn segcache_raw_set(
-    alloc: Global,
     client: &mut Handle,
     key: &[u8],
     value: &[u8],
@@ -132,18 +124,15 @@ pub extern "C" fn segcache_raw_set(
     ensures { Answers result (Wrote When.Always key.now value.now now
         client.old.value client.new.value) }
 {
-    let Some(mut kept) = client.take(alloc) else {
+    let Some(kept) = client.kept() else {
         return Status::NoHandle.number();
     };
-    let status = write(&mut kept, When::Always, key, value, now);
-    client.fill(alloc, kept);
-    status.number()
+    write(kept, When::Always, key, value, now).number()
 }
 
 /// Stores a value if the key is absent.
 #[unsafe(no_mangle)]
 pub extern "C" fn segcache_raw_add(
-    alloc: Global,
     client: &mut Handle,
     key: &[u8],
     value: &[u8],
@@ -152,18 +141,15 @@ pub extern "C" fn segcache_raw_add(
     ensures { Answers result (Wrote When.IfAbsent key.now value.now now
         client.old.value client.new.value) }
 {
-    let Some(mut kept) = client.take(alloc) else {
+    let Some(kept) = client.kept() else {
         return Status::NoHandle.number();
     };
-    let status = write(&mut kept, When::IfAbsent, key, value, now);
-    client.fill(alloc, kept);
-    status.number()
+    write(kept, When::IfAbsent, key, value, now).number()
 }
 
 /// Stores a value if the key is present.
 #[unsafe(no_mangle)]
 pub extern "C" fn segcache_raw_replace(
-    alloc: Global,
     client: &mut Handle,
     key: &[u8],
     value: &[u8],
@@ -172,18 +158,15 @@ pub extern "C" fn segcache_raw_replace(
     ensures { Answers result (Wrote When.IfPresent key.now value.now now
         client.old.value client.new.value) }
 {
-    let Some(mut kept) = client.take(alloc) else {
+    let Some(kept) = client.kept() else {
         return Status::NoHandle.number();
     };
-    let status = write(&mut kept, When::IfPresent, key, value, now);
-    client.fill(alloc, kept);
-    status.number()
+    write(kept, When::IfPresent, key, value, now).number()
 }
 
 /// Stores a value if the key is present and its bucket has the version.
 #[unsafe(no_mangle)]
 pub extern "C" fn segcache_raw_cas(
-    alloc: Global,
     client: &mut Handle,
     key: &[u8],
     value: &[u8],
@@ -193,12 +176,10 @@ pub extern "C" fn segcache_raw_cas(
     ensures { Answers result (Wrote (When.IfVersion version) key.now value.now now
         client.old.value client.new.value) }
 {
-    let Some(mut kept) = client.take(alloc) else {
+    let Some(kept) = client.kept() else {
         return Status::NoHandle.number();
     };
-    let status = write(&mut kept, When::IfVersion(version), key, value, now);
-    client.fill(alloc, kept);
-    status.number()
+    write(kept, When::IfVersion(version), key, value, now).number()
 }
 
 // A set, an add, a replace or a compare-and-swap.
@@ -221,19 +202,16 @@ fn write(kept: &mut Kept, when: When, key: &[u8], value: &[u8], now: u32) -> Sta
 /// Takes a key out.
 #[unsafe(no_mangle)]
 pub extern "C" fn segcache_raw_delete(
-    alloc: Global,
     client: &mut Handle,
     key: &[u8],
     now: u32,
 ) -> u32
     ensures { Answers result (Deleted key.now now client.old.value client.new.value) }
 {
-    let Some(mut kept) = client.take(alloc) else {
+    let Some(kept) = client.kept() else {
         return Status::NoHandle.number();
     };
-    let status = delete(&mut kept, key, now);
-    client.fill(alloc, kept);
-    status.number()
+    delete(kept, key, now).number()
 }
 
 fn delete(kept: &mut Kept, key: &[u8], now: u32) -> Status

@@ -9,4 +9,4 @@ use Rattle.segcache.proofs.many.segcache_raw_get_many.Goals as goal
 pub returns-in_default : goal.returns-in_default
 returns-in_default c =
     unanswered (λ (b a : Option Kept) (returned : Status). GotMany false c.args.keys.now c.args.now c.args.lookups.now c.args.lookups.now b a returned) _ _ _
-    c.in_default.ensures.taken c.take.ensures.none c.number.ensures ((refl, refl), refl)
+    c.in_default.ensures.kept c.in_default.ensures.kept c.number.ensures ((refl, refl), refl)

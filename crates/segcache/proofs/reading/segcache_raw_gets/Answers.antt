@@ -11,4 +11,4 @@ returns-in_default c =
     unanswered (λ (b a : Option Kept) (returned : Status). GotVersion c.args.key.now c.args.now b a
     (c.args.value.now, c.args.value_len.now) (c.args.value.now, c.args.value_len.now) c.args.version.now
     c.args.version.now returned) _ _ _
-    c.in_default.ensures.taken c.take.ensures.none c.number.ensures (((refl, refl), refl), refl)
+    c.in_default.ensures.kept c.in_default.ensures.kept c.number.ensures (((refl, refl), refl), refl)

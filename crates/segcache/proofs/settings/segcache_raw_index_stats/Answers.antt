@@ -9,4 +9,4 @@ use Rattle.segcache.proofs.settings.segcache_raw_index_stats.Goals as goal
 pub returns-in_default : goal.returns-in_default
 returns-in_default c =
     unanswered (λ (b a : Option Kept) (returned : Status). CountedTable b a c.args.counts.now c.args.counts.now returned) _ _ _
-    c.in_default.ensures.taken c.take.ensures.none c.number.ensures ((refl, refl), refl)
+    c.in_default.ensures.kept c.in_default.ensures.kept c.number.ensures ((refl, refl), refl)

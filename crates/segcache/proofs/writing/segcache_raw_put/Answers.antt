@@ -9,4 +9,4 @@ use Rattle.segcache.proofs.writing.segcache_raw_put.Goals as goal
 pub returns-in_default : goal.returns-in_default
 returns-in_default c =
     unanswered (λ (b a : Option Kept) (returned : Status). Put c.args.key.now c.args.value.now c.args.now b a returned) _ _ _
-    c.in_default.ensures.taken c.take.ensures.none c.number.ensures (refl, refl)
+    c.in_default.ensures.kept c.in_default.ensures.kept c.number.ensures (refl, refl)

@@ -10,4 +10,4 @@ pub returns-in_default : goal.returns-in_default
 returns-in_default c =
     let Does = λ (b a : Option Kept) (returned : Status).
     PutFor c.args.seconds c.args.key.now c.args.value.now c.args.now b a returned in
-    unanswered Does _ _ _ c.in_default.ensures.taken c.take.ensures.none c.number.ensures (refl, refl)
+    unanswered Does _ _ _ c.in_default.ensures.kept c.in_default.ensures.kept c.number.ensures (refl, refl)
