@@ -110,7 +110,8 @@ module _ {M : Type 1} {𝓤 : Ura M} {𝓛 : Logic 𝓤} {K : Type 0} {Γ : List
 
   -- a handle has a box, or nothing
   pub handle_is : K → (d : Handle.Denot) (vs : List Val)
-      → ((b o : ℕ) (x : Kept.Denot) → d ≡ record { at = block_ptr b o; full = true; value = Some x } → vs ≡ both (vptr b o) (vbool true) ∷ [] → Seq K 𝓛 (‵ (box_owns token Kept (block_ptr b o) x) ∷ Γ) G)
+      → ((b o : ℕ) (x : Kept.Denot) → d ≡ record { at = block_ptr b o; full = true; value = Some x } → vs ≡ both (vptr b o) (vbool true) ∷ []
+      → Seq K 𝓛 (‵ (box_owns token Kept (block_ptr b o) x) ∷ Γ) G)
       → (d ≡ record { at = d.at; full = false; value = None } → vs ≡ both (ptr_val d.at) (vbool false) ∷ [] → Seq K 𝓛 Γ G)
       → Seq K 𝓛 (‵ (Handle.own_val d vs) ∷ Γ) G
   handle_is t d vs some none =
@@ -121,7 +122,8 @@ module _ {M : Type 1} {𝓤 : Ura M} {𝓛 : Logic 𝓤} {K : Type 0} {Γ : List
       impossible = use1 𝓛 (given ⊥ (‵ ftrue)) (never_e 𝓤 _) $ learn t (λ z. absurd z)
 
       by_case : (f : Bool) (x : Option Kept.Denot) → d.full ≡ f → d.value ≡ x → vs ≡ both (ptr_val d.at) (vbool f) ∷ [] → Seq K 𝓛 (‵ (owns_if token Kept d.at f x) ∷ Γ) G
-      by_case true (Some x) has is e = in_a_block t d.at (λ p. box_owns token Kept p x) (fst∗ 𝓤 (never 𝓤) (sem 𝓛 (token (bare (lone Kept.mir)) null_ptr))) (λ b o at.
+      by_case true (Some x) has is e =
+          in_a_block t d.at (λ p. box_owns token Kept p x) (fst∗ 𝓤 (never 𝓤) (sem 𝓛 (token (bare (lone Kept.mir)) null_ptr))) (λ b o at.
           some b o x (λ i. record { at = at i; full = has i; value = is i }) (subst (λ (p : Ptr). vs ≡ both (ptr_val p) (vbool true) ∷ []) at e))
       by_case true None has is e = impossible
       by_case false (Some x) has is e = impossible

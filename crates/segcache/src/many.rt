@@ -45,10 +45,7 @@ pub extern "C" fn segcache_raw_get_many(
     ensures { Answers result (GotMany false keys.now now lookups.old lookups.new
         client.old.value client.new.value) }
 {
-    let Some(kept) = client.kept() else {
-        return Status::NoHandle.number();
-    };
-    get_many(kept, keys, lookups, false, now).number()
+    get_many_by(client, keys, lookups, false, now)
 }
 
 /// The same, with the version of each key's bucket, for later compare-and-swaps.
@@ -62,10 +59,7 @@ pub extern "C" fn segcache_raw_gets_many(
     ensures { Answers result (GotMany true keys.now now lookups.old lookups.new
         client.old.value client.new.value) }
 {
-    let Some(kept) = client.kept() else {
-        return Status::NoHandle.number();
-    };
-    get_many(kept, keys, lookups, true, now).number()
+    get_many_by(client, keys, lookups, true, now)
 }
 
 /// Loads what gets of the first sixteen of the keys will read, so that their waits for memory overlap.
@@ -102,7 +96,25 @@ fn look_ahead_at(client: &SharedClient, keys: &[u8], places: &[KeyPlace]) {
     }
 }
 
-// Looks up the keys, with their versions or without.
+// Looks up the keys by what a handle has, with their versions or without, and returns the status's
+// number.
+fn get_many_by(
+    client: &mut Handle,
+    keys: &[u8],
+    lookups: &mut [Lookup],
+    versioned: bool,
+    now: u32,
+) -> u32
+    ensures { Answers result (GotMany versioned keys.now now lookups.old lookups.new
+        client.old.value client.new.value) }
+{
+    let Some(kept) = client.kept() else {
+        return Status::NoHandle.number();
+    };
+    get_many(kept, keys, lookups, versioned, now).number()
+}
+
+// Looks up the keys by a client.
 fn get_many(
     kept: &mut Kept,
     keys: &[u8],

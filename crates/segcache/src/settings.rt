@@ -38,10 +38,7 @@ pub struct TableStats {
 
 /// Sets how long what is stored from now on can be read.
 #[unsafe(no_mangle)]
-pub extern "C" fn segcache_raw_set_time_to_live(
-    client: &mut Handle,
-    seconds: u32,
-) -> u32
+pub extern "C" fn segcache_raw_set_time_to_live(client: &mut Handle, seconds: u32) -> u32
     ensures { Answers result (SetTimeToLive seconds client.old.value client.new.value) }
 {
     let Some(kept) = client.kept() else {
@@ -76,10 +73,7 @@ pub extern "C" fn segcache_raw_make_room(client: &mut Handle, now: u32) -> u32
 
 /// Writes what the client's calls came to.
 #[unsafe(no_mangle)]
-pub extern "C" fn segcache_raw_stats(
-    client: &mut Handle,
-    counts: &mut ClientStats,
-) -> u32
+pub extern "C" fn segcache_raw_stats(client: &mut Handle, counts: &mut ClientStats) -> u32
     ensures { Answers result (Counted client.old.value client.new.value counts.old counts.new) }
 {
     let Some(kept) = client.kept() else {
@@ -90,10 +84,7 @@ pub extern "C" fn segcache_raw_stats(
 
 /// Writes what the client sees of the table. It goes over all rows of the client.
 #[unsafe(no_mangle)]
-pub extern "C" fn segcache_raw_index_stats(
-    client: &mut Handle,
-    counts: &mut TableStats,
-) -> u32
+pub extern "C" fn segcache_raw_index_stats(client: &mut Handle, counts: &mut TableStats) -> u32
     ensures { Answers result (CountedTable client.old.value client.new.value
         counts.old counts.new) }
 {

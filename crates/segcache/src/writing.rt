@@ -50,12 +50,7 @@ fn of_delete(answer: DeleteAnswer) -> Status
 
 /// Stores a value under a key, and makes room for it if there is none.
 #[unsafe(no_mangle)]
-pub extern "C" fn segcache_raw_put(
-    client: &mut Handle,
-    key: &[u8],
-    value: &[u8],
-    now: u32,
-) -> u32
+pub extern "C" fn segcache_raw_put(client: &mut Handle, key: &[u8], value: &[u8], now: u32) -> u32
     ensures { Answers result (Put key.now value.now now client.old.value client.new.value) }
 {
     let Some(kept) = client.kept() else {
@@ -115,36 +110,20 @@ fn put_for(kept: &mut Kept, key: &[u8], value: &[u8], seconds: u32, now: u32) ->
 
 /// Stores a value under a key, and makes no room.
 #[unsafe(no_mangle)]
-pub extern "C" fn segcache_raw_set(
-    client: &mut Handle,
-    key: &[u8],
-    value: &[u8],
-    now: u32,
-) -> u32
+pub extern "C" fn segcache_raw_set(client: &mut Handle, key: &[u8], value: &[u8], now: u32) -> u32
     ensures { Answers result (Wrote When.Always key.now value.now now
         client.old.value client.new.value) }
 {
-    let Some(kept) = client.kept() else {
-        return Status::NoHandle.number();
-    };
-    write(kept, When::Always, key, value, now).number()
+    write_by(client, When::Always, key, value, now)
 }
 
 /// Stores a value if the key is absent.
 #[unsafe(no_mangle)]
-pub extern "C" fn segcache_raw_add(
-    client: &mut Handle,
-    key: &[u8],
-    value: &[u8],
-    now: u32,
-) -> u32
+pub extern "C" fn segcache_raw_add(client: &mut Handle, key: &[u8], value: &[u8], now: u32) -> u32
     ensures { Answers result (Wrote When.IfAbsent key.now value.now now
         client.old.value client.new.value) }
 {
-    let Some(kept) = client.kept() else {
-        return Status::NoHandle.number();
-    };
-    write(kept, When::IfAbsent, key, value, now).number()
+    write_by(client, When::IfAbsent, key, value, now)
 }
 
 /// Stores a value if the key is present.
@@ -158,10 +137,7 @@ pub extern "C" fn segcache_raw_replace(
     ensures { Answers result (Wrote When.IfPresent key.now value.now now
         client.old.value client.new.value) }
 {
-    let Some(kept) = client.kept() else {
-        return Status::NoHandle.number();
-    };
-    write(kept, When::IfPresent, key, value, now).number()
+    write_by(client, When::IfPresent, key, value, now)
 }
 
 /// Stores a value if the key is present and its bucket has the version.
@@ -176,13 +152,22 @@ pub extern "C" fn segcache_raw_cas(
     ensures { Answers result (Wrote (When.IfVersion version) key.now value.now now
         client.old.value client.new.value) }
 {
+    write_by(client, When::IfVersion(version), key, value, now)
+}
+
+// A set, an add, a replace or a compare-and-swap by what a handle has, and the status's number.
+#[inline(always)]
+fn write_by(client: &mut Handle, when: When, key: &[u8], value: &[u8], now: u32) -> u32
+    ensures { Answers result (Wrote when key.now value.now now
+        client.old.value client.new.value) }
+{
     let Some(kept) = client.kept() else {
         return Status::NoHandle.number();
     };
-    write(kept, When::IfVersion(version), key, value, now).number()
+    write(kept, when, key, value, now).number()
 }
 
-// A set, an add, a replace or a compare-and-swap.
+// The same by a client.
 #[inline(always)]
 fn write(kept: &mut Kept, when: When, key: &[u8], value: &[u8], now: u32) -> Status
     ensures { Wrote when key.now value.now now (Some kept.old) (Some kept.new) result }
@@ -201,11 +186,7 @@ fn write(kept: &mut Kept, when: When, key: &[u8], value: &[u8], now: u32) -> Sta
 
 /// Takes a key out.
 #[unsafe(no_mangle)]
-pub extern "C" fn segcache_raw_delete(
-    client: &mut Handle,
-    key: &[u8],
-    now: u32,
-) -> u32
+pub extern "C" fn segcache_raw_delete(client: &mut Handle, key: &[u8], now: u32) -> u32
     ensures { Answers result (Deleted key.now now client.old.value client.new.value) }
 {
     let Some(kept) = client.kept() else {

@@ -1,14 +1,14 @@
 -- `kept` lends the value in its box, and the handle follows it.
-use Rattle.std.proofs.Common.{◌≡◌, ℕ, List, [], ◌∷◌, refl, sym, ap, Some, None, lit<}
+use Rattle.std.proofs.Common.{List, [], ◌∷◌, refl, sym, ap, Some, None, lit<}
 use mathlib.Core.Bool.{true, false}
 use base.Fraction.{full_share}
 use mir.Syntax.{named}
 use mir.Raw.{raw as bare}
 use mir.Val.{Val, vbool, vptr, vcons, vnil}
-use base.Logic.{SProp, ent, sep}
+use base.Logic.{ent, sep}
 use base.Fml.{Fml, GName, ftrue, fsep, flft, fobs, fres}
 use types.Logic.{sem}
-use types.Kit.{‵, raw, ◌⊛◌, some, later, await, pick, at_ret, ◌$◌, ◌∵◌, !, qed, by, done, move, keep, drop, split, join, group, rewrite, use0, use1, fsplit, fsplit3, fjoin, fpack, suffices, frame}
+use types.Kit.{‵, raw, ◌⊛◌, some, later, await, pick, at_ret, ◌$◌, ◌∵◌, !, qed, by, done, move, keep, split, join, group, rewrite, use0, use1, fsplit, fsplit3, fjoin, fpack, suffices, frame}
 use types.Match.{live}
 use types.Part.{agg, sub, whole, look_in}
 use types.Run.{lit, stop, fld, load, addr, un, of_opd, no_more, and_then, first, branches, blocks, skips, exec, returns, returns_within, enter}
@@ -18,7 +18,7 @@ use denote.Exit.{no}
 use denote.Follow.{follows, follows_by, Part, lends_Part}
 use denote.Memory.{cell_at, lone, mem, part_at, part_of}
 use denote.RattleType.{RattleType}
-use denote.RawPtr.{Ptr, block_ptr, ptr_val}
+use denote.RawPtr.{block_ptr, ptr_val}
 use denote.Ref.{MutBor, MutRef, mut_vals, mut_Tells}
 use denote.Signature.{plain, mut_ref_to}
 use denote.Steps.{nothing, opens, closes}
@@ -29,7 +29,7 @@ use Rattle.core.specs.contracts.option.Option.{the_row as OptionOf}
 use Rattle.std.proofs.raw_atomic.Walks.{proved}
 use Rattle.segcache.specs.Lending.{with_kept}
 use Rattle.segcache.specs.Token.{token}
-use Rattle.segcache.proofs.Values.{both, bare_good, full_in, handle_is, Handle, Kept, none_at}
+use Rattle.segcache.proofs.Values.{both, full_in, handle_is, Handle, Kept, none_at}
 use Rattle.segcache.specs.contracts.handle.Handle.kept.{ended, clauses}
 use Rattle.segcache.specs.contracts.handle.Handle.kept.Key.{name as #self}
 use Rattle.segcache.proofs.handle.Handle.kept.Statement.{statement}
