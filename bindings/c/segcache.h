@@ -500,8 +500,8 @@ static inline uint32_t segcache_gets_many_into(segcache_client *client, segcache
 /* --- Writing ---------------------------------------------------------------------------------------- */
 
 /* Each call that stores can evict keys of its client. Once it has stored, a client that keeps by queues goes over up to
-   eight rows of another segment of its own, while few of its segments are free or one has expired: it moves their
-   items, or evicts them. A client that keeps from a frequency, or nothing, evicts only by put, put_for, fill and
+   eight items of another segment of its own, while few of its segments are free or one has expired: it moves them, or
+   evicts them. A client that keeps from a frequency, or nothing, evicts only by put, put_for, fill and
    make_room. Of a set, an add, a replace and a cas NO_ROOM comes first, also where the key's presence or version would
    refuse it. */
 
