@@ -152,8 +152,8 @@ impl Board {
         self.add_at(pass, Spot::Segment(segment), u64::MAX);
     }
 
-    /// Whether no reader is counted in a segment of the pass's own in which no key stands.
-    /// If so, the segment gets this deadline, and its refilling enters the history.
+    /// Gives this deadline to a segment of the pass's own in which no key stands, if no reader is
+    /// counted there, and returns whether. If so, its refilling enters the history.
     pub fn none_reading(&self, pass: &mut Pass, segment: u32, deadline: u32) -> bool
         requires pass { IsPassOf self.now pass.old }
         requires own { IsSome (deadline_of pass.old segment) }

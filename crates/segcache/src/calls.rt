@@ -1,4 +1,4 @@
-//! The calls of a client by which it reads and writes the cache.
+//! The calls of a client of one shard by which it reads and writes there.
 ghost use Rattle.segindex.specs.Words.{board_of};
 ghost use Rattle.segclient.specs.Member.{IsMember};
 ghost use Rattle.segcache.specs.Made.{WritesWhen};

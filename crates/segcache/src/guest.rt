@@ -1,4 +1,4 @@
-//! A client that shares its index with the cache and the other clients.
+//! A client of one shard, which shares the shard's index with the cache and the other clients.
 ghost use Rattle.std.specs.Prelude.{◌≡◌, None};
 ghost use Rattle.segbase.specs.Words.{number_of};
 ghost use Rattle.segindex.specs.Words.{board_of, shape_of};
@@ -10,7 +10,7 @@ use segclient::{Index, IndexStats, Member, Pass, Share, Stats};
 use std::alloc::Global;
 use std::sync::Arc;
 
-/// A client with a share of its index, and what it holds by the share.
+/// A client of one shard, with a share of its index and what it holds by the share.
 /// A client that is dropped ends its hold first.
 pub struct Guest {
     pub(crate) share: Share,

@@ -98,6 +98,7 @@ impl Handle {
             drop(loose.into_box());
         }
     }
+
     /// Whether it has no value.
     pub(crate) fn is_empty(&mut self, alloc: Global) -> bool
         ensures empty { result ≡ is_none self.old.value }

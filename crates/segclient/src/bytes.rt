@@ -1,4 +1,5 @@
-//! A client's writes of values in place: the bytes go from where they stand straight into rows.
+//! A client's writes. Those of a `Value` come here too: the bytes of a value go from where they
+//! stand straight into rows.
 ghost use Rattle.segindex.specs.Words.{board_of};
 ghost use Rattle.segclient.specs.Member.{IsMember};
 

@@ -1,4 +1,4 @@
-//! How a put that was stored clears a segment of its pass: some rows at each put.
+//! How a put or another write that was stored clears a segment of its pass: some rows at each.
 ghost use Rattle.std.specs.Prelude.{◌≡◌, ◌+◌, ◌<◌, ◌≤◌, ◌^◌, ℕ, true, false, is_some, Option, IfSome, Some, None};
 ghost use Rattle.segbase.specs.Words.{deadline_of, number};
 ghost use Rattle.segindex.specs.Words.{board_of, shape_of};
@@ -49,7 +49,7 @@ pub(crate) struct Turn {
     pub(crate) effort: Effort,
 }
 
-// How many turns a put has, each of which goes over one row at most.
+// How many turns a put has, each of which goes over one item at most.
 const TURNS: u32 = 8;
 
 // How many turns a put has now.
@@ -278,8 +278,7 @@ fn can_open(index: &Index, pass: &Pass, queues: &Queues, source: Source, turns: 
     queues.can_open(rows, turns, used.saturating_sub(source.row))
 }
 
-// Goes over one row of the source and the rows of its item, or opens a main segment for what moves
-// from it. Behind its last row it is free.
+// As `clear_row`, where it is known how many rows the item takes (`terms.rows`).
 fn clear_one_row(
     index: &Index,
     pass: &mut Pass,

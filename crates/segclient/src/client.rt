@@ -191,7 +191,7 @@ impl<'i> Client<'i> {
     /// It stores into a segment of its own that has a row left and expires a time to live from now,
     /// or up to an eighth of that earlier. If it has none,
     /// it recycles segments of its own: it evicts them, and refills one to expire then.
-    /// By queues it goes over up to eight rows of another segment once it is stored, while few
+    /// By queues it goes over up to eight items of another segment once it is stored, while few
     /// segments are free: it moves on what was read, and evicts the rest. An update moves on
     /// without being read, some times.
     /// By a cutoff, or keeping nothing, it takes the one that was filled before the others,

@@ -82,6 +82,7 @@ impl<'i> Client<'i> {
     {
         self.member.get_into(self.index, key, bytes)
     }
+
     /// The value under a key with the version of its bucket, as `gets` reads them, but the value goes
     /// to the front of a buffer, as by `get_into`.
     #[inline(always)]

@@ -188,7 +188,7 @@ fn put_at_last(
     (told, emptied.plus(last))
 }
 
-// A put, but for what queues note of it.
+// A put without a word to the queues.
 #[inline(always)]
 fn put_once(
     index: &Index,

@@ -1,4 +1,5 @@
-//! The segments of a pass in its queues, which count them from 0 on.
+//! The segments of a pass in its queues (`segqueues`), which count them from 0 on: what the queues
+//! are asked, and what they are told.
 ghost use Rattle.std.specs.Prelude.{◌≡◌, ◌≢◌, false, is_some, IfSome, Some};
 ghost use Rattle.segmodel.specs.Words.{owner};
 ghost use Rattle.segbase.specs.Words.{current_of, number};
@@ -137,7 +138,8 @@ pub(crate) fn next_source(
     other_at(index, pass, at)
 }
 
-// A segment that has expired, the current one left out. It is cleared next.
+// A segment that has expired, the current one left out. It is cleared next, or for a put that finds
+// no room it is given up at once.
 pub(crate) fn next_expired(
     index: &Index,
     pass: &Pass,
@@ -201,8 +203,8 @@ pub(crate) fn round(index: &Index, pass: &Pass, queues: &Queues) -> Round {
     queues.round(current_place(index, pass))
 }
 
-// The segment is free, and comes last among those that are; or if it is in use still, it comes
-// last in its queue.
+// A call on the segment has ended: an evict, or a refill that was refused. If it is free, it comes
+// last among those that are, and if it is in use still, last in its queue.
 pub(crate) fn was_given_up(index: &Index, pass: &Pass, queues: &mut Queues, segment: u32) {
     let at = place_of(index, segment);
     if pass.state(segment) == Some(SegState::InUse) {

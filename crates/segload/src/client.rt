@@ -1,4 +1,5 @@
-//! A pass of an index, which makes the commands of a load.
+//! Who makes the commands of a load: a pass with its ring, which calls the index itself. It is no
+//! client of `segclient`.
 ghost use Rattle.std.specs.Prelude.{◌≡◌, ◌+◌, ◌≤◌, ◌<◌, ◌^◌};
 ghost use Rattle.segload.specs.Calls.{command_of, tally_of, IsOfLoad};
 
@@ -72,7 +73,7 @@ impl Caller {
     ghost use Rattle.segload.specs.Calls.{course_after, ServesLoad, TriesForRoom};
     ghost use Rattle.segload.specs.Working.{course_of, HasCounted};
 
-    /// A client whose pass made no command yet.
+    /// A caller whose pass made no command yet.
     pub(crate) fn new(pass: Pass, segments: Ring) -> Caller
         ensures pass { result.pass ≡ pass }
         ensures course { course_of result ≡ record { segments = segments; version = 0 } }
@@ -86,7 +87,7 @@ impl Caller {
         }
     }
 
-    /// The pass of the client, which makes no more commands.
+    /// The pass of the caller, which makes no more commands.
     pub(crate) fn into_pass(self) -> Pass
         ensures { result ≡ self.pass }
     {

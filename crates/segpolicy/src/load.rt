@@ -17,8 +17,9 @@ pub enum Kind {
     Delete,
 }
 
-/// A command of a load. Every command has a value, which only a set, an add, a replace and a cas
-/// store, and a draw for the frequency, which only a get or a gets that hits uses.
+/// One command of a load, and not a whole load. Every command has a value, which only a set, an
+/// add, a replace and a cas store, and a draw for the frequency, which only a get or a gets that
+/// hits uses.
 #[derive(Debug, Drop, PartialEq, Eq)]
 pub struct Load {
     pub kind: Kind,

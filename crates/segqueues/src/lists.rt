@@ -9,7 +9,7 @@ pub enum Queue {
     Free,
     /// Puts are stored there.
     Probation,
-    /// What was read is moved there.
+    /// What moves on is moved there.
     Main,
 }
 

@@ -304,7 +304,7 @@ impl Live {
         self.expired
     }
 
-    // A segment of so many rows is given up: a full one that has expired, or another one.
+    // Notes that a segment of so many rows is given up: a full one that has expired, or another.
     pub(crate) fn is_given_up(&mut self, at: u32, rows: u32, has_expired: bool) {
         let used = self.known(at).used;
         let all = u64::from(rows).saturating_mul(self.segments.len() as u64);

@@ -278,7 +278,7 @@ impl Queues {
         self.lists.ready() > 0
     }
 
-    /// How many rows a write goes over, of so many at most: half of them while a free segment
+    /// How many turns a write has, of so many at most: half of them while a free segment
     /// is left for the next writes, so that each does as little as will do.
     pub fn turns(&self, most: u32) -> u32 {
         if self.lists.ready() > 0 {

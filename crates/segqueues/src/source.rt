@@ -398,7 +398,8 @@ impl Queues {
         found
     }
 
-    /// A segment that has expired at this moment, the current one left out. It is cleared next.
+    /// A segment that has expired at this moment, the current one left out. It is the source from
+    /// now on, also if the caller gives it up at once.
     pub fn next_expired(&mut self, current: Option<u32>, moment: u32) -> Option<u32> {
         let segment = self.first_expired(current, moment)?;
         let is_full = self.live.used(segment) >= self.rows_in(segment);

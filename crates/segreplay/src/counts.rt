@@ -21,7 +21,7 @@ pub enum CommandResult {
 }
 
 impl CommandResult {
-    /// Whether the command put its key.
+    /// Whether the command stored its key.
     pub fn is_stored(self) -> bool
         ensures { result ≡ is_stored self }
     {

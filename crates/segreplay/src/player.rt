@@ -19,7 +19,7 @@ pub(crate) fn value_of(bytes: usize) -> Value
     }
 }
 
-/// A command, the client that is to make it, and whether it is counted.
+/// A turn: a command, the client that is to make it, and whether it is counted.
 #[derive(Drop)]
 pub(crate) struct Assignment {
     pub(crate) request: TraceCommand,

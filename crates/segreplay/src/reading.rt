@@ -1,4 +1,4 @@
-//! Reads the lines of a trace, byte by byte, into turns.
+//! Reads the lines of a trace, byte by byte, into turns: commands, each with its client.
 use crate::fault::TraceFault;
 use crate::line::{Form, Stated, TraceCommand, TraceLineFault, read_line};
 use crate::player::Assignment;

@@ -22,7 +22,8 @@ const SCRIPT_HINT: &[u8] =
 const TRACE_HINT: &[u8] =
     b"segrun: reads a trace from the terminal (segrun replay --help has its lines, Ctrl-D ends it)\n";
 
-/// Does what the words of the program ask for, and returns the exit status.
+/// Does what the words of the program ask for, and returns the exit status. The words are read here
+/// for the file's name, and once more by `run_given`.
 pub fn run<T: Threads + Wait + AllocGlobal + Sync>(threads: &T, rt: &HostRuntime) -> u8 {
     let words = match env::args(rt) {
         Ok(given) => words_of(rt.alloc(), given),

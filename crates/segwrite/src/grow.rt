@@ -13,7 +13,7 @@ use crate::find::{ChainEnd, Found, Target};
 use segbase::{Board, CHAIN_BUCKETS, Pass, Place};
 use segword::Item;
 
-// The word for a key: the one that a search found,
+// Room in a bucket's chain, not in a segment. The word for a key: the one that a search found,
 // or one of an overflow bucket that joins the chain.
 // It is `None` if the chain is full and can't grow.
 pub(crate) fn make_room(board: &Board, pass: &mut Pass, bucket: u32, found: Found) -> Option<Target>
