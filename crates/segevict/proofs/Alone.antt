@@ -1,5 +1,5 @@
--- Where each item takes one row, what is said of as many rows as an item takes is said of one.
-use Rattle.std.proofs.Common.{◌≡◌, ℕ, ◌+◌, ◌<◌, ◌≤◌, Bool, true, false, eqb, List, Some, refl, sym, ap, ◌∙◌, subst}
+-- Where each item takes one row, as many rows as an item takes are one; and whether so many are left.
+use Rattle.std.proofs.Common.{◌≡◌, ℕ, ◌+◌, ◌<◌, ◌≤◌, Bool, true, false, eqb, List, Some, ap, ◌∙◌}
 use Rattle.std.specs.Prelude.{MatchBool, if◌then◌else◌}
 use Rattle.std.proofs.lemmas.Bool.{le-leb, lt-ltb}
 use Rattle.segword.specs.Words.{most_span, Shape}
@@ -7,27 +7,11 @@ use Rattle.segword.specs.RowLayout.{key_length, value_length}
 use Rattle.segcore.specs.Words.{Event, row_after, span_in}
 use Rattle.segcore.proofs.Spans.{span_one}
 use Rattle.segbase.specs.Words.{Board, Pass}
-use Rattle.segstore.specs.Words.{are_left, AreRows, is_below}
-use Rattle.segevict.specs.Rows.{IfSeveral}
-use Rattle.segevict.specs.Target.{AreNextIn, has_room_in, has_rows_in, IsNextIn}
-
-told_alone : (one : Bool) → MatchBool one (Unit {0}) ⊥ → one ≡ true
-told_alone true so = refl
-told_alone false so = absurd so
+use Rattle.segstore.specs.Words.{are_left, is_below}
+use Rattle.segevict.specs.Target.{AreNextIn, has_rows_in}
 
 pub span_single : (h : List Event) (s r : ℕ) → eqb most_span 1 ≡ true → span_in h s r ≡ 1
 span_single h s r one = let header = (row_after h s r).words 0 in span_one (key_length header) (value_length header) one
-
-pub span_alone : (h : List Event) (s r : ℕ) → IfSeveral ⊥ → span_in h s r ≡ 1
-span_alone h s r alone = span_single h s r (told_alone (eqb most_span 1) alone)
-
--- the next row, and whether there is one
-pub next_alone : (b : Board) (h : List Event) (segment row s r : ℕ) (p : Pass) → IfSeveral ⊥ → IsNextIn b segment row p → AreNextIn b segment row (span_in h s r) p
-next_alone b h segment row s r p alone next =
-    record { used = next.used; fits = subst (AreRows b.shape row) (sym (span_alone h s r alone)) next.fits }
-
-pub room_alone : (z : Shape) (h : List Event) (segment s r : ℕ) (p : Pass) (has : Bool) → IfSeveral ⊥ → has_room_in z segment p ≡ has → has_rows_in z segment (span_in h s r) p ≡ has
-room_alone z h segment s r p has alone is = ap (λ rows. has_rows_in z segment rows p) (span_alone h s r alone) ∙ is
 
 -- a segment whose next rows are known has as many left
 below_or_left : (one : Bool) (z : Shape) (row rows : ℕ) → MatchBool one (row < z.rows) (row + rows ≤ z.rows)

@@ -1,5 +1,5 @@
 -- Which rows items name, and how many: from a search along one chain to the sums over a pass's own segments.
-use Rattle.std.proofs.Common.{◌≡◌, ℕ, zero, suc, ◌+◌, ◌*◌, ◌<◌, ◌≤◌, Bool, true, false, eqb, is_some, List, [], Option, Some, None, refl, sym, ap, ◌∙◌, subst, inl, inr, arith}
+use Rattle.std.proofs.Common.{◌≡◌, ℕ, zero, suc, ◌+◌, ◌*◌, ◌<◌, ◌≤◌, Bool, true, eqb, is_some, List, [], Option, Some, None, refl, sym, ap, ◌∙◌, subst, inl, inr, arith}
 use Rattle.std.proofs.lemmas.Bool.{lt-ltb}
 use Rattle.std.proofs.lemmas.Nat.{div-mul-add}
 use Rattle.std.proofs.lemmas.Option.{same_Some}
@@ -13,7 +13,7 @@ use Rattle.segcore.proofs.Caches.{has_value, stands_in}
 use Rattle.segcore.proofs.Coherent.{IsStanding}
 use Rattle.segcore.proofs.Marked.{entries_marked}
 use Rattle.segcore.proofs.Moments.{begins_on, marked_begins}
-use Rattle.segcore.proofs.Spans.{header_some, span_one}
+use Rattle.segcore.proofs.Spans.{span_one}
 use Rattle.segcore.proofs.Standing.{coherent}
 use Rattle.segbase.specs.Words.{Board, IsPassOf, marked, number, number_of, own_segment, Pass, position, trace}
 use Rattle.segbase.specs.Words.{HasStep, TakesSteps, used_in, used_of}
@@ -21,7 +21,7 @@ use Rattle.segbase.proofs.Starting.{has_later, since_before, since_then, steps_g
 use Rattle.segbase.proofs.Moves.{stays}
 use Rattle.segbase.proofs.Owned.{state_owned, state_there, used_there}
 use Rattle.segstore.specs.Words.{Idles, IsQuiet}
-use Rattle.segstore.proofs.Keeping.{owns_used, same_used}
+use Rattle.segstore.proofs.Keeping.{same_used}
 use Rattle.segstore.proofs.Idling.{goes_nowhere}
 use Rattle.segwrite.specs.Words.{Target}
 use Rattle.segwrite.proofs.Places.{idles_then}
@@ -159,40 +159,6 @@ pub named_in : (b : Board) (s row : ℕ) (p q r : Pass) → Idles b p q → HasS
 named_in b s row p q r i step named =
     let first = has_later p q r i.moved.same i.moved.steps step in
     (first.0, first.1, record { moment = marked r; from = marked_begins first.0 (trace r) first.1.until; to = ([], refl); named = named })
-
-module _ (b : Board) (s row count used : ℕ) (p q r : Pass) (quiet : IsQuiet b p) (is : used_of p s ≡ Some used) (lt : row < used) (c : Counting b s row count p q) (i : Idles b q r) where
-  own : owner b.shape s ≡ number q
-  own = owns_used b p s used quiet.pass is ∙ sym c.idles.moved.same
-
-  found_after : FindsNamed b.shape s row count p r
-  found_after = finds_after b s row count p q r (quiet_still b p q quiet c.idles) own i c.named
-
-  onward : Idles b p r
-  onward = idles_then b p q r c.idles i
-
-  next : suc row ≡ row + 1
-  next = omega arith
-
-  pub counting_one : HasStep q r → ReturnsNamed b.shape s row true r → Counting b s (row + 1) (count + 1) p r
-  counting_one first named = record {
-    idles = onward;
-    few = let few = c.few in omega arith;
-    named = subst (λ n. FindsNamed b.shape s n (count + 1) p r) next
-        (inl (
-          count,
-          refl,
-          found_after,
-          taken_by b s row row used p r (same_used p r s onward.plain ∙ is) lt (omega arith)
-              (let some = header_some ((row_after (trace r) s row).words 0) in omega (arith, some)) (named_in b s row p q r c.idles first named),
-        ));
-  }
-
-  pub counting_none : ReturnsNamed b.shape s row false r → Counting b s (row + 1) count p r
-  counting_none gone = record {
-    idles = onward;
-    few = let few = c.few in omega arith;
-    named = subst (λ n. FindsNamed b.shape s n count p r) next (inr (found_after, gone));
-  }
 
 -- ---- all segments of the pass's own
 

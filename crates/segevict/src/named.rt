@@ -1,10 +1,9 @@
 //! How many rows of a pass's own segments are used, and how many of these items name.
-ghost use Rattle.std.specs.Prelude.{◌≡◌, ◌≤◌, Some};
 ghost use Rattle.segcore.specs.Words.{row_after};
-ghost use Rattle.segbase.specs.Words.{HasStep, trace, used_of};
+ghost use Rattle.segbase.specs.Words.{HasStep, trace};
 ghost use Rattle.segstore.specs.Words.{HoldsPair, Idles, IsQuiet};
 ghost use Rattle.segevict.specs.Rows.{IfSeveral, IsUsedRow};
-ghost use Rattle.segevict.specs.Naming.{ReturnsNamed, FindsNamed, CountsRows};
+ghost use Rattle.segevict.specs.Naming.{ReturnsNamed, CountsRows};
 
 use crate::row::{find_row, item_of_row};
 use crate::spans::named_rows;
@@ -30,25 +29,6 @@ pub(crate) fn is_named(board: &Board, pass: &mut Pass, segment: u32, row: u32) -
 {
     let (bucket, item) = item_of_row(board, pass, segment, row);
     find_row(board, pass, bucket, item).is_some()
-}
-
-// How many of the used rows of a segment of the pass's own items named,
-// where each has an item of its own.
-pub(crate) fn named_each_row(board: &Board, pass: &mut Pass, segment: u32, used: u32) -> u32
-    requires quiet { IsQuiet board.now pass.old }
-    requires used { used_of pass.old segment ≡ Some used }
-    requires alone { IfSeveral ⊥ }
-    ensures idles { Idles board.now pass.old pass.new }
-    ensures few { result ≤ used }
-    ensures named { FindsNamed board.now.shape segment used result pass.old pass.new }
-{
-    let mut named = 0;
-    for row in 0..used {
-        if is_named(board, pass, segment, row) {
-            named += 1;
-        }
-    }
-    named
 }
 
 /// How many rows of its own segments the pass has used, and how many used rows items named,

@@ -4,21 +4,18 @@ ghost use Rattle.std.specs.Prelude.{◌≡◌, ◌≢◌, ℕ, MatchOption, Some
 ghost use Rattle.segmodel.specs.declared.answer.SegState.TheVariants.{InUse};
 ghost use Rattle.segcore.specs.Words.{Slot};
 ghost use Rattle.segbase.specs.Words.{deadline_of, IsPassOf, state_of};
-ghost use Rattle.segstore.specs.Words.{HasCleanBit, IsQuiet, KeepsSegments, TakesAtMost};
+ghost use Rattle.segstore.specs.Words.{IsQuiet, TakesAtMost};
 ghost use Rattle.segwrite.specs.Words.{most_tries_to_exchange};
 ghost use Rattle.segevict.specs.Keeping.{KeepsItems};
-ghost use Rattle.segevict.specs.Moving.{KeepsRow, MovesRow};
 ghost use Rattle.segevict.specs.OneRow.{KeepsItem, KeepsItemInto};
 ghost use Rattle.segevict.specs.Relinking.{HasRelinked, Relinks, TriesToRelink};
-ghost use Rattle.segevict.specs.Rows.{IfSeveral, IsUsedRow, IsStoredIn};
-ghost use Rattle.segevict.specs.Steps.{most_steps_of_keep_row, most_steps_to_move};
-ghost use Rattle.segevict.specs.Target.{has_room_in, IsKeepTarget, IsMoveTarget, IsNextIn};
+ghost use Rattle.segevict.specs.Target.{IsKeepTarget, IsMoveTarget};
 
-use crate::row::{find_row, has_row, item_of_row};
+use crate::row::has_row;
 use crate::spans::{keep_rows, keep_used_row};
 use segbase::{Board, Pass};
 use segmodel::{KeepAnswer, SegState};
-use segstore::{RowRef, copy_row, take_to_write};
+use segstore::RowRef;
 use segword::Item;
 use segwrite::Target;
 
@@ -154,84 +151,6 @@ pub(crate) fn keep_each_row(
         }
     }
     KeepAnswer::Kept(kept)
-}
-
-// Moves the item of a used row that has an item of its own into this segment,
-// if it was read often enough.
-// The bit of the item's bucket is taken only then.
-pub(crate) fn keep_first_row(
-    board: &Board,
-    pass: &mut Pass,
-    row: RowRef,
-    into: u32,
-    cutoff: u8,
-) -> KeepRowAnswer
-    requires quiet { IsQuiet board.now pass.old }
-    requires used { IsUsedRow row.segment row.row pass.old }
-    requires target { IsMoveTarget row.segment into pass.old }
-    requires alone { IfSeveral ⊥ }
-    ensures keeps { KeepsRow board.now row.segment row.row into cutoff result pass.old pass.new }
-    ensures steps { TakesAtMost (most_steps_of_keep_row result) pass.old pass.new }
-{
-    let (bucket, item) = item_of_row(board, pass, row.segment, row.row);
-    let Some(seen) = find_row(board, pass, bucket, item) else {
-        return KeepRowAnswer::Left;
-    };
-    if Item::unpack(seen.word).unwrap().freq < cutoff {
-        return KeepRowAnswer::Left;
-    }
-    let Some(next) = next_row_in(board, pass, into) else {
-        return KeepRowAnswer::NoRoom;
-    };
-    if !take_to_write(board, pass, bucket) {
-        return KeepRowAnswer::Busy;
-    }
-    let to = RowRef {
-        segment: into,
-        row: next,
-    };
-    let is_moved = move_row(board, pass, bucket, item, to);
-    board.release(pass, bucket, false);
-    if is_moved {
-        KeepRowAnswer::Moved
-    } else {
-        KeepRowAnswer::Left
-    }
-}
-
-// The first row of a segment that isn't used.
-fn next_row_in(board: &Board, pass: &Pass, segment: u32) -> Option<u32>
-    ensures next { MatchOption result (has_room_in board.now.shape segment pass.now ≡ false)
-        (λ row. IsNextIn board.now segment row pass.now) }
-{
-    let used = pass.used(segment)?;
-    (used < board.shape().rows).then_some(used)
-}
-
-// Moves the item of a row into this row of another segment, under the bit of its bucket.
-// Returns false if no word names the row any more.
-pub(crate) fn move_row(board: &Board, pass: &mut Pass, bucket: u32, item: Item, to: RowRef) -> bool
-    requires pass { IsPassOf board.now pass.old }
-    requires segments { KeepsSegments board.now pass.old }
-    requires stored { IsStoredIn board.now bucket item pass.old }
-    requires bit { HasCleanBit board.now pass.old bucket }
-    requires target { IsMoveTarget item.seg to.segment pass.old }
-    requires next { IsNextIn board.now to.segment to.row pass.old }
-    requires alone { IfSeveral ⊥ }
-    ensures moves { MovesRow board.now bucket item to.segment to.row result pass.old pass.new }
-    ensures steps { TakesAtMost (most_steps_to_move result) pass.old pass.new }
-{
-    let Some(target) = find_row(board, pass, bucket, item) else {
-        return false;
-    };
-    let from = RowRef {
-        segment: item.seg,
-        row: item.row,
-    };
-    copy_row(board, pass, from, to);
-    relink(board, pass, target, to);
-    pass.set_used(to.segment, to.row + 1);
-    true
 }
 
 // Lets the item of a word name another row, under the bit of its bucket.

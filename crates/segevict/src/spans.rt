@@ -22,8 +22,8 @@ ghost use Rattle.segevict.specs.Target.{AreNextIn, has_rows_in, IsKeepTarget, Is
 ghost use Rattle.segevict.specs.Unlinking.{EvictsRow};
 
 use crate::eviction::{EvictRowAnswer, clear_row, evict_each_row, evict_first_row};
-use crate::named::{is_named, named_each_row};
-use crate::retention::{KeepRowAnswer, keep_each_row, keep_first_row, move_row, relink};
+use crate::named::is_named;
+use crate::retention::{KeepRowAnswer, keep_each_row, relink};
 use crate::row::{find_row, has_row, item_of_row};
 use segbase::{Board, Pass};
 use segmodel::{EvictAnswer, KeepAnswer, SegState};
@@ -36,7 +36,7 @@ fn rows_from(board: &Board, pass: &mut Pass, segment: u32, row: u32) -> u32
     requires used { IsUsedRow segment row pass.old }
     ensures idles { Idles board.now pass.old pass.new }
     ensures rows { result ≡ span_in (trace pass.new) segment row }
-    ensures steps { TakesAtMost 1 pass.old pass.new }
+    ensures steps { TakesAtMost (loads_of_span 1) pass.old pass.new }
 {
     span_of_row(board, pass, RowRef { segment, row })
 }
@@ -48,7 +48,7 @@ fn item_at(board: &Board, pass: &mut Pass, segment: u32, row: u32) -> Option<(u3
     requires quiet { IsQuiet board.now pass.old }
     requires used { IsUsedRow segment row pass.old }
     ensures idles { Idles board.now pass.old pass.new }
-    ensures steps { TakesAtMost (head_width + 1) pass.old pass.new }
+    ensures steps { TakesAtMost (head_width + loads_of_span 1) pass.old pass.new }
     ensures place { IfSome result (λ found. (found.1.seg ≡ segment) × (found.1.row ≡ row)) }
     ensures bucket { IfSome result (λ found. found.0 < board.now.shape.buckets) }
     ensures stored { IfSome result (λ found. IsStoredIn board.now found.0 found.1 pass.new) }
@@ -213,9 +213,6 @@ pub(crate) fn keep_used_row(
     ensures steps { TakesAtMost (most_steps_of_keep_row result - loads_of_span 1)
         pass.old pass.new }
 {
-    if MOST_SPAN == 1 {
-        return keep_first_row(board, pass, row, into, cutoff);
-    }
     let Some((bucket, item)) = item_at(board, pass, row.segment, row.row) else {
         return KeepRowAnswer::Left;
     };
@@ -269,9 +266,6 @@ fn move_rows(board: &Board, pass: &mut Pass, bucket: u32, item: Item, to: RowRef
     ensures moves { MovesRow board.now bucket item to.segment to.row result pass.old pass.new }
     ensures steps { TakesAtMost (most_steps_to_move result) pass.old pass.new }
 {
-    if MOST_SPAN == 1 {
-        return move_row(board, pass, bucket, item, to);
-    }
     let Some(target) = find_row(board, pass, bucket, item) else {
         return false;
     };
@@ -294,9 +288,6 @@ pub(crate) fn named_rows(board: &Board, pass: &mut Pass, segment: u32, used: u32
     ensures few { result ≤ used }
     ensures named { FindsNamed board.now.shape segment used result pass.old pass.new }
 {
-    if MOST_SPAN == 1 {
-        return named_each_row(board, pass, segment, used);
-    }
     let mut named = 0;
     let mut row = 0;
     while row < used {

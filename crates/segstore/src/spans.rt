@@ -1,7 +1,8 @@
 //! The words of an item of several rows, by their places in it, and how many rows it takes.
-ghost use Rattle.std.specs.Prelude.{◌≡◌, ℕ, ◌+◌, ◌-◌, ◌*◌, ◌^◌, ◌<◌, ◌≤◌, slice_index};
+ghost use Rattle.std.specs.Prelude.{◌≡◌, ◌==◌, ℕ, ◌+◌, ◌-◌, ◌*◌, ◌^◌, ◌<◌, ◌≤◌, slice_index};
+ghost use Rattle.std.specs.Prelude.{if◌then◌else◌};
 ghost use Rattle.segword.specs.RowLayout.{value_length};
-ghost use Rattle.segword.specs.Words.{place_behind, row_behind, row_width};
+ghost use Rattle.segword.specs.Words.{most_span, place_behind, row_behind, row_width};
 ghost use Rattle.segcore.specs.declared.cell.Cell.TheVariants.{OfRow};
 ghost use Rattle.segcore.specs.Words.{IsCell, row_after, span_in};
 ghost use Rattle.segbase.specs.Words.{IsPassOf, trace};
@@ -22,7 +23,7 @@ pub fn span_of_row(board: &Board, pass: &mut Pass, row: RowRef) -> u32
     requires readable { IsReadable board.now pass.old row.segment row.row }
     ensures reads { ReadsRow board.now pass.old pass.new row.segment row.row }
     ensures span { result ≡ span_in (trace pass.new) row.segment row.row }
-    ensures steps { TakesAtMost 1 pass.old pass.new }
+    ensures steps { TakesAtMost (if most_span == 1 then 0 else 1) pass.old pass.new }
 {
     if MOST_SPAN == 1 {
         return 1;

@@ -3,6 +3,7 @@ use Rattle.std.specs.Option.{unwrap_or}
 use Rattle.std.proofs.lemmas.Bool.{eq-eqb}
 use Rattle.segword.specs.Words.{most_span}
 use Rattle.segbase.specs.Words.{trace}
+use Rattle.segstore.specs.Words.{TakesAtMost}
 use Rattle.segevict.proofs.EvictedItems.{looking_first, looking_next}
 use Rattle.segevict.proofs.Evictions.{looks_for_none, unnamed_few}
 use Rattle.segevict.proofs.Items.{each_first}
@@ -39,6 +40,7 @@ rows_from-row-requires-clause-quiet c = quiet_still c.args.board.now c.args.pass
 
 pub loop-row-preserved : goal.loop-row-preserved
 loop-row-preserved c = let l = c.loop-row in let r = c.rows_from-row in
+    let few : TakesAtMost 1 l.pass r.new.pass = let steps = r.ensures.steps in omega (arith, steps) in
     looking_next c.args.board.now c.args.segment c.args.from l.row c.unwrap_or-used.result r.result c.args.pass.now l.pass r.new.pass c.requires.quiet
     (sym c.used.ensures ∙ known c.used.result c.args.from c.unwrap_or-used.result c.unwrap_or-used.ensures c.if-used-from.false) c.loop-row-test.true c.if-used-from.false
-    l.invariant r.ensures.idles r.ensures.steps r.ensures.rows
+    l.invariant r.ensures.idles few r.ensures.rows

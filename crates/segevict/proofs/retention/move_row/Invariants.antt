@@ -1,5 +1,0 @@
-use Rattle.segevict.proofs.Moving.{slot_at}
-use Rattle.segevict.proofs.retention.move_row.Given as goal
-
-abbrev pub ghost-relink : goal.ghost-relink
-ghost-relink a = slot_at a.board.now a.target.place a.pass.now
