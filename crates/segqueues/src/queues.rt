@@ -62,6 +62,10 @@ pub struct Queues {
     pub(crate) open_main: Open,
     // No segment in use expires earlier, as far as is known.
     pub(crate) next_expiry: u32,
+    // The moment of the last look for one that has expired. Of those that had by then, the ones
+    // from this number on were given up or refused.
+    pub(crate) moment: u32,
+    pub(crate) tried_from: u32,
     // The source, while one is being cleared.
     pub(crate) clearing: Clearing,
     // Whether a segment may be tried of which nothing is known.
@@ -91,6 +95,8 @@ impl Queues {
             open: Open::new(alloc, segments)?,
             open_main: Open::new(alloc, segments)?,
             next_expiry: u32::MAX,
+            moment: 0,
+            tried_from: u32::MAX,
             clearing: Clearing::none(),
             may_try: true,
             first_look: 0,
@@ -165,9 +171,13 @@ impl Queues {
         self.lists.move_to(segment, Queue::Free);
     }
 
-    /// The segment was refused, and comes last in its queue.
+    /// The segment was refused, and comes last in its queue. If it has expired, it is passed over
+    /// among those that have, until the next moment.
     pub fn was_refused(&mut self, segment: u32) {
         self.was_closed(segment);
+        if self.live.deadline(segment) <= self.moment {
+            self.tried_from = self.tried_from.min(segment);
+        }
         self.lists.move_to(segment, self.lists.queue_of(segment));
     }
 

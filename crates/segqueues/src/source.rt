@@ -378,18 +378,34 @@ impl Queues {
         Some(segment)
     }
 
-    // A segment that has expired at this moment, the current one left out.
+    // When the segment is to be given up as one that has expired: at its deadline,
+    // or if it was refused since then at this moment, at the next.
+    fn expiry(&self, at: u32, moment: u32) -> u32 {
+        let deadline = self.live.deadline(at);
+        if at < self.tried_from {
+            deadline
+        } else {
+            deadline.max(moment.saturating_add(1))
+        }
+    }
+
+    // The last segment by number that has expired at this moment, the current one left out.
+    // One that was refused at this moment isn't tried again, so that it hides no other.
     fn first_expired(&mut self, current: Option<u32>, moment: u32) -> Option<u32> {
         if !self.may_expire(moment) {
             return None;
+        }
+        if self.moment != moment {
+            self.moment = moment;
+            self.tried_from = u32::MAX;
         }
         let mut found = None;
         let mut next = u32::MAX;
         for at in 0..self.segments {
             if self.queue_of(at) != Queue::Free {
-                let deadline = self.live.deadline(at);
-                next = next.min(deadline);
-                if deadline <= moment && current != Some(at) {
+                let expiry = self.expiry(at, moment);
+                next = next.min(expiry);
+                if expiry <= moment && current != Some(at) {
                     found = Some(at);
                 }
             }

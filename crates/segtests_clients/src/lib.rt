@@ -53,6 +53,8 @@ mod reading_at_once;
 #[cfg(test)]
 mod readme_lines;
 #[cfg(test)]
+mod refused;
+#[cfg(test)]
 mod same;
 #[cfg(test)]
 mod session_store;
