@@ -46,7 +46,8 @@ pub record AreOfPlan (IsPlan : ShardPlan → Type 0) (indexes : List Index) : Ty
   pub plan : IsPlan (record { shape = shape; count = length indexes })
   pub shapes : All (λ i. shape_of i ≡ shape) indexes
 
--- Memory can always be in the way of shards, and a fault of a shape only if it is of this kind.
-abbrev pub IsFaultOfShards : (ShapeFault → Type 0) → MakeFault → Type 0
-IsFaultOfShards IsFault (fault.Shape found) = IsFault found
-IsFaultOfShards IsFault fault.OutOfMemory = Unit {0}
+-- Memory can be in the way of shards only where there is a plan of this kind, and a fault of a shape
+-- only if it is of this one.
+abbrev pub IsFaultOfShards : (ShardPlan → Type 0) → (ShapeFault → Type 0) → MakeFault → Type 0
+IsFaultOfShards IsPlan IsFault (fault.Shape found) = IsFault found
+IsFaultOfShards IsPlan IsFault fault.OutOfMemory = (plan : ShardPlan) × IsPlan plan

@@ -1,8 +1,9 @@
 //! A cache of several indexes, and how it is opened.
 ghost use Rattle.std.specs.Prelude.{◌≡◌, ◌≤◌, [], All, Any, IfErr, IfNone, IfOk, IfSome, vec_len};
-ghost use Rattle.segword.specs.Words.{IsFirstFault, Shape};
+ghost use Rattle.segword.specs.Words.{Shape};
+ghost use Rattle.segbase.specs.Words.{IsMakeFault};
 ghost use Rattle.segindex.specs.Words.{shape_of};
-ghost use Rattle.segshards.specs.Budget.{AreWithin, IsFaultOfBudget};
+ghost use Rattle.segshards.specs.Budget.{AreWithin, IsFaultOfBudget, IsPlanWithin};
 ghost use Rattle.segshards.specs.Items.{HaveRoomForItems, rows_of_mean};
 ghost use Rattle.segshards.specs.Items.{IsFaultOfItems, IsPlanForItems};
 ghost use Rattle.segshards.specs.Plan.{IsFaultOfPlan, IsPlanFor};
@@ -43,7 +44,8 @@ impl Cache {
         ensures room { IfOk result (λ made. HaveRoomFor keys threads made.0.shards.items) }
         ensures plan { IfOk result (λ made.
             AreOfPlan (IsPlanFor keys threads) made.0.shards.items) }
-        ensures fault { IfErr result (IsFaultOfShards (IsFaultOfPlan threads)) }
+        ensures fault { IfErr result (IsFaultOfShards (IsPlanFor keys threads)
+            (IsFaultOfPlan threads)) }
     {
         match ShardPlan::for_keys(keys, threads) {
             Ok(plan) => Cache::of_shards(alloc, plan.shape, plan.count),
@@ -66,7 +68,8 @@ impl Cache {
             HaveRoomForWriters keys threads writers made.0.shards.items) }
         ensures plan { IfOk result (λ made.
             AreOfPlan (IsPlanForWriters keys threads writers) made.0.shards.items) }
-        ensures fault { IfErr result (IsFaultOfShards (IsFaultOfWriters keys threads writers)) }
+        ensures fault { IfErr result (IsFaultOfShards (IsPlanForWriters keys threads writers)
+            (IsFaultOfWriters keys threads writers)) }
     {
         match ShardPlan::for_writers(keys, threads, writers) {
             Ok(plan) => Cache::of_shards(alloc, plan.shape, plan.count),
@@ -91,7 +94,8 @@ impl Cache {
             AreOfPlan (IsPlanForItems items (rows_of_mean mean_bytes) threads)
             made.0.shards.items) }
         ensures fault { IfErr result
-            (IsFaultOfShards (IsFaultOfItems items (rows_of_mean mean_bytes) threads)) }
+            (IsFaultOfShards (IsPlanForItems items (rows_of_mean mean_bytes) threads)
+            (IsFaultOfItems items (rows_of_mean mean_bytes) threads)) }
     {
         match ShardPlan::for_items(items, mean_bytes, threads) {
             Ok(plan) => Cache::of_shards(alloc, plan.shape, plan.count),
@@ -110,7 +114,8 @@ impl Cache {
         ensures new { IfOk result (λ made.
             (shape : Shape) × AreNew shape made.0.shards.items made.1.items) }
         ensures within { IfOk result (λ made. AreWithin bytes threads made.0.shards.items) }
-        ensures fault { IfErr result (IsFaultOfShards (IsFaultOfBudget bytes threads)) }
+        ensures fault { IfErr result (IsFaultOfShards (IsPlanWithin bytes threads)
+            (IsFaultOfBudget bytes threads)) }
     {
         match ShardPlan::for_bytes(bytes, threads) {
             Ok(plan) => Cache::of_shards(alloc, plan.shape, plan.count),
@@ -133,8 +138,11 @@ impl Cache {
         ensures count { IfOk result (λ made. vec_len made.0.shards ≡ count) }
         ensures shapes { IfOk result (λ made.
             All (λ i. shape_of i ≡ shape) made.0.shards.items) }
-        ensures fault { IfErr result (IsFaultOfShards (IsFirstFault shape)) }
+        ensures fault { IfErr result (IsMakeFault shape) }
     {
+        if let Err(fault) = shape.check() {
+            return Err(MakeFault::Shape(fault));
+        }
         let Ok(mut shards) = Vec::with_capacity(alloc, count as usize) else {
             return Err(MakeFault::OutOfMemory);
         };
