@@ -1,16 +1,33 @@
 //! Answers altered so that no cache gives them in turn. By these the checker's own strength is measured.
-//! What a client's put stored or evicted is told by later answers, if by any.
 use crate::call::{
     Access, CasReply, Ended, Item, Operation, PutEnd, Read, Reads, Recycled, Refusal,
 };
 
 /// How many kinds of alterations there are.
-pub const KINDS: u32 = 10;
+pub const KINDS: usize = 11;
+
+/// What each kind makes of an answer. The last one is for calls that were told a segment.
+pub const NAMES: [&str; KINDS] = [
+    "opposite",
+    "value",
+    "early end",
+    "more keys",
+    "fewer keys",
+    "Busy or Held",
+    "NoRoom or NotEvicted",
+    "BucketFull",
+    "version",
+    "one of several gets",
+    "segment",
+];
 
 /// The operation with its answer altered, if this kind of alteration fits it.
 /// Were the calls made in turn, the altered answer can't be right, whatever the others did before.
-/// Of what a client stores or evicts that is so only if it is read or evicted later.
-pub fn altered(operation: &Operation, kind: u32) -> Option<Operation> {
+/// Whether a row is left for a client isn't followed, so a store of its that stored nothing can be NoRoom.
+pub fn altered(operation: &Operation, kind: usize, is_of_client: bool) -> Option<Operation> {
+    if is_of_client && is_open_to_client(operation, kind) {
+        return None;
+    }
     match operation {
         Operation::OnKey {
             bucket,
@@ -42,6 +59,15 @@ pub fn altered(operation: &Operation, kind: u32) -> Option<Operation> {
     }
 }
 
+// Whether the altered answer can be right for a client, of whose rows nothing is known.
+fn is_open_to_client(operation: &Operation, kind: usize) -> bool {
+    match operation {
+        Operation::OnKey { access, .. } => kind == 6 && access.stored().is_none(),
+        Operation::Refused { .. } => matches!(kind, 6 | 7),
+        _ => false,
+    }
+}
+
 fn refused(bucket: usize, key: usize, refusal: Refusal) -> Operation {
     Operation::Refused {
         bucket,
@@ -51,7 +77,7 @@ fn refused(bucket: usize, key: usize, refusal: Refusal) -> Operation {
 }
 
 // Another answer to a call on a segment.
-fn of_segment(operation: &Operation, kind: u32) -> Option<Operation> {
+fn of_segment(operation: &Operation, kind: usize) -> Option<Operation> {
     match operation {
         Operation::Evict { segment, taken, .. } if operation.emptied().is_some() => {
             Some(Operation::Evict {
@@ -105,30 +131,35 @@ fn of_segment(operation: &Operation, kind: u32) -> Option<Operation> {
             key: *key,
             now: *now,
             access: *access,
-            recycled: other_recycled(*recycled, kind)?,
+            recycled: other_recycled(*recycled, kind, 1)?,
         }),
-        Operation::GetMany { bucket, now, reads } if kind < 2 => Some(Operation::GetMany {
+        Operation::GetMany { bucket, now, reads } if kind == 9 => Some(Operation::GetMany {
             bucket: *bucket,
             now: *now,
-            reads: other_reads(*reads, kind),
+            reads: other_reads(*reads),
         }),
-        Operation::MakeRoom { recycled } => Some(Operation::MakeRoom {
-            recycled: other_recycled(*recycled, kind)?,
+        Operation::MakeRoom {
+            recycled,
+            is_made: true,
+        } if kind == 0 => Some(Operation::MakeRoom {
+            recycled: *recycled,
+            is_made: false,
+        }),
+        Operation::MakeRoom { recycled, is_made } => Some(Operation::MakeRoom {
+            recycled: other_recycled(*recycled, kind, 1)?,
+            is_made: *is_made,
         }),
         _ => None,
     }
 }
 
 // Another answer to a put, or another number of keys that it evicted.
-fn other_put(recycled: Recycled, ended: PutEnd, kind: u32) -> Option<(Recycled, PutEnd)> {
-    if let Some(other) = other_recycled(recycled, kind) {
+// It can evict the key that it stores, too, which nobody sees. So the number differs by two.
+fn other_put(recycled: Recycled, ended: PutEnd, kind: usize) -> Option<(Recycled, PutEnd)> {
+    if let Some(other) = other_recycled(recycled, kind, 2) {
         return Some((other, ended));
     }
     let other = match (ended, kind) {
-        (PutEnd::Stored(item), 1) => PutEnd::Stored(Item {
-            value: item.value.wrapping_add(1),
-            ..item
-        }),
         (PutEnd::Stored(_), 5) => PutEnd::Refused(Refusal::StoreBusy),
         (PutEnd::Stored(_), 6) => PutEnd::Refused(Refusal::NoRoom),
         (PutEnd::Stored(_), 7) => PutEnd::Refused(Refusal::BucketFull),
@@ -138,13 +169,9 @@ fn other_put(recycled: Recycled, ended: PutEnd, kind: u32) -> Option<(Recycled, 
     Some((recycled, other))
 }
 
-// Another answer to the first or the last of several gets.
-fn other_reads(mut reads: Reads, kind: u32) -> Reads {
-    if kind == 0 {
-        reads.first.0 = other_read(reads.first.0);
-    } else {
-        reads.third.2 = other_read(reads.third.2);
-    }
+// Another answer to the first of several gets.
+fn other_reads(mut reads: Reads) -> Reads {
+    reads.first.0 = other_read(reads.first.0);
     reads
 }
 
@@ -156,19 +183,18 @@ fn other_read(read: Read) -> Read {
     }
 }
 
-// Another number of keys that a client's call evicted.
-fn other_recycled(recycled: Recycled, kind: u32) -> Option<Recycled> {
-    if !matches!(kind, 3 | 4) {
-        return None;
-    }
-    Some(Recycled {
-        taken: other_count(recycled.taken, kind)?,
-        ..recycled
-    })
+// So many keys more or fewer that a client's call evicted.
+fn other_recycled(recycled: Recycled, kind: usize, by: u32) -> Option<Recycled> {
+    let taken = match kind {
+        3 => recycled.taken.saturating_add(by),
+        4 => recycled.taken.checked_sub(by)?,
+        _ => return None,
+    };
+    Some(Recycled { taken, ..recycled })
 }
 
 // One key more or fewer. A call that is altered to have ended early keeps its count.
-fn other_count(taken: u32, kind: u32) -> Option<u32> {
+fn other_count(taken: u32, kind: usize) -> Option<u32> {
     match kind {
         2 => Some(taken),
         3 => Some(taken.saturating_add(1)),
@@ -178,7 +204,7 @@ fn other_count(taken: u32, kind: u32) -> Option<u32> {
 }
 
 // A refusal in place of a refill.
-fn other_refill(segment: u32, kind: u32) -> Option<Operation> {
+fn other_refill(segment: u32, kind: usize) -> Option<Operation> {
     let is_held = match kind {
         5 => true,
         6 => false,
@@ -188,7 +214,7 @@ fn other_refill(segment: u32, kind: u32) -> Option<Operation> {
 }
 
 // A refusal in place of an answer.
-fn other_refusal(access: &Access, kind: u32) -> Option<Refusal> {
+fn other_refusal(access: &Access, kind: usize) -> Option<Refusal> {
     match (access, kind) {
         (Access::Get(_) | Access::Hold(_), 5) => Some(Refusal::ReadBusy),
         (Access::Gets(Some(_)) | Access::Delete(_), 5) => Some(Refusal::Busy),
@@ -200,7 +226,7 @@ fn other_refusal(access: &Access, kind: u32) -> Option<Refusal> {
 }
 
 // Another refusal in place of one.
-fn another_refusal(refusal: Refusal, kind: u32) -> Option<Refusal> {
+fn another_refusal(refusal: Refusal, kind: usize) -> Option<Refusal> {
     match (refusal, kind) {
         (Refusal::NoRoom | Refusal::BucketFull, 5) => Some(Refusal::StoreBusy),
         (Refusal::StoreBusy | Refusal::BucketFull, 6) => Some(Refusal::NoRoom),
@@ -210,12 +236,12 @@ fn another_refusal(refusal: Refusal, kind: u32) -> Option<Refusal> {
 }
 
 // Another answer to a call on a key that isn't refused.
-fn other_access(access: &Access, kind: u32) -> Option<Access> {
+fn other_access(access: &Access, kind: usize) -> Option<Access> {
     match kind {
         0 => opposite(access),
         1 => with_value(access),
         8 => with_version(access),
-        9 => with_segment(access),
+        10 => with_segment(access),
         _ => None,
     }
 }

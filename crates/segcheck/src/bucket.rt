@@ -57,9 +57,18 @@ impl Bucket {
         self.watches.get(thread).copied().unwrap_or_default()
     }
 
-    /// The segments that another thread's call can have entered during the thread's call, or that an item was held in.
+    /// The segments of which another thread holds an item in one of the states.
+    pub fn held_beside(&self, thread: usize) -> u64 {
+        let mut segments = 0;
+        for state in self.states.iter() {
+            segments |= state.held_beside(thread);
+        }
+        segments
+    }
+
+    /// The segments that another thread's call can have entered during the thread's call.
     pub fn entered(&self, thread: usize, pending: &Pending) -> u64 {
-        let mut segments = self.watch(thread).entered();
+        let mut segments = self.watch(thread).read();
         for (other, operation) in pending.iter().enumerate() {
             if let Some(operation) = operation {
                 if other != thread {

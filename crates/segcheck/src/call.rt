@@ -208,9 +208,10 @@ pub enum Operation {
         access: Access,
         recycled: Recycled,
     },
-    /// A client's call that makes room. What it returned isn't judged here.
+    /// A client's call that makes room, and whether it did.
     MakeRoom {
         recycled: Recycled,
+        is_made: bool,
     },
 }
 
@@ -275,7 +276,7 @@ impl Operation {
         match self {
             Operation::Put { recycled, .. }
             | Operation::ClearingStore { recycled, .. }
-            | Operation::MakeRoom { recycled } => Some(*recycled),
+            | Operation::MakeRoom { recycled, .. } => Some(*recycled),
             _ => None,
         }
     }
@@ -316,6 +317,7 @@ impl Operation {
         match self {
             Operation::OnKey { bucket, .. }
             | Operation::Refused { bucket, .. }
+            | Operation::GetMany { bucket, .. }
             | Operation::ClearingStore { bucket, .. }
                 if *bucket == number => { stood }
             Operation::Release { bucket } if *bucket == number => held,
@@ -407,7 +409,7 @@ impl Operation {
             }
             Operation::Put { recycled, .. }
             | Operation::ClearingStore { recycled, .. }
-            | Operation::MakeRoom { recycled } => {
+            | Operation::MakeRoom { recycled, .. } => {
                 self.bucket() == Some(number) || stood & bit(recycled.segment) != 0
             }
             _ => false,
@@ -422,7 +424,7 @@ impl Operation {
             }
             Operation::Put { recycled, .. }
             | Operation::ClearingStore { recycled, .. }
-            | Operation::MakeRoom { recycled } => {
+            | Operation::MakeRoom { recycled, .. } => {
                 // A put sets twice at most in a bucket that isn't busy, the first time in vain.
                 let sets = if self.bucket() == Some(number) { 2 } else { 0 };
                 u64::from(recycled.taken)

@@ -166,6 +166,7 @@ const LEGAL: [Row; 8] = [
                 8,
                 Operation::MakeRoom {
                     recycled: recycled!(0, 1),
+                    is_made: true,
                 },
             ),
             (18, get!(1, None)),
@@ -175,7 +176,7 @@ const LEGAL: [Row; 8] = [
 ];
 
 // Each has the return of the first call that can't be explained.
-const ALTERED: [Row; 14] = [
+const ALTERED: [Row; 16] = [
     (
         "a key that an evict took out of another pass's segment",
         Err(Fault::NoOrder(21)),
@@ -249,6 +250,22 @@ const ALTERED: [Row; 14] = [
         "a BucketFull of one key",
         Err(Fault::NoOrder(3)),
         &[(2, refused!(BucketFull, 0))],
+    ),
+    (
+        "a put without room beside nobody",
+        Err(Fault::NoReason(3)),
+        &[(2, refused!(NoRoom, 0))],
+    ),
+    (
+        "room that wasn't made beside nobody",
+        Err(Fault::NoReason(3)),
+        &[(
+            2,
+            Operation::MakeRoom {
+                recycled: recycled!(0, 0),
+                is_made: false,
+            },
+        )],
     ),
     (
         "a Miss of a present key among several gets",

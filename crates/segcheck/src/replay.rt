@@ -250,6 +250,15 @@ impl Replay {
     // Whether the operation, if it was refused or ended early, can have had a reason that others gave it.
     fn has_reason(&self, thread: usize, operation: &Operation) -> bool {
         match operation {
+            Operation::Put {
+                recycled,
+                ended: PutEnd::Refused(Refusal::NoRoom),
+                ..
+            }
+            | Operation::MakeRoom {
+                recycled,
+                is_made: false,
+            } => self.was_denied(thread, recycled.segment),
             Operation::Refused {
                 bucket,
                 refusal,
@@ -307,7 +316,20 @@ impl Replay {
 
     // Whether a reader can have been in the segment, or an item of it can have been held.
     fn was_entered(&self, thread: usize, segment: u32) -> bool {
-        self.buckets.iter().any(|bucket| bucket.entered(thread, &self.pending) & bit(segment) != 0)
+        self.buckets.iter().any(|bucket| {
+            let held = bucket.watch(thread).held();
+            (bucket.entered(thread, &self.pending) | held) & bit(segment) != 0
+        })
+    }
+
+    // Whether others can have kept a client from a segment. It has several, which have one number,
+    // and what it holds itself is in one of them alone.
+    fn was_denied(&self, thread: usize, segment: u32) -> bool {
+        self.was_in_the_way(thread, segment)
+            || self.buckets.iter().any(|bucket| {
+                let held = bucket.held_beside(thread);
+                (bucket.entered(thread, &self.pending) | held) & bit(segment) != 0
+            })
     }
 
     // Whether a key can have stood in the segment.

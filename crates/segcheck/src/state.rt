@@ -93,9 +93,16 @@ impl State {
 
     /// The segments of which an item is held.
     pub fn held(&self) -> u64 {
+        self.held_beside(THREADS)
+    }
+
+    /// The segments of which another thread than this one holds an item.
+    pub fn held_beside(&self, thread: usize) -> u64 {
         let mut segments = 0;
-        for hand in self.hands.iter() {
-            segments |= hand.held.map_or(0, |item| bit(item.segment));
+        for (other, hand) in self.hands.iter().enumerate() {
+            if other != thread {
+                segments |= hand.held.map_or(0, |item| bit(item.segment));
+            }
         }
         segments
     }

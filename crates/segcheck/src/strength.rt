@@ -1,9 +1,10 @@
 //! How strong the checker is: of answers that are altered in a history, one at a time, how many it refuses.
-use crate::alterations::{KINDS, altered};
+use crate::alterations::{KINDS, NAMES, altered};
 use crate::call::{Call, Operation};
 use crate::replay::{Fault, Sizes, check};
 use std::alloc::Global;
-use std::mem;
+use std::fmt::{Display, Formatter, Write};
+use std::{fmt, mem};
 
 /// Numbers at random.
 pub trait Draw {
@@ -18,25 +19,60 @@ const FIRST: u32 = 1000;
 const END: u64 = 16_000;
 
 /// How often a call is drawn that has an answer to alter.
-const TRIES: u32 = 64;
+const TRIES: u32 = 256;
 
 /// Where a call is: its thread, and its place among the calls of that thread.
 type Spot = (usize, usize);
 
 /// How many answers were altered, and how many of them the checker accepts all the same.
 #[derive(Clone, Copy, Default)]
+struct Count {
+    altered: u32,
+    accepted: u32,
+}
+
+/// The counts of each kind of alterations.
+#[derive(Clone, Copy)]
 pub struct Strength {
-    pub altered: u32,
-    pub accepted: u32,
+    counts: [Count; KINDS],
+}
+
+impl Default for Strength {
+    /// Nothing was altered.
+    fn default() -> Strength {
+        Strength {
+            counts: [Count::default(); KINDS],
+        }
+    }
 }
 
 impl Strength {
     /// The sums of both.
-    pub fn plus(self, other: Strength) -> Strength {
-        Strength {
-            altered: self.altered.saturating_add(other.altered),
-            accepted: self.accepted.saturating_add(other.accepted),
+    pub fn plus(mut self, other: Strength) -> Strength {
+        for (count, more) in self.counts.iter_mut().zip(other.counts.iter()) {
+            count.altered = count.altered.saturating_add(more.altered);
+            count.accepted = count.accepted.saturating_add(more.accepted);
         }
+        self
+    }
+
+    /// A kind of which more than one is accepted, and more than one in 1000.
+    pub fn gap(&self) -> Option<&'static str> {
+        for (count, name) in self.counts.iter().zip(NAMES.iter()) {
+            if count.accepted > 1 && count.altered < count.accepted.saturating_mul(1000) {
+                return Some(*name);
+            }
+        }
+        None
+    }
+}
+
+impl Display for Strength {
+    fn fmt<W: Write>(&self, f: &mut Formatter<W>) -> fmt::Result {
+        for (count, name) in self.counts.iter().zip(NAMES.iter()) {
+            write!(f, "; {name}: {} of {}", count.accepted, count.altered)?;
+        }
+        Ok(())
     }
 }
 
@@ -53,12 +89,14 @@ pub fn strength_of<D: Draw>(
     }
     let mut strength = Strength::default();
     for _ in 0..count {
-        let kinds = kinds_of(sizes);
-        if let Some((spot, other)) = alteration(told, draws, kinds) {
-            strength.altered = strength.altered.saturating_add(1);
-            if !is_refused(alloc, sizes, told, spot, other)? {
-                strength.accepted = strength.accepted.saturating_add(1);
-            }
+        let kind = draws.below(kinds_of(sizes)) as usize;
+        let Some((spot, other)) = alteration(told, draws, kind, sizes.rows.is_none()) else {
+            continue;
+        };
+        let is_refused = is_refused(alloc, sizes, told, spot, other)?;
+        if let Some(count) = strength.counts.get_mut(kind) {
+            count.altered = count.altered.saturating_add(1);
+            count.accepted = count.accepted.saturating_add(u32::from(!is_refused));
         }
     }
     Ok(strength)
@@ -66,20 +104,26 @@ pub fn strength_of<D: Draw>(
 
 // How many kinds of alterations fit. Clients aren't told the segment, whose alteration comes last.
 fn kinds_of(sizes: Sizes) -> u32 {
+    let kinds = number(KINDS);
     match sizes.rows {
-        Some(_) => KINDS,
-        None => KINDS - 1,
+        Some(_) => kinds,
+        None => kinds.saturating_sub(1),
     }
 }
 
 // A call, drawn at random, and its operation with another answer.
-fn alteration<D: Draw>(told: &[Vec<Call>], draws: &mut D, kinds: u32) -> Option<(Spot, Operation)> {
+fn alteration<D: Draw>(
+    told: &[Vec<Call>],
+    draws: &mut D,
+    kind: usize,
+    is_of_client: bool,
+) -> Option<(Spot, Operation)> {
     for _ in 0..TRIES {
         let thread = draws.below(number(told.len())) as usize;
         let calls = told.get(thread)?;
         let place = draws.below(number(calls.len()).min(FIRST)) as usize;
         let call = calls.get(place)?;
-        if let Some(other) = altered(&call.operation, draws.below(kinds)) {
+        if let Some(other) = altered(&call.operation, kind, is_of_client) {
             return Some(((thread, place), other));
         }
     }

@@ -79,9 +79,14 @@ impl Watch {
         self.read |= segments;
     }
 
-    /// The segments that can have had a reader inside, or a held item.
-    pub fn entered(&self) -> u64 {
-        self.read | self.look.held
+    /// The segments that calls of other threads that have returned can have been inside.
+    pub fn read(&self) -> u64 {
+        self.read
+    }
+
+    /// The segments of which an item can have been held.
+    pub fn held(&self) -> u64 {
+        self.look.held
     }
 
     /// Whether the bit can have been found set.

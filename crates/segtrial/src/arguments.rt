@@ -50,7 +50,7 @@ const CLIENTS: &str = "Rounds more in which each pass is of a client, and has a 
 const CLIENTS_IN_TURN: &str = "Rounds more of clients, which take turns on one thread";
 
 const ALTER: &str =
-    "Answers of each round in turn that are altered, one at a time; at most 1 in 100 may be accepted, of clients 1 in 4";
+    "Answers of each round in turn that are altered, one at a time; of each kind one may be accepted, or 1 in 1000";
 
 const BESIDE: &str =
     "Of 1000 calls on threads, how many another pass's call overlaps, at least, if there are two passes";

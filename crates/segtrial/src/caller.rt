@@ -100,7 +100,7 @@ fn clients_of<'a>(
     Ok(callers)
 }
 
-// Lets the passes take so many turns each on this thread, one after the other.
+// Lets passes take so many turns each on this thread. After each the pass looks at the keys.
 fn passes_in_turn(
     alloc: Global,
     mut callers: Vec<PassCaller<'_>>,
@@ -112,6 +112,7 @@ fn passes_in_turn(
     for _ in 0..turns {
         for caller in callers.iter_mut() {
             caller.turn();
+            caller.look();
         }
     }
     let mut notes = Vec::new(alloc);
@@ -130,6 +131,7 @@ fn clients_in_turn(
     for _ in 0..turns {
         for caller in callers.iter_mut() {
             caller.turn();
+            caller.look();
         }
     }
     notes_of(alloc, callers)

@@ -17,7 +17,6 @@ use segclient::{Client, Hold, HoldAnswer, PutAnswer, Stats, hold_stays};
 use segmodel::{Answer, Command, GetAnswer, Request, WriteAnswer};
 use segword::{Key, Value};
 use std::alloc::{AllocError, Global};
-use std::mem;
 
 /// A client, and what its next calls depend on.
 #[derive(Drop)]
@@ -83,9 +82,12 @@ impl<'a> ClientCaller<'a> {
         self.session.log.into_notes()
     }
 
-    /// Makes one turn, drawn at random.
+    /// Makes one turn, drawn at random. If keys were evicted before, it looks first which still stand:
+    /// else the checker would have to go on with too many cases.
     pub fn turn(&mut self) {
-        self.look_after();
+        if self.has_evicted {
+            self.look();
+        }
         match self.session.draws.client_turn() {
             ClientTurn::Command => self.command(),
             ClientTurn::Hold => self.hold(),
@@ -95,6 +97,14 @@ impl<'a> ClientCaller<'a> {
                 let now = self.session.draws.moment();
                 self.get_many(bucket, now);
             }
+        }
+    }
+
+    /// Looks which keys stand, at a moment before all deadlines.
+    pub fn look(&mut self) {
+        self.has_evicted = false;
+        for bucket in 0..BUCKETS as usize {
+            self.get_many(bucket, 0);
         }
     }
 
@@ -178,7 +188,7 @@ impl<'a> ClientCaller<'a> {
         let refill = self.refill(before);
         let is_allowed = self.current.was_made_room(is_made, refill);
         self.current.were_moved(recycled.kept);
-        let room = Operation::MakeRoom { recycled };
+        let room = Operation::MakeRoom { recycled, is_made };
         self.note_if(is_allowed, (called, returned), Said::Operation(room));
     }
 
@@ -189,16 +199,6 @@ impl<'a> ClientCaller<'a> {
     {
         let said = if is_allowed { said } else { Said::Wrong };
         self.session.log.note(stamps, said);
-    }
-
-    // If keys were evicted, looks which still stand, at a moment before all deadlines.
-    // Else the checker would have to go on with too many cases.
-    fn look_after(&mut self) {
-        if mem::replace(&mut self.has_evicted, false) {
-            for bucket in 0..BUCKETS as usize {
-                self.get_many(bucket, 0);
-            }
-        }
     }
 
     // Gets of all keys of a bucket.

@@ -148,7 +148,7 @@ impl Draws {
         match self.below(4) {
             0 | 1 => MOMENTS,
             2 => MOMENTS / 2,
-            _ => self.moment(),
+            _ => self.moment().max(1),
         }
     }
 

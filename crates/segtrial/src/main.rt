@@ -115,16 +115,12 @@ fn tell_numbers(rt: &HostRuntime, counts: &Counts) -> io::Result<()> {
         answers.busy, answers.no_room, answers.bucket_full, answers.held
     )?;
     eprintln!(rt;
-        "{} items moved, {} answers altered, {} of them accepted",
-        answers.moved, counts.of_passes.altered, counts.of_passes.accepted
+        "{} items moved, accepted of altered{}",
+        answers.moved, counts.of_passes
     )?;
     eprintln!(rt;
-        "clients: {} answers, {} items kept, {} keys evicted, {} answers altered, {} of them accepted",
-        counts.to_clients,
-        answers.kept,
-        answers.evicted,
-        counts.of_clients.altered,
-        counts.of_clients.accepted
+        "clients: {} answers, {} items kept, {} keys evicted, accepted of altered{}",
+        counts.to_clients, answers.kept, answers.evicted, counts.of_clients
     )
 }
 

@@ -9,7 +9,7 @@ use crate::answers::{said_by_evict, said_by_keep, said_by_refill};
 use crate::draws::Turn;
 use crate::session::{Desk, Session};
 use crate::values::number_of;
-use segcheck::{Access, Draw, Notes, Operation, Recycled, Refusal, Said};
+use segcheck::{Access, Draw, Notes, Operation, Place, Recycled, Refusal, Said};
 use segindex::{Hold, HoldAnswer, Index, LockAnswer, Pass, hold_stays};
 use segmodel::{Answer, Command, EvictAnswer, KeepAnswer, RefillAnswer, WriteAnswer};
 use std::alloc::Global;
@@ -30,6 +30,8 @@ pub struct PassCaller<'a> {
     deadline: u32,
     /// The bucket that the pass has locked, and after how many turns it unlocks the bucket.
     locked: Option<(usize, u32)>,
+    /// Whether it wasn't told which keys were taken out or moved since the last look.
+    is_unsure: bool,
     ghost quiet: { IsQuiet (board_of index.now) pass } by { IsQuiet-prop (board_of index.now) pass },
 }
 
@@ -53,6 +55,7 @@ impl<'a> PassCaller<'a> {
             segment: 0,
             deadline: 0,
             locked: None,
+            is_unsure: false,
         }
     }
 
@@ -80,6 +83,16 @@ impl<'a> PassCaller<'a> {
             Turn::Lock => self.lock(),
             Turn::Keep => self.keep(),
             Turn::Refill => self.refill(),
+        }
+    }
+
+    /// Looks which keys stand, at a moment before all deadlines, unless that is sure. A hold counts no hit.
+    pub fn look(&mut self) {
+        if self.is_unsure {
+            self.is_unsure = false;
+            for number in 0..self.session.desk.keys.len() {
+                self.hold_at(Place::of_number(number), 0, false);
+            }
         }
     }
 
@@ -116,6 +129,7 @@ impl<'a> PassCaller<'a> {
         let answer = keep(self.index, &mut self.pass, segment, cutoff);
         let returned = self.session.log.stamp();
         let said = said_by_keep(segment, self.segment, cutoff, answer);
+        self.is_unsure = true;
         self.session.log.note((called, returned), said);
         self.evict(segment);
     }
@@ -134,6 +148,7 @@ impl<'a> PassCaller<'a> {
         let called = self.session.log.stamp();
         let answer = evict(self.index, &mut self.pass, segment);
         let returned = self.session.log.stamp();
+        self.is_unsure = self.is_unsure || matches!(answer, EvictAnswer::Busy(_));
         self.session
             .log
             .note((called, returned), said_by_evict(segment, answer));
@@ -165,6 +180,10 @@ impl<'a> PassCaller<'a> {
     fn hold(&mut self) {
         let place = self.session.draws.place();
         let now = self.session.draws.moment();
+        self.hold_at(place, now, true);
+    }
+
+    fn hold_at(&mut self, place: Place, now: u32, has_commands: bool) {
         let Some(key) = self.session.key(place) else {
             return;
         };
@@ -179,7 +198,7 @@ impl<'a> PassCaller<'a> {
                 let value = index.held_value(&mut self.pass, &hold);
                 let read = Access::Hold(Some(number_of(&value)));
                 log.note(stamps, place.says(now, read));
-                self.make_commands();
+                self.make_commands(has_commands);
                 self.end_hold(place.bucket, hold);
             }
             HoldAnswer::Miss => log.note(stamps, place.says(now, Access::Hold(None))),
@@ -188,13 +207,15 @@ impl<'a> PassCaller<'a> {
         }
     }
 
-    // The two commands that are made while an item is held.
-    fn make_commands(&mut self)
+    // The two commands that are made while an item is held, if there are any.
+    fn make_commands(&mut self, has_commands: bool)
         ensures index { self.new.index.now ≡ self.old.index.now }
         ensures held { holding self.new.pass ≡ holding self.old.pass }
     {
-        self.command();
-        self.command();
+        if has_commands {
+            self.command();
+            self.command();
+        }
     }
 
     // Reads the held value once more, and releases the hold.

@@ -10,8 +10,8 @@ use crate::ending::content_of;
 use crate::keys::colliding_keys;
 use crate::session::Desk;
 use segcheck::{
-    AnswerCounts, Call, Fault, HistoryFault, Notes, Replay, Sizes, Start, Strength, check,
-    judge_histories, strength_of,
+    AnswerCounts, Call, Fault, HistoryFault, Notes, Sizes, Start, Strength, check, judge_histories,
+    strength_of,
 };
 use segindex::{Index, Pass};
 use segword::{Key, Shape, Value};
@@ -29,9 +29,8 @@ pub struct Counts {
     pub on_threads: u64,
     pub to_clients: u64,
     /// The answers to passes that were altered, one at a time, and those of them that are accepted all the same.
-    /// An evict or keep that ended early leaves open which keys it took out, so some can be.
     pub of_passes: Strength,
-    /// The same of answers to clients. Only later answers tell what a put did, so more are accepted.
+    /// The same of answers to clients.
     pub of_clients: Strength,
 }
 
@@ -53,8 +52,8 @@ pub enum RoundFault {
     History(Fault),
     #[error("what the index lists at its end isn't what the calls left")]
     WrongContent,
-    #[error("the checker accepts too many answers that were altered")]
-    Accepted,
+    #[error("the checker accepts too many answers that were altered: {0}")]
+    Accepted(&'static str),
     #[error("{0}")]
     Misjudged(HistoryFault),
     #[error("out of memory")]
@@ -109,7 +108,13 @@ pub fn run_rounds<R: Threads + Sync>(
             Err(fault) => return Err(Failure { seed, fault }),
         }
     }
-    Ok(counts)
+    match counts.of_passes.gap().or(counts.of_clients.gap()) {
+        Some(kind) => Err(Failure {
+            seed: options.seed,
+            fault: RoundFault::Accepted(kind),
+        }),
+        None => Ok(counts),
+    }
 }
 
 // The rounds of passes come first, and of each sort those on threads.
@@ -149,15 +154,14 @@ fn run_round<R: Threads + Sync>(
     let mut round = make_calls(rt, alloc, options, kind, seed)?;
     let sizes = sizes_of(&round.shape, kind);
     let replay = check(alloc, sizes, &round.told)?;
-    judge_end(alloc, &replay, &round.keys, &round.content)?;
+    let values = content_of(alloc, &round.keys, &round.content)?;
+    if !values.is_some_and(|values| replay.can_end_with(&values)) {
+        return Err(RoundFault::WrongContent);
+    }
     let mut counts = round.counts;
     if kind.is_in_turn {
         let mut draws = Draws::new(seed, options.passes);
         let strength = strength_of(alloc, sizes, &mut round.told, &mut draws, options.alter)?;
-        let part = if kind.has_clients { 4 } else { 100 };
-        if strength.altered < strength.accepted.saturating_mul(part) {
-            return Err(RoundFault::Accepted);
-        }
         if kind.has_clients {
             counts.of_clients = strength;
         } else {
@@ -276,22 +280,6 @@ fn sizes_of(shape: &Shape, kind: Kind) -> Sizes {
         overflow: shape.overflow,
         rows: (!kind.has_clients).then_some(shape.rows),
         first_version: shape.first_version,
-    }
-}
-
-fn judge_end(
-    alloc: Global,
-    replay: &Replay,
-    keys: &[Key],
-    content: &[(Key, Value)],
-) -> Result<(), RoundFault> {
-    let Some(values) = content_of(alloc, keys, content)? else {
-        return Err(RoundFault::WrongContent);
-    };
-    if replay.can_end_with(&values) {
-        Ok(())
-    } else {
-        Err(RoundFault::WrongContent)
     }
 }
 
