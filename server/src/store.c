@@ -6,6 +6,7 @@
 enum {
   TRIES = 64,       /* of a call that is Busy, or for which room was made */
   PAUSE_NS = 50000, /* after a Busy one, so that a preempted thread goes on */
+  DOUBLINGS = 4,    /* of the pause, so that 64 tries take some 50 ms: longer than most preemptions */
 };
 
 /* What the library makes of a budget, with room to spare: a table for so many bytes, up to so many tables, and then for
@@ -26,7 +27,8 @@ enum { ROW = 64, ROW_WITH_CLIENT = 67, SEGMENTS = 64, AROUND = 24 };
 /* Whether a call is to be made again, since it was Busy. */
 static bool was_busy(uint32_t status, int *tries) {
   if (status != SEGCACHE_BUSY || ++*tries == TRIES) return false;
-  nanosleep(&(struct timespec){.tv_nsec = PAUSE_NS}, NULL);
+  int doublings = *tries <= DOUBLINGS ? *tries - 1 : DOUBLINGS;
+  nanosleep(&(struct timespec){.tv_nsec = PAUSE_NS << doublings}, NULL);
   return true;
 }
 
