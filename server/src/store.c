@@ -6,7 +6,7 @@
 enum {
   TRIES = 64,       /* of a call that is Busy, or for which room was made */
   PAUSE_NS = 50000, /* after a Busy one, so that a preempted thread goes on */
-  DOUBLINGS = 4,    /* of the pause, so that 64 tries take some 50 ms: longer than most preemptions */
+  DOUBLINGS = 4,    /* of the pause, so that 64 tries take some 50 ms */
 };
 
 /* What the library makes of a budget, with room to spare: a table for so many bytes, up to so many tables, and then for
