@@ -3,6 +3,7 @@ pub mod Calls
 pub mod Cleared
 pub mod CommandLaws
 pub mod Copied
+pub mod Ended
 pub mod Few
 pub mod InTurn
 pub mod Items

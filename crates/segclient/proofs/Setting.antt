@@ -8,7 +8,7 @@ use Rattle.segbase.specs.declared.pass.PlainPart.{PlainPart}
 use Rattle.segbase.specs.Words.{Board, Pass}
 use Rattle.segstore.specs.Words.{has_room_for}
 use Rattle.segwrite.specs.Words.{IsSetAnswer, Writes}
-use Rattle.segclient.specs.declared.put.Order.{Order}
+use Rattle.segclient.specs.declared.segments.Order.{Order}
 use Rattle.segclient.specs.declared.segments.Window.{Window}
 use Rattle.segclient.specs.PutCalls.{sets, IsInWindow, Makes, StoresUntil}
 use Rattle.segclient.specs.PutParts.{busy_sets, current_deadline, deadline_at, is_outside, misses, plan_of}

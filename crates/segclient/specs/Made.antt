@@ -18,10 +18,13 @@ use Rattle.segclient.specs.Clearing.{Clears, ClearsSome, most_steps_of_put, Step
 use Rattle.segclient.specs.Counting.{cleared_too, counted}
 use Rattle.segclient.specs.Lives.{life_window}
 use Rattle.segclient.specs.declared.segments.Window.{Window}
-use Rattle.segclient.specs.PutParts.{is_outside}
+use Rattle.segclient.specs.declared.put.PutAnswer.{PutAnswer}
+use Rattle.segclient.specs.PutCalls.{Plan}
+use Rattle.segclient.specs.PutParts.{is_outside, PutsWhole, with_effort}
 use Rattle.segclient.specs.Puts.{ChoosesFor, StoredFor}
 use Rattle.segclient.specs.Member.{draw_of, DrawsOnce, Keeps, KeepsDraws, KeepsSettings}
-use Rattle.segclient.specs.Tallies.{delete_tally, get_tally, gets_tally, write_tally}
+use Rattle.segclient.specs.Putting.{most_calls}
+use Rattle.segclient.specs.Tallies.{delete_tally, get_tally, gets_tally, write_of, write_tally}
 
 -- it counts nothing, draws nothing, and keeps its settings and its segments
 pub record KeepsCounts (old new : Member) : Type 0 where
@@ -83,6 +86,18 @@ pub record EndsWrite (told : WriteAnswer) (b : Board) (old new : Member) : Type 
   pub stats : new.stats ≡ cleared_too steps (counted (write_tally told) old.stats)
   pub draws : KeepsDraws old new
   pub settings : KeepsSettings old new
+
+-- A put that began at this pass came to its calls, and ended as a write does. What room took
+-- is counted with it.
+pub record EndsPut (plan : Plan) (told : PutAnswer) (b : Board) (start : Pass) (old new : Member)
+    : Type 0 where
+  pub effort : Effort
+  pub between : Member
+  pub puts : PutsWhole b plan (most_calls b.shape) told effort start between.pass
+  pub counts : between.stats ≡ with_effort effort old.stats
+  pub draws : KeepsDraws old between
+  pub settings : KeepsSettings old between
+  pub ends : EndsWrite (write_of told) b between new
 
 -- the deadlines that let an item live for seven eighths of the client's time to live at least,
 -- and for all of it at most; only the largest moment, if that comes within this time

@@ -11,14 +11,12 @@ use Rattle.segstore.specs.Words.{has_room_for, is_below}
 use Rattle.segevict.specs.Rows.{IfSeveral}
 use Rattle.segevict.specs.Words.{EvictsSegment}
 use Rattle.segindex.specs.Refilling.{RefillsSegment}
-use Rattle.segclient.specs.declared.put.Order.{Order}
+use Rattle.segclient.specs.declared.segments.Order.{Order}
 use Rattle.segclient.specs.declared.put.PutAnswer.{PutAnswer}
 use Rattle.segclient.specs.declared.put.PutAnswer.TheVariants as put
 use Rattle.segclient.specs.declared.effort.Effort.{Effort}
-use Rattle.segclient.specs.declared.segments.Policy.{Policy}
 use Rattle.segclient.specs.declared.segments.Window.{Window}
 use Rattle.segclient.specs.declared.stats.Stats.{Stats}
-use Rattle.segclient.specs.Clearing.{ClearsSome}
 use Rattle.segclient.specs.Counting.{with_more}
 use Rattle.segclient.specs.PutCalls.{PutCall, sets, evicts, Plan, came_to, refilled_segments, kept_items, evicted_keys, IsRefused, Makes, room_plan, rows_asked, StoresUntil}
 use Rattle.segclient.specs.Putting.{IsPutAnswer, SetsAtMost16, SetsUntilFull}
@@ -237,15 +235,6 @@ pub record PutsWhole (b : Board) (plan : Plan) (most : ℕ) (told : PutAnswer)
   pub not_stored : told ≢ put.Stored → AreOpen calls
   pub tries : SetsAtMost16 calls
   pub spares : Spares b.shape plan.window (rows_asked plan.request) calls p
-
--- ---- after a put
-
--- a client cleared rows of a segment: only after a put that is Stored, and only if it has queues
-pub record ClearsAfter (b : Board) (policy : Policy) (told : PutAnswer) (queued : Bool)
-    (effort : Effort) (p q : Pass) : Type 0 where
-  pub some : ClearsSome b policy.cutoff effort p q
-  pub unasked : told ≢ put.Stored → some.steps ≡ []
-  pub unqueued : queued ≡ false → some.steps ≡ []
 
 -- ---- at most so many calls
 

@@ -17,9 +17,9 @@ use Rattle.segclient.specs.Clearing.{Clears, most_steps_of_put, Step}
 use Rattle.segclient.specs.Counting.{cleared_too, counted, given_up_too}
 use Rattle.segclient.specs.Lives.{deadline_by, IsDeadlineFor, IsLife}
 use Rattle.segclient.specs.Member.{KeepsSettings}
-use Rattle.segclient.specs.PutCalls.{IsInWindow, IsRefused, Makes, PutCall, room_plan, sets}
+use Rattle.segclient.specs.PutCalls.{IsInWindow, IsRefused, Makes, Plan, PutCall, room_plan, sets}
 use Rattle.segclient.specs.PutCalls.{StoresUntil}
-use Rattle.segclient.specs.PutParts.{is_outside}
+use Rattle.segclient.specs.PutParts.{is_outside, SetsIfTimely}
 use Rattle.segclient.specs.Putting.{IsPutAnswer, most_calls, SetsAtMost16, SetsUntilFull}
 use Rattle.segclient.specs.Tallies.{put_tally}
 
@@ -43,6 +43,11 @@ pub record ChoosesFor (window : Window) (b : Board) (p q : Pass) : Type 0 where
   pub chooses : Chooses b p q
   pub moves : Moves b.shape window p q
   pub stays : is_outside window p ≡ false → has_room b.shape p ≡ true → q ≡ p
+
+-- so it chose, and then a set was made, or more in a row
+abbrev pub SetsFirst : Board → Plan → PutAnswer → Pass → Pass → Type 0
+SetsFirst b plan told p q =
+    (chosen : Pass) × ChoosesFor plan.window b p chosen × SetsIfTimely b plan told chosen q
 
 -- what the pass stored has one of these deadlines: that of its current segment
 abbrev pub StoredFor : Window → Pass → Type 0

@@ -54,11 +54,15 @@ delete_tally delete.Deleted = tally.Deleted
 delete_tally delete.NotFound = tally.NotFound
 delete_tally delete.Busy = tally.Busy
 
+-- a put is counted as a write with this answer
+abbrev pub write_of : PutAnswer → WriteAnswer
+write_of put.Stored = write.Stored
+write_of put.NoRoom = write.NoRoom
+write_of put.BucketFull = write.BucketFull
+write_of put.Busy = write.Busy
+
 abbrev pub put_tally : PutAnswer → Tally
-put_tally put.Stored = tally.Stored
-put_tally put.NoRoom = tally.NoRoom
-put_tally put.BucketFull = tally.BucketFull
-put_tally put.Busy = tally.Busy
+put_tally told = write_tally (write_of told)
 
 -- how many keys an evict took out that has this answer
 abbrev pub evicted_by : EvictAnswer → ℕ

@@ -3,11 +3,11 @@
 ghost use Rattle.segindex.specs.Words.{board_of};
 ghost use Rattle.segclient.specs.Member.{IsMember};
 
-use crate::choosing::choose;
 use crate::client::Client;
+use crate::effort::Effort;
 use crate::member::Member;
-use crate::put::{Order, PutAnswer, clear_after, put_by};
-use crate::tally::Tally;
+use crate::put::{PutAnswer, put_at_last, set_first};
+use crate::segments::Order;
 use segindex::Index;
 use segmodel::WriteAnswer;
 use segword::{Key, ValueBytes};
@@ -15,8 +15,12 @@ use segword::{Key, ValueBytes};
 impl Member {
     ghost use Rattle.segmodel.specs.declared.request.Request.TheVariants.{Set, Add, Replace, Cas};
     ghost use Rattle.segwrite.specs.Words.{IsSetAnswer};
-    ghost use Rattle.segclient.specs.Made.{MakesWrite};
+    ghost use Rattle.segbase.specs.Words.{Pass as BasePass};
+    ghost use Rattle.segclient.specs.Made.{EndsPut, EndsWrite, MakesWrite};
+    ghost use Rattle.segclient.specs.PutCalls.{IsInWindow};
+    ghost use Rattle.segclient.specs.PutParts.{plan_of, SetsIfTimely, with_effort};
     ghost use Rattle.segclient.specs.Puts.{Puts, PutsFor};
+    ghost use Rattle.segclient.specs.Tallies.{write_of};
 
     /// As `Client::set_bytes`.
     pub fn set_bytes(&mut self, index: &Index, key: &Key, value: &ValueBytes<'_>) -> WriteAnswer
@@ -114,13 +118,41 @@ impl Member {
     {
         let policy = self.policy_for(index, time_to_live);
         let order = Order { key, value, policy };
-        choose(index, &mut self.pass, &self.segments, policy.window);
-        let (told, effort) = put_by(index, &mut self.pass, &mut self.segments, order);
-        self.stats.count_effort(effort);
-        let cleared = clear_after(index, &mut self.pass, &mut self.segments, policy, told);
-        self.stats.count_effort(cleared);
-        self.stats.count(Tally::of_put(told));
+        let first = set_first(index, &mut self.pass, &mut self.segments, order);
+        if let PutAnswer::Stored = first {
+            self.end_put(index, key, first, Effort::none());
+            return first;
+        }
+        self.put_making_room(index, order, first)
+    }
+
+    // What becomes of a put whose first set was answered so.
+    #[cold]
+    #[inline(never)]
+    fn put_making_room(&mut self, index: &Index, order: Order<'_>, first: PutAnswer) -> PutAnswer
+        requires member { IsMember index.now self.old }
+        requires timely { IsInWindow order.policy.window order.policy.deadline }
+        ensures member { IsMember index.now self.new }
+        ensures puts { (start : BasePass)
+            → SetsIfTimely (board_of index.now) (plan_of order.entry) first start self.old.pass
+            → EndsPut (plan_of order.entry) result (board_of index.now) start self.old self.new }
+    {
+        let (told, effort) = put_at_last(index, &mut self.pass, &mut self.segments, order, first);
+        self.end_put(index, order.key, told, effort);
         told
+    }
+
+    // Counts a put that was answered so and took this effort, and what is cleared then.
+    #[inline(always)]
+    fn end_put(&mut self, index: &Index, key: &Key, told: PutAnswer, effort: Effort)
+        requires member { IsMember index.now self.old }
+        ensures member { IsMember index.now self.new }
+        ensures ends { EndsWrite (write_of told) (board_of index.now)
+            (record self.old { stats = with_effort effort self.old.stats }) self.new }
+    {
+        self.stats.count_effort(effort);
+        let replaced = self.segments.replaced;
+        self.end_write(index, key, told.as_write(), replaced);
     }
 }
 

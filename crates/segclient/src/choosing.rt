@@ -6,7 +6,7 @@ ghost use Rattle.segclient.specs.PutParts.{is_outside, IsOpen};
 ghost use Rattle.segclient.specs.Puts.{Chooses, ChoosesFor, Moves};
 
 use crate::queues::segment_at;
-use crate::room::has_room;
+use crate::rows::has_room;
 use crate::segments::{Segments, Window};
 use segindex::{Index, Pass};
 use segmodel::SegState;

@@ -15,8 +15,8 @@ use crate::queues::{
     current_for, next_expired, next_source, note_done, note_moved, oldest, place_of, target_of,
     was_given_up, was_refilled,
 };
-use crate::segments::{Policy, Segments, Source};
-use crate::spans::{last_of, row_behind};
+use crate::rows::{last_of, row_behind, rows_left};
+use crate::segments::{Segments, Source};
 use segindex::{EvictRowAnswer, Index, KeepRowAnswer, Pass, RowRef};
 use segqueues::{Queue, Queues};
 use segword::MOST_SPAN;
@@ -261,15 +261,6 @@ fn is_fresh(pass: &Pass, source: Source, moment: u32) -> bool {
     }
 }
 
-// How many rows of the current segment are left.
-fn rows_left(index: &Index, pass: &Pass) -> u32 {
-    let Some(segment) = pass.current() else {
-        return 0;
-    };
-    let used = pass.used(segment).unwrap_or(0);
-    index.shape().rows.saturating_sub(used)
-}
-
 // Whether a free segment can become a main one.
 fn can_open(index: &Index, pass: &Pass, queues: &Queues, source: Source, turns: u32) -> bool {
     let rows = rows_left(index, pass);
@@ -444,12 +435,14 @@ pub(crate) fn is_due(segments: &Segments, moment: u32) -> bool
 }
 
 // Clears some rows of a segment of the pass, by the queues: at most 16 calls of the index,
-// and where items take several rows, eight looks at how many.
+// and where items take several rows, eight looks at how many. What has the cutoff's frequency
+// or a higher one can be kept.
 pub(crate) fn clear_some(
     index: &Index,
     pass: &mut Pass,
     segments: &mut Segments,
-    policy: Policy,
+    cutoff: Option<u8>,
+    moment: u32,
 ) -> Effort
     requires quiet { IsQuiet (board_of index.now) pass.old }
     requires own { IsOwnRing (shape_of index.now) (number pass.old) segments.old.ring }
@@ -459,10 +452,9 @@ pub(crate) fn clear_some(
     ensures queues { is_some segments.new.queues ≡ is_some segments.old.queues }
     ensures cleared { IsCleared (shape_of index.now) segments.new.source pass.new }
     ensures few { (result.refilled ≤ 16) × (result.kept ≤ 16) × (result.keys < 2 ^ 36) }
-    ensures clears { ClearsSome (board_of index.now) policy.cutoff
-        result pass.old pass.new }
+    ensures clears { ClearsSome (board_of index.now) cutoff result pass.old pass.new }
 {
-    let Some(least) = policy.cutoff else {
+    let Some(least) = cutoff else {
         return Effort::none();
     };
     let Some(queues) = segments.queues.as_mut() else {
@@ -470,7 +462,7 @@ pub(crate) fn clear_some(
     };
     let terms = Terms {
         least,
-        moment: policy.moment,
+        moment,
         turns: TURNS,
         rows: 1,
     };

@@ -8,11 +8,11 @@ use crate::choosing::{choose, is_filled_fine, is_fine, is_outside};
 use crate::clearing::{clear_some, is_due};
 use crate::effort::Effort;
 use crate::lives::{FINE_PARTS, PARTS, deadline_by, window_for};
+use crate::making::make_room_by;
 use crate::put::PutAnswer;
 use crate::queues::{queues_of, tell_deleted, tell_stored};
 use crate::ring::own_ring;
 use crate::segments::{Policy, Segments, Window};
-use crate::spans::make_room_by;
 use crate::stats::Stats;
 use crate::tally::Tally;
 use segindex::{Index, IndexStats, Pass, RowRef};
@@ -215,8 +215,13 @@ impl Member {
         if !is_due(&self.segments, self.clock) {
             return Effort::none();
         }
-        let policy = self.policy();
-        clear_some(index, &mut self.pass, &mut self.segments, policy)
+        clear_some(
+            index,
+            &mut self.pass,
+            &mut self.segments,
+            self.cutoff,
+            self.clock,
+        )
     }
 
     // Counts a write that was answered so, and what is cleared then.

@@ -6,22 +6,20 @@ ghost use Rattle.segstore.specs.Words.{GoesOn, IsQuiet};
 ghost use Rattle.segwrite.specs.Words.{IsSetAnswer, Writes};
 ghost use Rattle.segclient.specs.Clearing.{IsCleared};
 ghost use Rattle.segclient.specs.PutCalls.{IsInWindow};
-ghost use Rattle.segclient.specs.PutParts.{ClearsAfter, is_outside, MakesPut, most_for_put};
-ghost use Rattle.segclient.specs.PutParts.{most_for_set, plan_of, PutsAtLast, PutsWhole};
-ghost use Rattle.segclient.specs.PutParts.{request_of, Sets, SetsIfTimely};
-ghost use Rattle.segclient.specs.Putting.{most_calls};
+ghost use Rattle.segclient.specs.PutParts.{is_outside, MakesPut, most_for_put, most_for_set};
+ghost use Rattle.segclient.specs.PutParts.{plan_of, PutsAtLast, request_of, Sets, SetsIfTimely};
+ghost use Rattle.segclient.specs.Puts.{SetsFirst};
 ghost use Rattle.segclient.specs.Rings.{IsOwnRing};
+ghost use Rattle.segclient.specs.Tallies.{write_of};
 
-use crate::choosing::is_outside;
-use crate::clearing::{clear_some, is_due};
+use crate::choosing::{choose, is_outside};
 use crate::effort::Effort;
-use crate::queues::tell_stored;
+use crate::making::make_room_for;
 use crate::room::evict_oldest;
-use crate::segments::{Policy, Segments};
-use crate::spans::make_room_for;
+use crate::rows::has_room;
+use crate::segments::{Order, Segments};
 use segindex::{Index, Pass, RowRef};
 use segmodel::WriteAnswer;
-use segword::{Key, ValueBytes};
 
 /// The answer to a put.
 #[derive(Clone, Copy, Debug, PartialEq, Eq)]
@@ -39,12 +37,18 @@ pub enum PutAnswer {
     Busy,
 }
 
-// What is put, and how room is made for it.
-#[derive(Clone, Copy)]
-pub(crate) struct Order<'p> {
-    pub(crate) key: &'p Key,
-    pub(crate) value: &'p ValueBytes<'p>,
-    pub(crate) policy: Policy,
+impl PutAnswer {
+    // The answer of a set that is counted so.
+    pub(crate) fn as_write(self) -> WriteAnswer
+        ensures { result ≡ write_of self }
+    {
+        match self {
+            PutAnswer::Stored => WriteAnswer::Stored,
+            PutAnswer::NoRoom => WriteAnswer::NoRoom,
+            PutAnswer::BucketFull => WriteAnswer::BucketFull,
+            PutAnswer::Busy => WriteAnswer::Busy,
+        }
+    }
 }
 
 // How often a set is made again while it is busy.
@@ -100,7 +104,7 @@ fn set_while_busy(
 // A set, unless the segment that the pass stores into has another deadline than those that are
 // asked: then there is no room.
 #[inline(always)]
-pub(crate) fn set_if_timely(
+fn set_if_timely(
     index: &Index,
     pass: &mut Pass,
     order: Order<'_>,
@@ -115,6 +119,46 @@ pub(crate) fn set_if_timely(
         return PutAnswer::NoRoom;
     }
     set_while_busy(index, pass, order, replaced)
+}
+
+// As `set_first`, where the pass stores into no such segment.
+#[cold]
+#[inline(never)]
+fn set_elsewhere(
+    index: &Index,
+    pass: &mut Pass,
+    segments: &mut Segments,
+    order: Order<'_>,
+) -> PutAnswer
+    requires quiet { IsQuiet (board_of index.now) pass.old }
+    ensures on { GoesOn (board_of index.now) pass.old pass.new }
+    ensures keeps { segments.new ≡ record segments.old { replaced = segments.new.replaced } }
+    ensures sets { SetsFirst (board_of index.now) (plan_of order.entry) result
+        pass.old pass.new }
+{
+    choose(index, pass, segments, order.policy.window);
+    set_if_timely(index, pass, order, &mut segments.replaced)
+}
+
+// The first set of a put. It goes into the segment that the pass stores into, if that has a row left
+// and a deadline that is asked, or else into another open one, if there is one.
+#[inline(always)]
+pub(crate) fn set_first(
+    index: &Index,
+    pass: &mut Pass,
+    segments: &mut Segments,
+    order: Order<'_>,
+) -> PutAnswer
+    requires quiet { IsQuiet (board_of index.now) pass.old }
+    ensures on { GoesOn (board_of index.now) pass.old pass.new }
+    ensures keeps { segments.new ≡ record segments.old { replaced = segments.new.replaced } }
+    ensures sets { SetsFirst (board_of index.now) (plan_of order.entry) result
+        pass.old pass.new }
+{
+    if is_outside(pass, order.policy.window) || !has_room(index, pass) {
+        return set_elsewhere(index, pass, segments, order);
+    }
+    set_while_busy(index, pass, order, &mut segments.replaced)
 }
 
 // What becomes of a set that was answered so.
@@ -156,9 +200,7 @@ fn set_in_room(
 
 // What becomes of a put whose first set was answered so. It makes room for its row,
 // and if its bucket is full, for its word.
-#[cold]
-#[inline(never)]
-fn put_at_last(
+pub(crate) fn put_at_last(
     index: &Index,
     pass: &mut Pass,
     segments: &mut Segments,
@@ -186,85 +228,4 @@ fn put_at_last(
     let told = set_if_timely(index, pass, order, &mut segments.replaced);
     let (told, last) = set_in_room(index, pass, segments, order, told);
     (told, emptied.plus(last))
-}
-
-// A put without a word to the queues.
-#[inline(always)]
-fn put_once(
-    index: &Index,
-    pass: &mut Pass,
-    segments: &mut Segments,
-    order: Order<'_>,
-) -> (PutAnswer, Effort)
-    requires quiet { IsQuiet (board_of index.now) pass.old }
-    requires own { IsOwnRing (shape_of index.now) (number pass.old) segments.old.ring }
-    requires cleared { IsCleared (shape_of index.now) segments.old.source pass.old }
-    requires timely { IsInWindow order.policy.window order.policy.deadline }
-    ensures on { GoesOn (board_of index.now) pass.old pass.new }
-    ensures own { IsOwnRing (shape_of index.now) (number pass.new) segments.new.ring }
-    ensures queues { is_some segments.new.queues ≡ is_some segments.old.queues }
-    ensures cleared { IsCleared (shape_of index.now) segments.new.source pass.new }
-    ensures puts { PutsWhole (board_of index.now) (plan_of order.entry)
-        (most_calls (shape_of index.now)) result.0 result.1 pass.old pass.new }
-{
-    let first = set_if_timely(index, pass, order, &mut segments.replaced);
-    if let PutAnswer::Stored = first {
-        return (first, Effort::none());
-    }
-    put_at_last(index, pass, segments, order, first)
-}
-
-// A put. If the client keeps by queues, they note it, and which row it replaced.
-#[inline(always)]
-pub(crate) fn put_by(
-    index: &Index,
-    pass: &mut Pass,
-    segments: &mut Segments,
-    order: Order<'_>,
-) -> (PutAnswer, Effort)
-    requires quiet { IsQuiet (board_of index.now) pass.old }
-    requires own { IsOwnRing (shape_of index.now) (number pass.old) segments.old.ring }
-    requires cleared { IsCleared (shape_of index.now) segments.old.source pass.old }
-    requires timely { IsInWindow order.policy.window order.policy.deadline }
-    ensures on { GoesOn (board_of index.now) pass.old pass.new }
-    ensures own { IsOwnRing (shape_of index.now) (number pass.new) segments.new.ring }
-    ensures queues { is_some segments.new.queues ≡ is_some segments.old.queues }
-    ensures cleared { IsCleared (shape_of index.now) segments.new.source pass.new }
-    ensures puts { PutsWhole (board_of index.now) (plan_of order.entry)
-        (most_calls (shape_of index.now)) result.0 result.1 pass.old pass.new }
-{
-    let (told, effort) = put_once(index, pass, segments, order);
-    if let PutAnswer::Stored = told {
-        let replaced = segments.replaced;
-        tell_stored(index, pass, segments, order.key, replaced);
-    }
-    (told, effort)
-}
-
-// After a put that was stored, a client with queues clears some rows of another segment.
-#[inline(always)]
-pub(crate) fn clear_after(
-    index: &Index,
-    pass: &mut Pass,
-    segments: &mut Segments,
-    policy: Policy,
-    told: PutAnswer,
-) -> Effort
-    requires quiet { IsQuiet (board_of index.now) pass.old }
-    requires own { IsOwnRing (shape_of index.now) (number pass.old) segments.old.ring }
-    requires cleared { IsCleared (shape_of index.now) segments.old.source pass.old }
-    ensures on { GoesOn (board_of index.now) pass.old pass.new }
-    ensures own { IsOwnRing (shape_of index.now) (number pass.new) segments.new.ring }
-    ensures queues { is_some segments.new.queues ≡ is_some segments.old.queues }
-    ensures cleared { IsCleared (shape_of index.now) segments.new.source pass.new }
-    ensures clears { ClearsAfter (board_of index.now) policy told
-        (is_some segments.old.queues) result pass.old pass.new }
-{
-    let PutAnswer::Stored = told else {
-        return Effort::none();
-    };
-    if !is_due(segments, policy.moment) {
-        return Effort::none();
-    }
-    clear_some(index, pass, segments, policy)
 }

@@ -6,8 +6,8 @@ ghost use Rattle.segbase.specs.Words.{current_of, number};
 ghost use Rattle.segindex.specs.Words.{board_of, shape_of};
 ghost use Rattle.segstore.specs.Words.{IsQuiet};
 
+use crate::rows::are_left;
 use crate::segments::Segments;
-use crate::spans::are_left;
 use segindex::{Index, Pass, RowRef};
 use segmodel::{DeleteAnswer, SegState};
 use segqueues::{Place, Queue, Queues, Round};

@@ -1,14 +1,13 @@
-//! How a put makes room: it recycles segments of its own in the order in which they were filled,
-//! or by queues.
-ghost use Rattle.std.specs.Prelude.{◌≡◌, ◌≢◌, ◌+◌, ◌*◌, ◌<◌, ◌≤◌, ◌^◌, ℕ, true, false, is_some, Some, None};
+//! Which segments of its own a pass gives up for room, in the order in which they were filled
+//! or by queues, and how it keeps what was read often.
+ghost use Rattle.std.specs.Prelude.{◌≡◌, ◌≢◌, ◌+◌, ◌<◌, ◌≤◌, ◌^◌, ℕ, true, false, is_some, Some, None};
 ghost use Rattle.segmodel.specs.Words.{owner};
 ghost use Rattle.segbase.specs.Words.{current_of, number};
-ghost use Rattle.segstore.specs.Words.{GoesOn, has_room, IsQuiet};
+ghost use Rattle.segstore.specs.Words.{GoesOn, IsQuiet};
 ghost use Rattle.segindex.specs.Words.{board_of, shape_of};
-ghost use Rattle.segclient.specs.PutCalls.{StoresUntil};
 ghost use Rattle.segclient.specs.Clearing.{IsCleared};
 ghost use Rattle.segclient.specs.PutParts.{Arranges, effort_from, Empties, GivesUp, MakesRoom};
-ghost use Rattle.segclient.specs.PutParts.{most_at_last, most_for_room, most_in_turn};
+ghost use Rattle.segclient.specs.PutParts.{most_in_turn};
 ghost use Rattle.segclient.specs.PutParts.{StoresAfresh, StoresAsBefore, TakesFree};
 ghost use Rattle.segclient.specs.Rings.{IsOwnRing};
 
@@ -151,62 +150,6 @@ pub(crate) fn clear_next(index: &Index, pass: &mut Pass, ring: &Ring, cutoff: u8
     }
 }
 
-// Whether the segment that the pass stores into has a row left.
-pub(crate) fn has_room(index: &Index, pass: &Pass) -> bool
-    ensures { result ≡ has_room (shape_of index.now) pass.now }
-{
-    let Some(segment) = pass.current() else {
-        return false;
-    };
-    let Some(used) = pass.used(segment) else {
-        return false;
-    };
-    used < index.shape().rows
-}
-
-// Makes room, and keeps what has the cutoff's frequency or a higher one.
-// If what was kept left no row, it makes room once more.
-fn make_room_keeping(
-    index: &Index,
-    pass: &mut Pass,
-    ring: &mut Ring,
-    cutoff: u8,
-    deadline: u32,
-) -> (bool, Effort)
-    requires quiet { IsQuiet (board_of index.now) pass.old }
-    requires own { IsOwnRing (shape_of index.now) (number pass.old) ring.old }
-    ensures on { GoesOn (board_of index.now) pass.old pass.new }
-    ensures own { IsOwnRing (shape_of index.now) (number pass.new) ring.new }
-    ensures few { (result.1.refilled ≤ 2) × (result.1.kept < 2 ^ 32) × (result.1.keys < 2 ^ 59) }
-    ensures room { MakesRoom (board_of index.now) (Some cutoff) deadline
-        (most_at_last (shape_of index.now)) result.0 result.1 pass.old pass.new }
-{
-    let (is_made, first) = make_room(index, pass, ring, deadline);
-    if !is_made {
-        return (false, first);
-    }
-    let effort = first.plus(clear_next(index, pass, ring, cutoff));
-    if has_room(index, pass) {
-        return (true, effort);
-    }
-    let (is_made, last) = make_room(index, pass, ring, deadline);
-    (is_made, effort.plus(last))
-}
-
-// Whether the segment that the pass stores into has a row left, and this deadline.
-fn has_room_until(index: &Index, pass: &Pass, deadline: u32) -> bool
-    ensures room { result ≡ true → has_room (shape_of index.now) pass.now ≡ true }
-    ensures until { result ≡ true → StoresUntil deadline pass.now }
-{
-    let Some(segment) = pass.current() else {
-        return false;
-    };
-    if pass.deadline(segment) != Some(deadline) {
-        return false;
-    }
-    has_room(index, pass)
-}
-
 // Gives up the first segment in the queues' order for which that comes about, for puts:
 // one that has expired comes before all others.
 // One that is refused comes last. The current one isn't given up.
@@ -246,64 +189,6 @@ pub(crate) fn make_room_in_order(
         was_given_up(index, pass, queues, segment);
     }
     (false, Effort::evicting(keys))
-}
-
-// Makes room by the queues, unless a row is left. If no segment could be given up in their order,
-// each is tried once more, and the current one at last.
-fn make_room_in_queues(
-    index: &Index,
-    pass: &mut Pass,
-    ring: &mut Ring,
-    queues: &mut Queues,
-    policy: Policy,
-) -> (bool, Effort)
-    requires quiet { IsQuiet (board_of index.now) pass.old }
-    requires own { IsOwnRing (shape_of index.now) (number pass.old) ring.old }
-    ensures on { GoesOn (board_of index.now) pass.old pass.new }
-    ensures own { IsOwnRing (shape_of index.now) (number pass.new) ring.new }
-    ensures few { (result.1.refilled ≤ 2) × (result.1.kept ≡ 0) × (result.1.keys < 2 ^ 58) }
-    ensures room { MakesRoom (board_of index.now) None policy.deadline
-        (2 * most_in_turn (shape_of index.now)) result.0 result.1 pass.old pass.new }
-{
-    if has_room_until(index, pass, policy.deadline) {
-        return (true, Effort::none());
-    }
-    let (is_made, first) = make_room_in_order(index, pass, queues, policy);
-    if is_made {
-        return (true, first);
-    }
-    let (is_made, last) = make_room(index, pass, ring, policy.deadline);
-    if let Some(segment) = pass.current() {
-        was_refilled(index, pass, queues, segment, false);
-    }
-    (is_made, first.plus(last))
-}
-
-// Makes room by the client's policy, at this moment, from segments that it gives up for it.
-pub(crate) fn make_room_at_last(
-    index: &Index,
-    pass: &mut Pass,
-    segments: &mut Segments,
-    policy: Policy,
-) -> (bool, Effort)
-    requires quiet { IsQuiet (board_of index.now) pass.old }
-    requires own { IsOwnRing (shape_of index.now) (number pass.old) segments.old.ring }
-    ensures on { GoesOn (board_of index.now) pass.old pass.new }
-    ensures own { IsOwnRing (shape_of index.now) (number pass.new) segments.new.ring }
-    ensures queues { is_some segments.new.queues ≡ is_some segments.old.queues }
-    ensures source { segments.new.source ≡ segments.old.source }
-    ensures few { (result.1.refilled < 2 ^ 30) × (result.1.kept < 2 ^ 60)
-        × (result.1.keys < 2 ^ 59) }
-    ensures room { MakesRoom (board_of index.now) policy.cutoff policy.deadline
-        (most_at_last (shape_of index.now)) result.0 result.1 pass.old pass.new }
-{
-    let Some(least) = policy.cutoff else {
-        return make_room(index, pass, &mut segments.ring, policy.deadline);
-    };
-    match segments.queues.as_mut() {
-        Some(queues) => { make_room_in_queues(index, pass, &mut segments.ring, queues, policy) }
-        None => make_room_keeping(index, pass, &mut segments.ring, least, policy.deadline),
-    }
 }
 
 // Whether the segment is the one that is being cleared.
@@ -348,40 +233,6 @@ pub(crate) fn take_free(
     };
     was_refilled(index, pass, queues, segment, false);
     true
-}
-
-// Makes room by the client's policy, at this moment. Where a free segment is taken for it,
-// the clearing of another goes on, and else it ends.
-#[cold]
-#[inline(never)]
-pub(crate) fn make_row_by(
-    index: &Index,
-    pass: &mut Pass,
-    segments: &mut Segments,
-    policy: Policy,
-) -> (bool, Effort)
-    requires quiet { IsQuiet (board_of index.now) pass.old }
-    requires own { IsOwnRing (shape_of index.now) (number pass.old) segments.old.ring }
-    requires cleared { IsCleared (shape_of index.now) segments.old.source pass.old }
-    ensures on { GoesOn (board_of index.now) pass.old pass.new }
-    ensures own { IsOwnRing (shape_of index.now) (number pass.new) segments.new.ring }
-    ensures queues { is_some segments.new.queues ≡ is_some segments.old.queues }
-    ensures cleared { IsCleared (shape_of index.now) segments.new.source pass.new }
-    ensures few { (result.1.refilled < 2 ^ 30) × (result.1.kept < 2 ^ 60)
-        × (result.1.keys < 2 ^ 59) }
-    ensures room { MakesRoom (board_of index.now) policy.cutoff policy.deadline
-        (most_for_room (shape_of index.now)) result.0 result.1 pass.old pass.new }
-{
-    if take_free(index, pass, segments, policy.deadline) {
-        let effort = Effort {
-            refilled: 1,
-            kept: 0,
-            keys: 0,
-        };
-        return (true, effort);
-    }
-    segments.source = None;
-    make_room_at_last(index, pass, segments, policy)
 }
 
 // The segment in use that was filled before all others of the pass, but for the one that it stores

@@ -2,6 +2,7 @@
 use segindex::RowRef;
 use segpolicy::Ring;
 use segqueues::Queues;
+use segword::{Key, ValueBytes};
 
 // A segment of the pass that is being cleared. No item names a row of it before this one.
 #[derive(Clone, Copy)]
@@ -37,4 +38,12 @@ pub(crate) struct Policy {
     pub(crate) deadline: u32,
     pub(crate) window: Window,
     pub(crate) moment: u32,
+}
+
+// What is put, and how room is made for it.
+#[derive(Clone, Copy)]
+pub(crate) struct Order<'p> {
+    pub(crate) key: &'p Key,
+    pub(crate) value: &'p ValueBytes<'p>,
+    pub(crate) policy: Policy,
 }

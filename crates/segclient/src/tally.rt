@@ -1,9 +1,8 @@
 //! How an answer is counted, by clients and by loads.
 ghost use Rattle.std.specs.Prelude.{◌≡◌};
 ghost use Rattle.segclient.specs.Tallies.{delete_tally, get_tally, gets_into_tally, gets_tally};
-ghost use Rattle.segclient.specs.Tallies.{into_tally, put_tally, write_tally};
+ghost use Rattle.segclient.specs.Tallies.{into_tally, write_tally};
 
-use crate::put::PutAnswer;
 use segindex::{GetsIntoAnswer, IntoAnswer};
 use segmodel::{DeleteAnswer, GetAnswer, GetsAnswer, WriteAnswer};
 
@@ -93,18 +92,6 @@ impl Tally {
             DeleteAnswer::Deleted => Tally::Deleted,
             DeleteAnswer::NotFound => Tally::NotFound,
             DeleteAnswer::Busy => Tally::Busy,
-        }
-    }
-
-    // How an answer to a put is counted.
-    pub(crate) fn of_put(told: PutAnswer) -> Tally
-        ensures { result ≡ put_tally told }
-    {
-        match told {
-            PutAnswer::Stored => Tally::Stored,
-            PutAnswer::NoRoom => Tally::NoRoom,
-            PutAnswer::BucketFull => Tally::BucketFull,
-            PutAnswer::Busy => Tally::Busy,
         }
     }
 }

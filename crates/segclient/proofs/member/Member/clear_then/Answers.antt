@@ -2,7 +2,7 @@ use Rattle.std.proofs.Common.{not, refl, sym, ap, ◌∙◌, subst}
 use Rattle.std.proofs.lemmas.Bool.{false≢true}
 use Rattle.segbase.specs.Words.{number}
 use Rattle.segindex.specs.Words.{board_of}
-use Rattle.segclient.specs.Clearing.{ClearsSome, IsCleared}
+use Rattle.segclient.specs.Clearing.{IsCleared}
 use Rattle.segclient.specs.Rings.{IsOwnRing}
 use Rattle.segclient.proofs.Steps.{nothing_cleared}
 use Rattle.segclient.proofs.member.Member.clear_then.Goals as goal
@@ -50,10 +50,9 @@ clear_some-requires c =
 pub returns-clause-clears : goal.returns-clause-clears
 returns-clause-clears c =
     let old = c.args.self.now in
-    let b = board_of c.args.index.now in
     let after = c.clear_some in
     record {
-      some = subst (λ policy. ClearsSome b policy.cutoff after.result old.pass after.new.pass) c.policy-policy.ensures after.ensures.clears;
+      some = after.ensures.clears;
       unasked = λ other. absurd (other c.in-Stored.is);
       unqueued = λ none. absurd (false≢true (sym none ∙ c.is_none.ensures ∙ ap not c.if-is_none.false));
       stats = refl;

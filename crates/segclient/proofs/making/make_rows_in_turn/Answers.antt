@@ -6,7 +6,7 @@ use Rattle.segclient.specs.PutParts.{MakesRows, most_at_last, most_in_turn}
 use Rattle.segclient.proofs.Calls.{arranges_plus, arranges_wider}
 use Rattle.segclient.proofs.Left.{one_few, one_range, room_for_fewer}
 use Rattle.segclient.proofs.Rooms.{room_again, room_left, room_whole, room_wider}
-use Rattle.segclient.proofs.spans.make_rows_in_turn.Goals as goal
+use Rattle.segclient.proofs.making.make_rows_in_turn.Goals as goal
 
 pub returns-in_default-clause-room : goal.returns-in_default-clause-room
 returns-in_default-clause-room c =

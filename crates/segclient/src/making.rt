@@ -1,74 +1,23 @@
-//! Items of several rows: which rows one takes, and how room is made for it.
-//! Where each item has one row, all of it is done row by row.
-ghost use Rattle.std.specs.Prelude.{◌≡◌, ◌+◌, ◌<◌, ◌≤◌, ◌^◌, ℕ, is_some, min, true};
+//! How room is made for what is put: for an item that takes any number of rows, by the client's
+//! policy.
+ghost use Rattle.std.specs.Prelude.{◌≡◌, ◌<◌, ◌^◌, ℕ, is_some, min};
 ghost use Rattle.std.specs.Int.{IsInRange};
 ghost use Rattle.segword.specs.Words.{most_span};
 ghost use Rattle.segbase.specs.Words.{number};
 ghost use Rattle.segindex.specs.Words.{board_of, shape_of};
-ghost use Rattle.segstore.specs.Words.{GoesOn, has_room_for, IsQuiet};
+ghost use Rattle.segstore.specs.Words.{GoesOn, IsQuiet};
 ghost use Rattle.segwrite.specs.Words.{or_one, rows_of};
 ghost use Rattle.segclient.specs.Clearing.{IsCleared};
-ghost use Rattle.segclient.specs.PutCalls.{StoresUntil};
 ghost use Rattle.segclient.specs.PutParts.{MakesRows, most_at_last, most_for_room, request_of};
 ghost use Rattle.segclient.specs.Rings.{IsOwnRing};
 
 use crate::effort::Effort;
-use crate::put::Order;
 use crate::queues::was_refilled;
-use crate::room::{
-    clear_next, make_room, make_room_at_last, make_room_in_order, make_row_by, take_free,
-};
-use crate::segments::{Policy, Segments};
+use crate::room::{clear_next, make_room, make_room_in_order, take_free};
+use crate::rows::rows_until;
+use crate::segments::{Order, Policy, Segments};
 use segindex::{Index, Pass};
 use segword::{MOST_SPAN, span_of_bytes};
-
-// Whether so many rows of a segment are left, of which these are used.
-#[inline(always)]
-pub(crate) fn are_left(index: &Index, used: u32, rows: u32) -> bool {
-    if MOST_SPAN == 1 {
-        return used < index.shape().rows;
-    }
-    rows <= index.shape().rows.saturating_sub(used)
-}
-
-// The last row of an item that takes so many from this one on. The queues know an item by it.
-#[inline(always)]
-pub(crate) fn last_of(first: u32, rows: u32) -> u32 {
-    if MOST_SPAN == 1 {
-        return first;
-    }
-    first.saturating_add(rows.saturating_sub(1))
-}
-
-// The row behind an item that takes so many from this one on.
-#[inline(always)]
-pub(crate) fn row_behind(first: u32, rows: u32) -> u32
-    requires fits { first + or_one rows < 2 ^ 32 }
-    ensures { result ≡ first + or_one rows }
-{
-    if MOST_SPAN == 1 {
-        return first + 1;
-    }
-    first + rows
-}
-
-// How many rows of the segment that the pass stores into are left, if it has this deadline.
-fn rows_until(index: &Index, pass: &Pass, deadline: u32) -> u32
-    ensures left { (rows : ℕ) → IsInRange 1 result rows
-        → has_room_for (shape_of index.now) rows pass.now ≡ true }
-    ensures until { 1 ≤ result → StoresUntil deadline pass.now }
-{
-    let Some(segment) = pass.current() else {
-        return 0;
-    };
-    if pass.deadline(segment) != Some(deadline) {
-        return 0;
-    }
-    let Some(used) = pass.used(segment) else {
-        return 0;
-    };
-    index.shape().rows.saturating_sub(used)
-}
 
 // Makes room by the client's policy, at this moment, for an item of any length.
 pub(crate) fn make_room_by(
@@ -90,9 +39,6 @@ pub(crate) fn make_room_by(
         (most_for_room (shape_of index.now)) (or_one (min most_span (shape_of index.now).rows))
         result.0 result.1 pass.old pass.new }
 {
-    if MOST_SPAN == 1 {
-        return make_row_by(index, pass, segments, policy);
-    }
     let rows = (MOST_SPAN as u32).min(index.shape().rows);
     if segments.queues.is_some() && rows <= rows_until(index, pass, policy.deadline) {
         return (true, Effort::none());
@@ -120,11 +66,8 @@ pub(crate) fn make_room_for(
         order.entry.policy.deadline (most_for_room (shape_of index.now))
         (rows_of (request_of order.entry)) result.0 result.1 pass.old pass.new }
 {
-    if MOST_SPAN == 1 {
-        return make_row_by(index, pass, segments, order.policy);
-    }
     let rows = span_of_bytes(order.key, order.value);
-    if index.shape().rows < rows {
+    if MOST_SPAN > 1 && index.shape().rows < rows {
         return (false, Effort::none());
     }
     make_rows(index, pass, segments, order.policy, rows)
@@ -154,9 +97,6 @@ fn make_rows(
     ensures room { MakesRows (board_of index.now) policy.cutoff policy.deadline
         (most_for_room (shape_of index.now)) (or_one rows) result.0 result.1 pass.old pass.new }
 {
-    if MOST_SPAN == 1 {
-        return make_row_by(index, pass, segments, policy);
-    }
     if take_free(index, pass, segments, policy.deadline) {
         let effort = Effort {
             refilled: 1,
@@ -172,7 +112,7 @@ fn make_rows(
     make_rows_in_turn(index, pass, segments, policy, rows)
 }
 
-// Gives up a segment for an item of several rows, by the queues. If none could be given up in their
+// Gives up a segment by the queues, for an item of any number of rows. If none could be given up in their
 // order, each is tried once more, and the current one at last.
 fn make_rows_in_queues(
     index: &Index,
@@ -192,9 +132,6 @@ fn make_rows_in_queues(
         → MakesRows (board_of index.now) policy.cutoff policy.deadline
         (most_at_last (shape_of index.now)) (or_one rows) result.0 result.1 pass.old pass.new }
 {
-    if MOST_SPAN == 1 {
-        return make_room_at_last(index, pass, segments, policy);
-    }
     let Some(queues) = segments.queues.as_mut() else {
         return make_room(index, pass, &mut segments.ring, policy.deadline);
     };
@@ -230,9 +167,6 @@ fn make_rows_in_turn(
     ensures room { MakesRows (board_of index.now) policy.cutoff policy.deadline
         (most_at_last (shape_of index.now)) (or_one rows) result.0 result.1 pass.old pass.new }
 {
-    if MOST_SPAN == 1 {
-        return make_room_at_last(index, pass, segments, policy);
-    }
     let (is_made, first) = make_room(index, pass, &mut segments.ring, policy.deadline);
     let Some(least) = policy.cutoff else {
         return (is_made, first);

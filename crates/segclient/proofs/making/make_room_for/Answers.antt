@@ -4,7 +4,7 @@ use Rattle.segindex.specs.Words.{board_of}
 use Rattle.segwrite.specs.Words.{rows_of}
 use Rattle.segclient.specs.PutParts.{most_for_room, request_of}
 use Rattle.segclient.proofs.Rooms.{room_too_long}
-use Rattle.segclient.proofs.spans.make_room_for.Goals as goal
+use Rattle.segclient.proofs.making.make_room_for.Goals as goal
 
 pub returns-then-shape-rows-clause-room : goal.returns-then-shape-rows-clause-room
 returns-then-shape-rows-clause-room c =
@@ -12,6 +12,7 @@ returns-then-shape-rows-clause-room c =
     let policy = c.args.order.policy in
     let rows = c.span_of_bytes-rows.ensures.rows in
     let long = c.if-shape-rows.true in
+    let several = c.if-this-gt-MOST_SPAN.true in
     let shape = ap (λ s. s.rows) c.shape.ensures in
-    room_too_long b policy.cutoff policy.deadline (most_for_room b.shape) (rows_of (request_of c.args.order)) c.none.result c.args.pass.now (ne_eqb most_span 1 c.if-this-eq-MOST_SPAN.false)
+    room_too_long b policy.cutoff policy.deadline (most_for_room b.shape) (rows_of (request_of c.args.order)) c.none.result c.args.pass.now (ne_eqb most_span 1 (λ one. omega (arith, one, several)))
     (subst (λ n. b.shape.rows < n) rows (omega (arith, long, shape))) c.none.ensures

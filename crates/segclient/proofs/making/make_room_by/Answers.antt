@@ -7,7 +7,7 @@ use Rattle.segclient.specs.PutParts.{most_for_room}
 use Rattle.segclient.proofs.Calls.{none_arranges}
 use Rattle.segclient.proofs.Left.{one_few, room_for_fewer}
 use Rattle.segclient.proofs.Rooms.{room_left}
-use Rattle.segclient.proofs.spans.make_room_by.Goals as goal
+use Rattle.segclient.proofs.making.make_room_by.Goals as goal
 
 pub returns-then-rows-rows_until-clause-room : goal.returns-then-rows-rows_until-clause-room
 returns-then-rows-rows_until-clause-room c =

@@ -7,7 +7,7 @@ use Rattle.segclient.proofs.Calls.{arranges_wider}
 use Rattle.segclient.proofs.Left.{one_range}
 use Rattle.segclient.proofs.Order.{none_more}
 use Rattle.segclient.proofs.Rooms.{room_later, room_whole, room_wider}
-use Rattle.segclient.proofs.spans.make_rows.Goals as goal
+use Rattle.segclient.proofs.making.make_rows.Goals as goal
 
 pub returns-then-take_free-clause-room : goal.returns-then-take_free-clause-room
 returns-then-take_free-clause-room c =

@@ -6,7 +6,7 @@ use Rattle.segclient.specs.PutParts.{most_at_last, most_in_turn}
 use Rattle.segclient.proofs.Calls.{arranges_wider}
 use Rattle.segclient.proofs.Left.{one_range}
 use Rattle.segclient.proofs.Rooms.{room_again, room_whole, room_wider}
-use Rattle.segclient.proofs.spans.make_rows_in_queues.Goals as goal
+use Rattle.segclient.proofs.making.make_rows_in_queues.Goals as goal
 
 pub returns-in_default-clause-room : goal.returns-in_default-clause-room
 returns-in_default-clause-room c = λ rows range.
