@@ -13,10 +13,10 @@ use Rattle.segevict.specs.declared.retention.KeepRowAnswer.{KeepRowAnswer}
 use Rattle.segevict.specs.Words.{EvictsSegment, KeepsItem}
 use Rattle.segevict.proofs.RowsOut.{goes_then}
 use Rattle.segindex.specs.Refilling.{RefillsSegment}
+use Rattle.segtally.specs.Recycling.{evicted_by, refilled_by}
 use Rattle.segclient.specs.declared.effort.Effort.{Effort}
 use Rattle.segclient.specs.PutCalls.{PutCall, sets, evicts, keeps, refills, Plan, came_to, refilled_segments, kept_items, evicted_keys, IsRefused, IsCall, IsInWindow, Makes, room_plan}
 use Rattle.segclient.specs.PutParts.{Arranges, effort_from, IsEffort}
-use Rattle.segclient.specs.Tallies.{evicted_by, refilled_by}
 
 -- ---- some calls and then more
 

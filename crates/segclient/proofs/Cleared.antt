@@ -19,6 +19,7 @@ use Rattle.segindex.specs.Refilling.{RefillsSegment}
 use Rattle.segindex.specs.Sharing.{ReadsKept, ReleasesKept}
 use Rattle.segindex.specs.Words.{board_of, Index, shape_of}
 use Rattle.segindex.proofs.UnnamedRows.{unnamed_stay}
+use Rattle.segtally.specs.Rings.{IsOwnRing}
 use Rattle.segclient.specs.declared.segments.Source.{Source}
 use Rattle.segclient.specs.declared.member.Member.{Member}
 use Rattle.segclient.specs.declared.put.PutAnswer.{PutAnswer}
@@ -27,7 +28,6 @@ use Rattle.segclient.specs.Clearing.{comes_to, IsCleared}
 use Rattle.segclient.specs.Member.{IsMember}
 use Rattle.segclient.specs.PutCalls.{PutCall, sets, evicts, keeps, refills, Plan, Makes}
 use Rattle.segclient.specs.PutParts.{AreSets, busy_sets, Sets, SetsIfTimely}
-use Rattle.segclient.specs.Rings.{IsOwnRing}
 use Rattle.segclient.proofs.Calls.{makes_on}
 use Rattle.segclient.proofs.Items.{way_kept}
 use Rattle.segclient.proofs.Left.{several_then}

@@ -7,7 +7,7 @@ use Rattle.segmodel.specs.declared.answer.GetsAnswer.TheVariants as gets
 use Rattle.segbase.specs.Words.{Board, Pass}
 use Rattle.segread.specs.Words.{CopiesGet, CopiesGets, GetsIntoAnswer, HeldRow, IntoAnswer}
 use Rattle.segindex.specs.Words.{ReadsKept, ReadsKeptInto}
-use Rattle.segclient.specs.Tallies.{get_tally, gets_into_tally, gets_tally, into_tally}
+use Rattle.segtally.specs.Tallies.{get_tally, gets_into_tally, gets_tally, into_tally}
 
 pub tally_told : (answer : GetAnswer) (told : IntoAnswer) (old new : List ℕ) → CopiesGet answer told old new → into_tally told ≡ get_tally answer
 tally_told (get.Found value) told old new x = elim (cases_lt (length old) (length value)) [

@@ -6,6 +6,8 @@ use Rattle.segbase.specs.Words.{number, Pass}
 use Rattle.segindex.specs.Words.{board_of, Index, shape_of}
 use Rattle.segstore.specs.Words.{GoesOn, has_room_for}
 use Rattle.segwrite.specs.Words.{rows_of}
+use Rattle.segtally.specs.Rings.{IsOwnRing}
+use Rattle.segtally.specs.Tallies.{write_tally}
 use Rattle.segclient.specs.declared.member.Member.{Member}
 use Rattle.segclient.specs.declared.put.PutAnswer.{PutAnswer}
 use Rattle.segclient.specs.declared.put.PutAnswer.TheVariants as put
@@ -21,8 +23,7 @@ use Rattle.segclient.specs.PutCalls.{Plan}
 use Rattle.segclient.specs.PutParts.{is_outside, PutsWhole}
 use Rattle.segclient.specs.Puts.{ChoosesFor, PutsFor, SetsFirst}
 use Rattle.segclient.specs.Putting.{IsPutAnswer, most_calls}
-use Rattle.segclient.specs.Rings.{IsOwnRing}
-use Rattle.segclient.specs.Tallies.{put_tally, write_of, write_tally}
+use Rattle.segclient.specs.Tallies.{put_tally, write_of}
 use Rattle.segclient.proofs.Added.{chosen_on, counted_too, put_memo}
 use Rattle.segclient.proofs.Calls.{makes_on}
 use Rattle.segclient.proofs.Cleared.{member_goes, nothing_stays, timely_stays}

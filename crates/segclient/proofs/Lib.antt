@@ -21,7 +21,6 @@ pub mod Steps
 pub mod Together
 pub mod Told
 pub mod Trying
-pub mod Turns
 pub mod Ways
 pub mod Whole
 pub mod Written

@@ -21,12 +21,12 @@ use Rattle.segevict.specs.declared.retention.KeepRowAnswer.TheVariants as kept
 use Rattle.segevict.specs.Words.{AreUnnamed, EvictsItem, HasRow, KeepsItemInto, TellsSpan}
 use Rattle.segindex.specs.Refilling.{RefillsAside}
 use Rattle.segindex.proofs.UnnamedRows.{evicted_is_unnamed, has_row, moved_is_unnamed}
+use Rattle.segtally.specs.Recycling.{evicted_by, refilled_by}
 use Rattle.segclient.specs.declared.segments.Source.{Source}
 use Rattle.segclient.specs.declared.effort.Effort.{Effort}
 use Rattle.segclient.specs.Clearing.{came_to_step, Clears, ClearsAtMost, comes_to, evicts_rest, evicts_row, IsCleared, IsClearing, IsEffortOf, IsStep, keeps_into, looks_at, most_steps_of_turn, refills_aside, Step, TakesRows}
 use Rattle.segclient.specs.PutCalls.{evicted_keys, kept_items, refilled_segments}
 use Rattle.segclient.specs.PutParts.{effort_from}
-use Rattle.segclient.specs.Tallies.{evicted_by, refilled_by}
 use Rattle.segclient.proofs.Calls.{both}
 use Rattle.segclient.proofs.Cleared.{nothing_stays, refilled_in, source_stays, stays_same}
 use Rattle.segclient.proofs.Items.{cleared_behind, last_low, span_kept, way_kept}

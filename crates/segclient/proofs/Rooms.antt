@@ -20,10 +20,10 @@ use Rattle.segevict.specs.Words.{EvictsSegment, IsEvictAnswer, IsKeepRowAnswer, 
 use Rattle.segevict.proofs.Evictions.{but_other}
 use Rattle.segindex.specs.Refilling.{RefillsSegment}
 use Rattle.segindex.proofs.QuietPass.{owned}
+use Rattle.segtally.specs.Recycling.{refilled_by}
 use Rattle.segclient.specs.PutCalls.{evicts, refills, IsRefused, StoresUntil, room_plan}
 use Rattle.segclient.specs.declared.effort.Effort.{Effort}
 use Rattle.segclient.specs.PutParts.{Arranges, effort_from, GivesUp, MakesRoom, MakesRows, StoresAfresh, StoresAsBefore}
-use Rattle.segclient.specs.Tallies.{refilled_by}
 use Rattle.segclient.proofs.Calls.{arranges_as, arranges_then, arranges_wider, both, effort_more, none_arranges, one_more, refill_arranges, refused_then, same_effort}
 use Rattle.segclient.proofs.Left.{if_several, none_for_long, none_for_more, of_several, room_afresh}
 

@@ -7,12 +7,12 @@ use Rattle.segmodel.specs.Words.{owner}
 use Rattle.segbase.specs.Words.{Board, current_of, number, Pass}
 use Rattle.segstore.specs.Words.{GoesOn}
 use Rattle.segpolicy.specs.Words.{Cycle, next_of, turned}
+use Rattle.segtally.specs.Rings.{IsOwnRing}
+use Rattle.segtally.proofs.Turns.{IsAhead, all_ahead, still_ahead, none_ahead}
 use Rattle.segclient.specs.PutCalls.{IsRefused}
 use Rattle.segclient.specs.PutParts.{effort_from, GivesUp, MakesRoom}
-use Rattle.segclient.specs.Rings.{IsOwnRing}
 use Rattle.segclient.proofs.Calls.{arranges_as, arranges_none}
 use Rattle.segclient.proofs.Rooms.{PassesOver, passes_on, gives_up, no_room, refused_current}
-use Rattle.segclient.proofs.Turns.{IsAhead, all_ahead, still_ahead, none_ahead}
 
 -- calls gave up none, and each segment but the current one was refused or is among so many that come next
 abbrev pub Tried : Board → ℕ → Option ℕ → Cycle → ℕ → ℕ → ℕ → Pass → Pass → Type 0

@@ -25,8 +25,9 @@ use Rattle.segevict.specs.Words.{AreEvictions, EvictsItem, EvictsRest, IsEvictAn
 use Rattle.segevict.proofs.RowsOut.{goes_then}
 use Rattle.segindex.specs.Refilling.{RefillsSegmentWith}
 use Rattle.segindex.proofs.QuietPass.{owned}
+use Rattle.segtally.specs.Recycling.{is_eviction, is_move, is_refilling}
 use Rattle.segclient.specs.Clearing.{came_to_step, evicts_row, keeps_into}
-use Rattle.segclient.specs.Entries.{IsOfRoom, IsOnly, is_eviction, is_move, is_refilling, AddsRoom}
+use Rattle.segclient.specs.Entries.{IsOfRoom, IsOnly, AddsRoom}
 use Rattle.segclient.specs.PutCalls.{PutCall, sets, evicts, keeps, refills, Plan, came_to, refilled_segments, kept_items, evicted_keys, IsCall, Makes}
 use Rattle.segclient.specs.PutParts.{AreOpen}
 

@@ -7,13 +7,13 @@ use Rattle.segmodel.specs.Words.{Request, WriteAnswer}
 use Rattle.segbase.specs.Words.{Board, number, Pass}
 use Rattle.segstore.specs.Words.{IsQuiet, memo}
 use Rattle.segwrite.specs.Words.{IsWriteAnswer, Writes}
+use Rattle.segtally.specs.Tallies.{write_tally}
 use Rattle.segclient.specs.declared.member.Member.{Member}
 use Rattle.segclient.specs.Clearing.{Clears}
 use Rattle.segclient.specs.Counting.{cleared_too, counted}
 use Rattle.segclient.specs.Made.{BeginsWrite, EndsWrite, life_of, MakesWrite, WritesIfTimely}
 use Rattle.segclient.specs.PutParts.{is_outside}
 use Rattle.segclient.specs.Puts.{StoredFor}
-use Rattle.segclient.specs.Tallies.{write_tally}
 use Rattle.segclient.proofs.Added.{chosen_on}
 use Rattle.segclient.proofs.Lasting.{write_for}
 use Rattle.segclient.proofs.Setting.{timely_window}

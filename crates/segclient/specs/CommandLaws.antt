@@ -8,12 +8,12 @@ use Rattle.segmodel.specs.declared.request.Request.TheVariants.{Delete}
 use Rattle.segmodel.specs.Words.{Answer, DeleteAnswer, GetAnswer, GetsAnswer}
 use Rattle.segbase.specs.Words.{Board}
 use Rattle.segindex.specs.Words.{AnswersCommand}
+use Rattle.segtally.specs.declared.tally.Tally.{Tally}
+use Rattle.segtally.specs.Tallies.{delete_tally, get_tally, gets_tally}
 use Rattle.segclient.specs.declared.member.Member.{Member}
-use Rattle.segclient.specs.declared.tally.Tally.{Tally}
 use Rattle.segclient.specs.Counting.{counted}
 use Rattle.segclient.specs.Made.{DeletesKey, Gets, GetsVersion}
 use Rattle.segclient.specs.Member.{draw_of, DrawsOnce, Keeps, KeepsDraws, KeepsSettings}
-use Rattle.segclient.specs.Tallies.{delete_tally, get_tally, gets_tally}
 
 -- The client's pass made this command, and had this answer. It is counted so.
 pub record MakesCommand (asked : Command) (told : Answer) (tally : Tally) (b : Board)

@@ -1,8 +1,8 @@
 -- What a client counts: its calls, each by what it came to, and what its puts gave up and kept.
 use Rattle.std.specs.Prelude.{ℕ, ◌+◌, ◌-◌, ◌^◌, min, List, sum_by}
+use Rattle.segtally.specs.declared.tally.Tally.{Tally}
+use Rattle.segtally.specs.declared.tally.Tally.TheVariants as tally
 use Rattle.segclient.specs.declared.stats.Stats.{Stats}
-use Rattle.segclient.specs.declared.tally.Tally.{Tally}
-use Rattle.segclient.specs.declared.tally.Tally.TheVariants as tally
 use Rattle.segclient.specs.Clearing.{came_to_step, Step}
 use Rattle.segclient.specs.PutCalls.{PutCall, came_to, evicted_keys, kept_items, refilled_segments}
 

@@ -1,9 +1,10 @@
 -- Which entries a put adds to the history, in the model's words.
-use Rattle.std.specs.Prelude.{◌≡◌, ◌⊎◌, ℕ, Bool, true, false, List, ◌∷◌, ◌++◌, All, Option, Some, IsSome, count_by}
+use Rattle.std.specs.Prelude.{◌≡◌, ◌⊎◌, ℕ, List, ◌∷◌, ◌++◌, All, Option, Some, IsSome, count_by}
 use Rattle.segword.specs.Words.{Shape}
 use Rattle.segmodel.specs.declared.entry.Entry.TheVariants.{Wrote, Evicted, Moved, Refilled}
 use Rattle.segmodel.specs.declared.request.Reply.TheVariants.{Stored}
 use Rattle.segmodel.specs.Words.{Entry, owner, Request}
+use Rattle.segtally.specs.Recycling.{is_eviction, is_move, is_refilling}
 use Rattle.segclient.specs.declared.put.PutAnswer.{PutAnswer}
 use Rattle.segclient.specs.declared.put.PutAnswer.TheVariants as put
 use Rattle.segclient.specs.declared.effort.Effort.{Effort}
@@ -27,18 +28,6 @@ IsOnly deadline until = until ≡ deadline
 
 abbrev pub IsAny : ℕ → Type 0
 IsAny until = Unit {0}
-
-abbrev pub is_eviction : Entry → Bool
-is_eviction (Evicted pass key segment) = true
-is_eviction _ = false
-
-abbrev pub is_refilling : Entry → Bool
-is_refilling (Refilled pass segment deadline) = true
-is_refilling _ = false
-
-abbrev pub is_move : Entry → Bool
-is_move (Moved pass key from into) = true
-is_move _ = false
 
 -- the pass refilled so many segments of its own up to these deadlines, moved so many items from one to another,
 -- and took so many keys out of them, and did nothing else that adds an entry

@@ -14,6 +14,5 @@ pub mod PutLaws
 pub mod PutParts
 pub mod Putting
 pub mod Puts
-pub mod Rings
 pub mod Tallies
 pub mod Told

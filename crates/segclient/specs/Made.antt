@@ -12,6 +12,7 @@ use Rattle.segread.specs.Words.{RowAnswer, VersionInto}
 use Rattle.segwrite.specs.Words.{Deletes, Writes}
 use Rattle.segindex.specs.Words.{LearnsNote, MakesNote, MeetsPass, Note, ReturnsStats}
 use Rattle.segindex.specs.declared.table_stats.IndexStats.{IndexStats}
+use Rattle.segtally.specs.Tallies.{delete_tally, get_tally, gets_tally, write_tally}
 use Rattle.segclient.specs.declared.member.Member.{Member}
 use Rattle.segclient.specs.declared.effort.Effort.{Effort}
 use Rattle.segclient.specs.Clearing.{Clears, ClearsSome, most_steps_of_put, Step}
@@ -24,7 +25,7 @@ use Rattle.segclient.specs.PutParts.{is_outside, PutsWhole, with_effort}
 use Rattle.segclient.specs.Puts.{ChoosesFor, StoredFor}
 use Rattle.segclient.specs.Member.{draw_of, DrawsOnce, Keeps, KeepsDraws, KeepsSettings}
 use Rattle.segclient.specs.Putting.{most_calls}
-use Rattle.segclient.specs.Tallies.{delete_tally, get_tally, gets_tally, write_of, write_tally}
+use Rattle.segclient.specs.Tallies.{write_of}
 
 -- it counts nothing, draws nothing, and keeps its settings and its segments
 pub record KeepsCounts (old new : Member) : Type 0 where

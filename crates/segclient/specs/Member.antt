@@ -4,10 +4,10 @@ use Rattle.segword.specs.Words.{Shape}
 use Rattle.segbase.specs.Words.{number, Pass}
 use Rattle.segindex.specs.Words.{board_of, Index, shape_of}
 use Rattle.segstore.specs.Words.{IsQuiet, IsQuiet-prop}
+use Rattle.segtally.specs.Rings.{first_ring, IsOwnRing, IsOwnRing-prop}
 use Rattle.segclient.specs.declared.member.Member.{Member}
 use Rattle.segclient.specs.Clearing.{IsCleared, IsCleared-prop}
 use Rattle.segclient.specs.Counting.{no_stats}
-use Rattle.segclient.specs.Rings.{first_ring, IsOwnRing, IsOwnRing-prop}
 
 -- Its pass is between two calls of this index, and its segments are the pass's own.
 -- No item names a row of the one that it clears, up to where the clearing is.

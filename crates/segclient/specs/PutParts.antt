@@ -11,6 +11,7 @@ use Rattle.segstore.specs.Words.{has_room_for, is_below}
 use Rattle.segevict.specs.Rows.{IfSeveral}
 use Rattle.segevict.specs.Words.{EvictsSegment}
 use Rattle.segindex.specs.Refilling.{RefillsSegment}
+use Rattle.segtally.specs.Recycling.{evicted_by}
 use Rattle.segclient.specs.declared.segments.Order.{Order}
 use Rattle.segclient.specs.declared.put.PutAnswer.{PutAnswer}
 use Rattle.segclient.specs.declared.put.PutAnswer.TheVariants as put
@@ -20,7 +21,6 @@ use Rattle.segclient.specs.declared.stats.Stats.{Stats}
 use Rattle.segclient.specs.Counting.{with_more}
 use Rattle.segclient.specs.PutCalls.{PutCall, sets, evicts, Plan, came_to, refilled_segments, kept_items, evicted_keys, IsRefused, Makes, room_plan, rows_asked, StoresUntil}
 use Rattle.segclient.specs.Putting.{IsPutAnswer, SetsAtMost16, SetsUntilFull}
-use Rattle.segclient.specs.Tallies.{evicted_by}
 
 -- ---- what calls came to
 

@@ -4,13 +4,13 @@ ghost use Rattle.segbase.specs.Words.{deadline_of, number};
 ghost use Rattle.segindex.specs.Words.{board_of, shape_of};
 ghost use Rattle.segstore.specs.Words.{GoesOn, IsQuiet};
 ghost use Rattle.segwrite.specs.Words.{or_one};
+ghost use Rattle.segtally.specs.Rings.{IsOwnRing};
 ghost use Rattle.segclient.specs.Clearing.{ClearsAtMost, ClearsRow, ClearsSome, IsCleared};
 ghost use Rattle.segclient.specs.Clearing.{AreDone, came_to_step, evicts_row, IsClearing};
 ghost use Rattle.segclient.specs.Clearing.{ClearsTurn, TakesRows};
 ghost use Rattle.segclient.specs.PutCalls.{evicted_keys};
-ghost use Rattle.segclient.specs.Rings.{IsOwnRing};
 
-use crate::effort::{Effort, evicted_by, moved_by, refilled_by};
+use crate::effort::{Effort, moved_by};
 use crate::queues::{
     current_for, next_expired, next_source, note_done, note_moved, oldest, place_of, target_of,
     was_given_up, was_refilled,
@@ -19,6 +19,7 @@ use crate::rows::{last_of, row_behind, rows_left};
 use crate::segments::{Segments, Source};
 use segindex::{EvictRowAnswer, Index, KeepRowAnswer, Pass, RowRef};
 use segqueues::{Queue, Queues};
+use segtally::{evicted_by, refilled_by};
 use segword::MOST_SPAN;
 
 // How a segment is cleared: the least frequency of what is kept, the moment, how many turns are

@@ -2,10 +2,8 @@
 ghost use Rattle.std.specs.Prelude.{◌≡◌, ◌+◌, ◌<◌, ◌≤◌, ◌^◌, ℕ};
 ghost use Rattle.segclient.specs.Clearing.{came_to_step, keeps_into};
 ghost use Rattle.segclient.specs.PutCalls.{came_to, keeps, kept_items};
-ghost use Rattle.segclient.specs.Tallies.{evicted_by, refilled_by};
 
 use segindex::KeepRowAnswer;
-use segmodel::{EvictAnswer, RefillAnswer};
 
 // What calls of a put came to: how many segments were refilled, how many items kept,
 // and how many keys evicted.
@@ -53,27 +51,6 @@ impl Effort {
             kept: self.kept + more.kept,
             keys: self.keys + more.keys,
         }
-    }
-}
-
-/// How many keys an evict took out that has this answer.
-pub fn evicted_by(answer: EvictAnswer) -> u32
-    ensures { result ≡ evicted_by answer }
-{
-    match answer {
-        EvictAnswer::Evicted(keys) | EvictAnswer::Busy(keys) => keys,
-        EvictAnswer::NotYours => 0,
-    }
-}
-
-/// How many segments a refill refilled that has this answer.
-pub fn refilled_by(answer: RefillAnswer) -> u32
-    ensures value { result ≡ refilled_by answer }
-    ensures most { result ≤ 1 }
-{
-    match answer {
-        RefillAnswer::Refilled => 1,
-        RefillAnswer::NotYours | RefillAnswer::NotEvicted | RefillAnswer::Held => 0,
     }
 }
 

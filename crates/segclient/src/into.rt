@@ -1,8 +1,8 @@
 //! Values that go straight into the bytes of a caller.
 use crate::client::Client;
 use crate::member::{Member, drawn};
-use crate::tally::Tally;
 use segindex::{GetsIntoAnswer, Hold, Index, IntoAnswer, Share};
+use segtally::Tally;
 use segword::Key;
 
 impl Member {

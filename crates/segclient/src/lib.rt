@@ -18,26 +18,22 @@ mod member;
 mod note;
 mod put;
 mod queues;
-mod ring;
 mod room;
 mod rows;
 mod segments;
 mod stats;
-mod tally;
 mod until;
 
 pub use all::{clients, into_passes, keep_back};
 pub use client::Client;
-pub use effort::{evicted_by, refilled_by};
 pub use laws::{reads_and_deletes_are_commands, what_a_put_comes_to};
 pub use member::Member;
 pub use note::{what_a_put_adds, what_is_put_stands, what_room_is_made_for};
 pub use put::PutAnswer;
-pub use ring::own_ring;
 pub use segindex::{
     DeleteAnswer, GetAnswer, GetsAnswer, GetsIntoAnswer, Hold, HoldAnswer, Index, IndexStats,
     IntoAnswer, Key, MakeFault, Note, OutOfMemory, Pass, RowAnswer, Shape, ShapeFault, Share,
     Value, ValueBytes, WriteAnswer, hold_stays,
 };
+pub use segtally::{Tally, evicted_by, own_ring, refilled_by};
 pub use stats::Stats;
-pub use tally::Tally;

@@ -7,9 +7,9 @@ ghost use Rattle.segbase.specs.Words.{number};
 ghost use Rattle.segindex.specs.Words.{board_of, shape_of};
 ghost use Rattle.segstore.specs.Words.{GoesOn, IsQuiet};
 ghost use Rattle.segwrite.specs.Words.{or_one, rows_of};
+ghost use Rattle.segtally.specs.Rings.{IsOwnRing};
 ghost use Rattle.segclient.specs.Clearing.{IsCleared};
 ghost use Rattle.segclient.specs.PutParts.{MakesRows, most_at_last, most_for_room, request_of};
-ghost use Rattle.segclient.specs.Rings.{IsOwnRing};
 
 use crate::effort::Effort;
 use crate::queues::was_refilled;

@@ -11,12 +11,11 @@ use crate::lives::{FINE_PARTS, PARTS, deadline_by, window_for};
 use crate::making::make_room_by;
 use crate::put::PutAnswer;
 use crate::queues::{queues_of, tell_deleted, tell_stored};
-use crate::ring::own_ring;
 use crate::segments::{Policy, Segments, Window};
 use crate::stats::Stats;
-use crate::tally::Tally;
 use segindex::{Index, IndexStats, Pass, RowRef};
 use segmodel::{DeleteAnswer, GetAnswer, GetsAnswer, WriteAnswer};
+use segtally::{Tally, own_ring};
 use segword::{Key, Value, ValueBytes, hash};
 use std::alloc::{AllocError, Global};
 

@@ -4,12 +4,12 @@ ghost use Rattle.segbase.specs.Words.{number, Pass as BasePass};
 ghost use Rattle.segindex.specs.Words.{board_of, shape_of};
 ghost use Rattle.segstore.specs.Words.{GoesOn, IsQuiet};
 ghost use Rattle.segwrite.specs.Words.{IsSetAnswer, Writes};
+ghost use Rattle.segtally.specs.Rings.{IsOwnRing};
 ghost use Rattle.segclient.specs.Clearing.{IsCleared};
 ghost use Rattle.segclient.specs.PutCalls.{IsInWindow};
 ghost use Rattle.segclient.specs.PutParts.{is_outside, MakesPut, most_for_put, most_for_set};
 ghost use Rattle.segclient.specs.PutParts.{plan_of, PutsAtLast, request_of, Sets, SetsIfTimely};
 ghost use Rattle.segclient.specs.Puts.{SetsFirst};
-ghost use Rattle.segclient.specs.Rings.{IsOwnRing};
 ghost use Rattle.segclient.specs.Tallies.{write_of};
 
 use crate::choosing::{choose, is_outside};

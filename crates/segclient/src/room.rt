@@ -5,13 +5,13 @@ ghost use Rattle.segmodel.specs.Words.{owner};
 ghost use Rattle.segbase.specs.Words.{current_of, number};
 ghost use Rattle.segstore.specs.Words.{GoesOn, IsQuiet};
 ghost use Rattle.segindex.specs.Words.{board_of, shape_of};
+ghost use Rattle.segtally.specs.Rings.{IsOwnRing};
 ghost use Rattle.segclient.specs.Clearing.{IsCleared};
 ghost use Rattle.segclient.specs.PutParts.{Arranges, effort_from, Empties, GivesUp, MakesRoom};
 ghost use Rattle.segclient.specs.PutParts.{most_in_turn};
 ghost use Rattle.segclient.specs.PutParts.{StoresAfresh, StoresAsBefore, TakesFree};
-ghost use Rattle.segclient.specs.Rings.{IsOwnRing};
 
-use crate::effort::{Effort, evicted_by, moved_by};
+use crate::effort::{Effort, moved_by};
 use crate::queues::{
     first_to_go, oldest as oldest_in, oldest_in_use, round, was_given_up, was_refilled,
 };
@@ -20,6 +20,7 @@ use segindex::{Index, KeepRowAnswer, Pass};
 use segmodel::{EvictAnswer, RefillAnswer, SegState};
 use segpolicy::Ring;
 use segqueues::{Queue, Queues};
+use segtally::evicted_by;
 
 // Evicts a segment of the pass's own, and refills it. One that isn't in use has no key to evict.
 // It says whether that came about, and how many keys were evicted.

@@ -4,7 +4,7 @@ ghost use Rattle.segclient.specs.Counting.{no_stats, with_more, counted};
 ghost use Rattle.segclient.specs.PutParts.{with_effort};
 
 use crate::effort::Effort;
-use crate::tally::Tally;
+use segtally::Tally;
 
 /// How often each outcome occurred in a client's calls, and what its calls recycled and kept.
 /// Each number stays at its largest once it is there.

@@ -40,9 +40,9 @@ use Rattle.segindex.proofs.QuietPass.{owned}
 use Rattle.segindex.proofs.Since.{full_since, get_since, gets_since}
 use Rattle.segpolicy.specs.declared.load.Kind.TheVariants as kind
 use Rattle.segpolicy.specs.Words.{Cycle, Kind, Load, next_of}
-use Rattle.segclient.specs.declared.tally.Tally.TheVariants as tally
-use Rattle.segclient.specs.Rings.{IsOwnRing}
-use Rattle.segclient.specs.Tallies.{delete_tally, write_tally}
+use Rattle.segtally.specs.declared.tally.Tally.TheVariants as tally
+use Rattle.segtally.specs.Rings.{IsOwnRing}
+use Rattle.segtally.specs.Tallies.{delete_tally, write_tally}
 use Rattle.segload.specs.Making.{ClientState, load_deadline, load_moment, turned_on, AtMoment, ReadsWhen, IsReadAs, IsVersionReadAs, IsFullFor, IsWrittenAs, Empties, IsStoredAs, CameTo}
 use Rattle.segload.specs.Calls.{asked_by, tally_of, course_after}
 use Rattle.segload.proofs.Lists.{both_begin}

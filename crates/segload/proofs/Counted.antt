@@ -9,8 +9,8 @@ use Rattle.segword.specs.Words.{Shape}
 use Rattle.segevict.specs.Words.{AreEvictions}
 use Rattle.segpolicy.specs.declared.load.Kind.TheVariants as kind
 use Rattle.segpolicy.specs.Words.{Draws, Kind, Load, next_load, next_of}
-use Rattle.segclient.specs.declared.tally.Tally.{Tally}
-use Rattle.segclient.specs.declared.tally.Tally.TheVariants as tally
+use Rattle.segtally.specs.declared.tally.Tally.{Tally}
+use Rattle.segtally.specs.declared.tally.Tally.TheVariants as tally
 use Rattle.segload.specs.declared.totals.Tallies.{Tallies}
 use Rattle.segload.specs.Counting.{no_tallies, count_of_reply, with_one_more, tells, replies, CountsReplies}
 use Rattle.segload.specs.Making.{ClientState, load_deadline, load_moment, IsReadAs, IsVersionReadAs, IsWrittenAs, Empties, IsStoredAs, CameTo, draws_after, Makes}

@@ -12,15 +12,15 @@ use Rattle.segstore.specs.Words.{GoesOn, IsQuiet}
 use Rattle.segindex.specs.Words.{AnswersCommand}
 use Rattle.segpolicy.specs.declared.load.Kind.TheVariants as kind
 use Rattle.segpolicy.specs.Words.{after_load, Draws, Kind, Load, next_load, next_of}
-use Rattle.segclient.specs.declared.tally.Tally.{Tally}
-use Rattle.segclient.specs.declared.tally.Tally.TheVariants as tally
+use Rattle.segtally.specs.declared.tally.Tally.{Tally}
+use Rattle.segtally.specs.declared.tally.Tally.TheVariants as tally
+use Rattle.segtally.specs.Rings.{IsOwnRing}
 use Rattle.segload.specs.declared.totals.Tallies.{Tallies}
 use Rattle.segload.specs.Words.{Worker}
 use Rattle.segload.specs.Counting.{with_one_more, all_of, IsFew, RecyclesFew}
 use Rattle.segload.specs.Making.{ClientState, load_deadline, load_moment, AtMoment, IsReadAs, IsVersionReadAs, IsFullFor, IsWrittenAs, IsStoredAs, CameTo, ComesTo, draws_after, Makes, start_of}
 use Rattle.segload.specs.Calls.{MakesCalls, ServesLoad}
 use Rattle.segload.specs.Working.{course_of, HasCounted, IsAtWork}
-use Rattle.segclient.specs.Rings.{IsOwnRing}
 use Rattle.segload.proofs.Answered.{HoldsNothing}
 use Rattle.segload.proofs.Served.{serves_came, serves_own}
 use Rattle.segload.proofs.Short.{next_short}

@@ -17,7 +17,7 @@ use Rattle.segsolo.specs.Alone.{IsAlone, IsSameButFrequencies, state_at, with_fr
 use Rattle.segsolo.specs.Served.{AnyDrawIsServed}
 use Rattle.segsolo.proofs.AlonePass.{same_seen}
 use Rattle.segsolo.proofs.AloneStarts.{starts_alone}
-use Rattle.segclient.specs.declared.tally.Tally.{Tally}
+use Rattle.segtally.specs.declared.tally.Tally.{Tally}
 use Rattle.segload.specs.declared.totals.Tallies.{Tallies}
 use Rattle.segload.specs.Making.{ClientState, draws_after, load_deadline, start_of}
 use Rattle.segload.specs.Calls.{asked_by, command_of, MakesCalls, MakesRoom, ServedAtOnce, ServedInNewRoom, ServedNoRoom, ServesLoad, TriesForRoom}

@@ -17,9 +17,8 @@ use Rattle.segevict.specs.Words.{AreEvictions, IsEvictAnswer, TakesOut}
 use Rattle.segindex.specs.Words.{AnswersCommand, IsRefillAnswer}
 use Rattle.segpolicy.specs.declared.load.Kind.TheVariants as kind
 use Rattle.segpolicy.specs.Words.{Kind, Load}
+use Rattle.segtally.specs.Recycling.{is_eviction, is_refilling, evicted_by, refilled_by}
 use Rattle.segload.specs.declared.totals.Recycled.{Recycled}
-use Rattle.segclient.specs.Entries.{is_eviction, is_refilling}
-use Rattle.segclient.specs.Tallies.{evicted_by, refilled_by}
 use Rattle.segload.specs.Counting.{CountsRecycled, RecyclesFew}
 use Rattle.segload.specs.Making.{load_moment}
 use Rattle.segload.specs.Calls.{asked_by}

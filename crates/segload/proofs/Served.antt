@@ -12,10 +12,10 @@ use Rattle.segevict.proofs.RowsOut.{goes_then}
 use Rattle.segindex.specs.Words.{AnswersCommand}
 use Rattle.segpolicy.specs.declared.load.Kind.TheVariants as kind
 use Rattle.segpolicy.specs.Words.{Cycle, Kind, Load, next_of}
-use Rattle.segclient.specs.declared.tally.Tally.{Tally}
-use Rattle.segclient.specs.declared.tally.Tally.TheVariants as tally
-use Rattle.segclient.specs.Rings.{IsOwnRing}
-use Rattle.segclient.proofs.Turns.{own_turned}
+use Rattle.segtally.specs.declared.tally.Tally.{Tally}
+use Rattle.segtally.specs.declared.tally.Tally.TheVariants as tally
+use Rattle.segtally.specs.Rings.{IsOwnRing}
+use Rattle.segtally.proofs.Turns.{own_turned}
 use Rattle.segload.specs.Making.{ClientState, CameTo, ComesTo, turned_on}
 use Rattle.segload.specs.Calls.{asked_by, course_after, tally_of, MakesRoom, IsNotEvicted, IsNotRefilled, TriesForRoom, ServedAtOnce, ServedInNewRoom, ServedNoRoom, ServesLoad}
 use Rattle.segload.proofs.Answered.{came, came_again, came_nowhere, command_free, empties, evict_free, refill_free, is_refilled, not_evicted, room_made, HoldsNothing, GivesUpSegment}

@@ -15,9 +15,9 @@ use Rattle.segmodel.specs.declared.answer.EvictAnswer.TheVariants as evict
 use Rattle.segmodel.specs.declared.answer.RefillAnswer.TheVariants as refill
 use Rattle.segpolicy.specs.declared.load.Kind.TheVariants as kind
 use Rattle.segpolicy.specs.Words.{Draws, Kind, Load, next_load, next_of}
-use Rattle.segclient.specs.declared.tally.Tally.{Tally}
-use Rattle.segclient.specs.declared.tally.Tally.TheVariants as tally
-use Rattle.segclient.specs.Tallies.{delete_tally, get_tally, gets_tally, write_tally}
+use Rattle.segtally.specs.declared.tally.Tally.{Tally}
+use Rattle.segtally.specs.declared.tally.Tally.TheVariants as tally
+use Rattle.segtally.specs.Tallies.{delete_tally, get_tally, gets_tally, write_tally}
 use Rattle.segload.specs.declared.totals.Tallies.{Tallies}
 use Rattle.segload.specs.Counting.{no_tallies, with_one_more}
 use Rattle.segload.specs.Making.{ClientState, draws_after, load_deadline, load_moment, turned_on}

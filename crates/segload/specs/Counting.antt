@@ -3,9 +3,9 @@ use Rattle.std.specs.Prelude.{◌≡◌, ℕ, ◌+◌, ◌-◌, ◌*◌, ◌^◌
 use Rattle.segmodel.specs.Words.{Entry, Reply}
 use Rattle.segmodel.specs.declared.request.Reply.TheVariants as reply
 use Rattle.segmodel.specs.declared.entry.Entry.TheVariants.{Wrote}
-use Rattle.segclient.specs.declared.tally.Tally.{Tally}
-use Rattle.segclient.specs.declared.tally.Tally.TheVariants as tally
-use Rattle.segclient.specs.Entries.{is_eviction, is_refilling}
+use Rattle.segtally.specs.declared.tally.Tally.{Tally}
+use Rattle.segtally.specs.declared.tally.Tally.TheVariants as tally
+use Rattle.segtally.specs.Recycling.{is_eviction, is_refilling}
 use Rattle.segload.specs.declared.totals.Recycled.{Recycled}
 use Rattle.segload.specs.declared.totals.Tallies.{Tallies}
 

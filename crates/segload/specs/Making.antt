@@ -11,9 +11,9 @@ use Rattle.segmodel.specs.Words.{mine, reads, reads_version, Request, standing}
 use Rattle.segevict.specs.Words.{AreEvictions}
 use Rattle.segpolicy.specs.declared.load.Kind.TheVariants as kind
 use Rattle.segpolicy.specs.Words.{after_load, Cycle, Draws, Kind, Load, next_load, next_of, turned}
-use Rattle.segclient.specs.declared.tally.Tally.{Tally}
-use Rattle.segclient.specs.declared.tally.Tally.TheVariants as tally
-use Rattle.segclient.specs.Rings.{first_ring}
+use Rattle.segtally.specs.declared.tally.Tally.{Tally}
+use Rattle.segtally.specs.declared.tally.Tally.TheVariants as tally
+use Rattle.segtally.specs.Rings.{first_ring}
 use Rattle.segload.specs.declared.totals.Tallies.{Tallies}
 use Rattle.segload.specs.Counting.{no_tallies, with_one_more}
 

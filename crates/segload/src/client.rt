@@ -4,10 +4,10 @@ ghost use Rattle.std.specs.Prelude.{◌≡◌, ◌+◌, ◌≤◌, ◌<◌, ◌^
 ghost use Rattle.segload.specs.Calls.{command_of, tally_of, IsOfLoad};
 
 use crate::totals::Recycled;
-use segclient::{Tally, evicted_by, refilled_by};
 use segindex::{Index, Pass};
 use segmodel::{Answer, Command, EvictAnswer, GetsAnswer, RefillAnswer, Request, WriteAnswer};
 use segpolicy::{Kind, Load, Ring};
+use segtally::{Tally, evicted_by, refilled_by};
 
 // The deadline of each segment that a load refills: the last moment of all.
 const DEADLINE: u32 = u32::MAX;

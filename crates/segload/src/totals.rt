@@ -3,8 +3,8 @@ ghost use Rattle.std.specs.Prelude.{◌≡◌, ◌+◌, ◌^◌, ◌<◌, sum_by
 ghost use Rattle.segload.specs.declared.totals.PassTotals.{PassTotals};
 ghost use Rattle.segload.specs.Counting.{no_tallies, none_recycled, with_one_more, all_of};
 
-use segclient::Tally;
 use segindex::IndexStats;
+use segtally::Tally;
 
 /// How many commands of a pass are counted as each tally.
 #[derive(Clone, Copy, Debug, PartialEq, Eq)]

@@ -6,9 +6,9 @@ use crate::client::Caller;
 use crate::gate::Gate;
 use crate::plan::LoadPlan;
 use crate::totals::{PassTotals, Tallies};
-use segclient::own_ring;
 use segindex::{Index, Pass};
 use segpolicy::Workload;
+use segtally::own_ring;
 
 /// A pass with its commands, and how they were counted so far.
 #[derive(Drop)]

@@ -3,10 +3,10 @@ use Rattle.segmodel.specs.Words.{owner}
 use Rattle.segbase.specs.Words.{current_of, number}
 use Rattle.segindex.specs.Words.{board_of}
 use Rattle.segevict.proofs.RowsOut.{goes_then}
+use Rattle.segtally.proofs.Turns.{own_in_ring}
 use Rattle.segclient.specs.PutParts.{effort_from}
 use Rattle.segclient.proofs.Calls.{arranges_as, arranges_then, evict_arranges, none_arranges}
 use Rattle.segclient.proofs.Rooms.{evict_until, until_then}
-use Rattle.segclient.proofs.Turns.{own_in_ring}
 use Rattle.segclient.proofs.room.clear_next.Goals as goal
 
 pub returns-then-eq-clause-clears : goal.returns-then-eq-clause-clears

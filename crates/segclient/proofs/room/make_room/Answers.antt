@@ -7,11 +7,11 @@ use Rattle.segstore.specs.Words.{GoesOn}
 use Rattle.segstore.proofs.Idling.{goes_same}
 use Rattle.segevict.proofs.RowsOut.{goes_then}
 use Rattle.segpolicy.specs.Words.{turned}
+use Rattle.segtally.specs.Rings.{IsOwnRing}
+use Rattle.segtally.proofs.Turns.{own_in_ring, own_turned}
 use Rattle.segclient.specs.PutParts.{GivesUp}
-use Rattle.segclient.specs.Rings.{IsOwnRing}
 use Rattle.segclient.proofs.Rooms.{current_own, given_afresh, gives_up, refused_apart}
 use Rattle.segclient.proofs.Trying.{Tried, none_left, none_tried, skipped, refused_next, at_last}
-use Rattle.segclient.proofs.Turns.{own_in_ring, own_turned}
 use Rattle.segclient.proofs.room.make_room.Goals as goal
 use Rattle.segclient.proofs.room.make_room.Goals.{then-ne+else-is_refilled, else-ne}
 

@@ -2,7 +2,7 @@ use Rattle.std.proofs.Common.{◌≡◌, ◌-◌, ◌*◌, ◌≤◌}
 use Rattle.segbase.specs.Words.{current_of, number}
 use Rattle.segindex.specs.Words.{board_of, shape_of}
 use Rattle.segstore.specs.Words.{GoesOn}
-use Rattle.segclient.specs.Rings.{IsOwnRing}
+use Rattle.segtally.specs.Rings.{IsOwnRing}
 use Rattle.segclient.proofs.Trying.{Tried}
 use Rattle.segclient.proofs.room.make_room.Given as goal
 

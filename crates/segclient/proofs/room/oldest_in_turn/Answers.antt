@@ -4,8 +4,8 @@ use Rattle.std.proofs.lemmas.Option.{same_Some}
 use Rattle.segmodel.specs.Words.{owner}
 use Rattle.segbase.specs.Words.{number}
 use Rattle.segindex.specs.Words.{board_of}
-use Rattle.segclient.specs.Rings.{IsOwnRing}
-use Rattle.segclient.proofs.Turns.{IsAhead, own_in_ring, own_turned, still_ahead}
+use Rattle.segtally.specs.Rings.{IsOwnRing}
+use Rattle.segtally.proofs.Turns.{IsAhead, own_in_ring, own_turned, still_ahead}
 use Rattle.segclient.proofs.room.oldest_in_turn.Goals as goal
 use Rattle.segclient.proofs.room.oldest_in_turn.Goals.{then-not-is_found+then-ne, else-not-is_found, else-not-is_found-via-then-not-is_found+else-ne, else-not-is_found-via-else-not-is_found}
 

@@ -2,8 +2,8 @@ use Rattle.std.proofs.Common.{◌≡◌, ◌≢◌, ◌⊎◌, ℕ, ◌-◌, tru
 use Rattle.segmodel.specs.Words.{owner}
 use Rattle.segbase.specs.Words.{number}
 use Rattle.segindex.specs.Words.{shape_of}
-use Rattle.segclient.specs.Rings.{IsOwnRing}
-use Rattle.segclient.proofs.Turns.{IsAhead}
+use Rattle.segtally.specs.Rings.{IsOwnRing}
+use Rattle.segtally.proofs.Turns.{IsAhead}
 use Rattle.segclient.proofs.room.oldest_in_turn.Given as goal
 
 abbrev pub invariant-loop-tried : goal.invariant-loop-tried

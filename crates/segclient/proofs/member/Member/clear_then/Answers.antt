@@ -2,8 +2,8 @@ use Rattle.std.proofs.Common.{not, refl, sym, ap, ◌∙◌, subst}
 use Rattle.std.proofs.lemmas.Bool.{false≢true}
 use Rattle.segbase.specs.Words.{number}
 use Rattle.segindex.specs.Words.{board_of}
+use Rattle.segtally.specs.Rings.{IsOwnRing}
 use Rattle.segclient.specs.Clearing.{IsCleared}
-use Rattle.segclient.specs.Rings.{IsOwnRing}
 use Rattle.segclient.proofs.Steps.{nothing_cleared}
 use Rattle.segclient.proofs.member.Member.clear_then.Goals as goal
 

@@ -1,9 +1,9 @@
 use Rattle.std.proofs.Common.{refl, sym, ap, ◌∙◌, subst}
 use Rattle.segbase.specs.Words.{number}
 use Rattle.segindex.specs.Words.{board_of}
+use Rattle.segtally.specs.Rings.{IsOwnRing}
 use Rattle.segclient.specs.Clearing.{IsCleared}
 use Rattle.segclient.specs.Counting.{counted}
-use Rattle.segclient.specs.Rings.{IsOwnRing}
 use Rattle.segclient.proofs.Cleared.{delete_stays, member_goes}
 use Rattle.segclient.proofs.member.Member.delete.Goals as goal
 

@@ -1,8 +1,8 @@
 use Rattle.std.proofs.Common.{ℕ, ◌/◌, refl, ap, subst, ◌∙◌}
 use Rattle.segindex.specs.Words.{board_of}
 use Rattle.segread.specs.Words.{ReadsVersion}
+use Rattle.segtally.specs.declared.tally.Tally.{Tally}
 use Rattle.segclient.specs.Counting.{counted}
-use Rattle.segclient.specs.declared.tally.Tally.{Tally}
 use Rattle.segclient.proofs.Cleared.{member_goes, nothing_stays}
 use Rattle.segclient.proofs.Copied.{gets_tally_told}
 use Rattle.segclient.proofs.member.Member.gets_into.Goals as goal

@@ -1,7 +1,7 @@
 //! How an answer is counted, by clients and by loads.
 ghost use Rattle.std.specs.Prelude.{◌≡◌};
-ghost use Rattle.segclient.specs.Tallies.{delete_tally, get_tally, gets_into_tally, gets_tally};
-ghost use Rattle.segclient.specs.Tallies.{into_tally, write_tally};
+ghost use Rattle.segtally.specs.Tallies.{delete_tally, get_tally, gets_into_tally, gets_tally};
+ghost use Rattle.segtally.specs.Tallies.{into_tally, write_tally};
 
 use segindex::{GetsIntoAnswer, IntoAnswer};
 use segmodel::{DeleteAnswer, GetAnswer, GetsAnswer, WriteAnswer};

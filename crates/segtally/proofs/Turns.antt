@@ -6,7 +6,7 @@ use Rattle.segword.specs.Words.{Shape}
 use Rattle.segmodel.specs.Words.{owner}
 use Rattle.segbase.specs.Words.{Board}
 use Rattle.segpolicy.specs.Words.{Cycle, next_of, turned}
-use Rattle.segclient.specs.Rings.{IsOwnRing}
+use Rattle.segtally.specs.Rings.{IsOwnRing}
 
 -- the segments of a pass, from its first one on
 pub own_at : (b : Board) (pass ahead : ℕ) → ahead < b.shape.segments_each → owner b.shape (pass * b.shape.segments_each + ahead) ≡ pass

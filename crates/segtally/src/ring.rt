@@ -3,7 +3,7 @@ ghost use Rattle.std.specs.Prelude.{◌≡◌};
 ghost use Rattle.segbase.specs.Words.{number};
 ghost use Rattle.segindex.specs.Words.{board_of, shape_of};
 ghost use Rattle.segstore.specs.Words.{IsQuiet};
-ghost use Rattle.segclient.specs.Rings.{first_ring, IsOwnRing};
+ghost use Rattle.segtally.specs.Rings.{first_ring, IsOwnRing};
 
 use segindex::{Index, Pass};
 use segpolicy::Ring;

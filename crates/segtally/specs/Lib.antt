@@ -1,0 +1,3 @@
+pub mod Recycling
+pub mod Rings
+pub mod Tallies
