@@ -4,8 +4,8 @@ use Rattle.std.specs.Prelude.{Option, Some, None, slice_get, Bool, true, false}
 use Rattle.std.specs.List.{AllZip}
 use Rattle.segcache.specs.declared.cache.Cache.{Cache}
 use Rattle.segcache.specs.declared.cursor.Cursor.{Cursor}
-use Rattle.segcache.specs.declared.cursor.Turn.{Turn}
-use Rattle.segcache.specs.declared.cursor.Turn.TheVariants as turn
+use Rattle.segcache.specs.declared.cursor.ShardClose.{ShardClose}
+use Rattle.segcache.specs.declared.cursor.ShardClose.TheVariants as turn
 use Rattle.segcache.specs.declared.home.Home.{Home}
 use Rattle.segcache.specs.declared.kept.Kept.{Kept}
 use Rattle.segcache.specs.declared.kept.Kept.TheVariants as kept
@@ -76,7 +76,7 @@ pub record IsDone (old new : Cursor) : Type 0 where
   pub pairs : new.pairs ≡ old.pairs
   pub next : new.next ≡ old.next
 
-abbrev pub TurnsAs : Cursor → Cursor → Turn → Type 0
+abbrev pub TurnsAs : Cursor → Cursor → ShardClose → Type 0
 TurnsAs old new turn.Listed = Turns old new
 TurnsAs old new (turn.Refused why) = LeavesShard why old new
 TurnsAs old new turn.Gone = LosesShard old new

@@ -6,23 +6,23 @@ use Rattle.segbase.specs.Words.{Board}
 use Rattle.segwrite.specs.Words.{IsSetAnswer}
 use Rattle.segclient.specs.declared.member.Member.{Member}
 use Rattle.segclient.specs.Made.{MakesWrite}
-use Rattle.segcache.specs.declared.when.When.{When}
-use Rattle.segcache.specs.declared.when.When.TheVariants as when
+use Rattle.segcache.specs.declared.condition.Condition.{Condition}
+use Rattle.segcache.specs.declared.condition.Condition.TheVariants as when
 
 -- what a write asks for
-abbrev pub request_of : When → List ℕ → List ℕ → ℕ → Request
+abbrev pub request_of : Condition → List ℕ → List ℕ → ℕ → Request
 request_of when.Always key value now = Set key value now
 request_of when.IfAbsent key value now = Add key value now
 request_of when.IfPresent key value now = Replace key value now
 request_of (when.IfVersion version) key value now = Cas key value version now
 
 -- one that always stores has the answers of a set
-abbrev pub IsAnswerWhen : When → WriteAnswer → Type 0
+abbrev pub IsAnswerWhen : Condition → WriteAnswer → Type 0
 IsAnswerWhen when.Always returned = IsSetAnswer returned
 IsAnswerWhen _ returned = Unit {0}
 
 -- a set, an add, a replace or a cas had this answer
-pub record WritesWhen (when : When) (key value : List ℕ) (returned : WriteAnswer) (b : Board)
+pub record WritesWhen (when : Condition) (key value : List ℕ) (returned : WriteAnswer) (b : Board)
     (old new : Member) : Type 0 where
   pub writes : MakesWrite (request_of when key value) returned b old new
   pub answer : IsAnswerWhen when returned

@@ -11,7 +11,7 @@ use Rattle.segcache.specs.declared.client.SharedClient.{SharedClient}
 use Rattle.segcache.specs.declared.kept.Kept.{Kept}
 use Rattle.segcache.specs.declared.status.Status.{Status}
 use Rattle.segcache.specs.declared.status.Status.TheVariants as status
-use Rattle.segcache.specs.declared.when.When.{When}
+use Rattle.segcache.specs.declared.condition.Condition.{Condition}
 use Rattle.segcache.specs.Calls.{CallsKey, MakesCall}
 use Rattle.segcache.specs.Exports.{ByClient, ByKey, ByValue, Returns}
 use Rattle.segcache.specs.Guest.{At}
@@ -70,14 +70,14 @@ PutFor seconds key value now before after returned =
     before after
 
 -- the client's write of the value had the answer of this status
-pub record MakesWrite (when : When) (key value : List ℕ) (now : ℕ) (returned : Status)
+pub record MakesWrite (when : Condition) (key value : List ℕ) (now : ℕ) (returned : Status)
     (old new : SharedClient) : Type 0 where
   pub answer : WriteAnswer
   pub calls : CallsKey key (At now (WritesWhen when key value answer)) old new
   pub wants : new.wants ≡ write_wants answer (shard_of (length old.guests.items) key)
   pub returns : returned ≡ write_status answer
 
-abbrev pub Wrote : When → List ℕ → List ℕ → ℕ → Option Kept → Option Kept → Status → Type 0
+abbrev pub Wrote : Condition → List ℕ → List ℕ → ℕ → Option Kept → Option Kept → Status → Type 0
 Wrote when key value now before after returned =
     ByClient (Returns returned)
     (ByKey (Returns returned) key (ByValue (Returns returned) value (MakesWrite when key value now returned)))

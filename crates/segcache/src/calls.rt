@@ -3,8 +3,8 @@ ghost use Rattle.segindex.specs.Words.{board_of};
 ghost use Rattle.segclient.specs.Member.{IsMember};
 ghost use Rattle.segcache.specs.Made.{WritesWhen};
 
+use crate::condition::Condition;
 use crate::guest::Guest;
-use crate::when::When;
 use segclient::{
     DeleteAnswer, GetsIntoAnswer, Index, IntoAnswer, Key, Member, PutAnswer, ValueBytes,
     WriteAnswer,
@@ -63,7 +63,7 @@ impl Guest {
     #[inline(always)]
     pub(crate) fn write(
         &mut self,
-        when: When,
+        when: Condition,
         key: &Key,
         value: &ValueBytes<'_>,
         now: u32,
@@ -88,7 +88,7 @@ impl Guest {
 fn write_when(
     member: &mut Member,
     index: &Index,
-    when: When,
+    when: Condition,
     key: &Key,
     value: &ValueBytes<'_>,
 ) -> WriteAnswer
@@ -98,9 +98,9 @@ fn write_when(
         (board_of index.now) member.old member.new }
 {
     match when {
-        When::Always => member.set_bytes(index, key, value),
-        When::IfAbsent => member.add_bytes(index, key, value),
-        When::IfPresent => member.replace_bytes(index, key, value),
-        When::IfVersion(version) => member.cas_bytes(index, key, value, version),
+        Condition::Always => member.set_bytes(index, key, value),
+        Condition::IfAbsent => member.add_bytes(index, key, value),
+        Condition::IfPresent => member.replace_bytes(index, key, value),
+        Condition::IfVersion(version) => member.cas_bytes(index, key, value, version),
     }
 }

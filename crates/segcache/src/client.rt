@@ -3,8 +3,8 @@ ghost use Rattle.std.specs.Prelude.{◌≡◌, ◌≤◌, ◌<◌, IfSome, vec_l
 ghost use Rattle.std.specs.Option.{ForSome};
 ghost use Rattle.segcache.specs.Wants.{put_wants, write_wants};
 
+use crate::condition::Condition;
 use crate::guest::Guest;
-use crate::when::When;
 use segclient::{
     DeleteAnswer, GetsIntoAnswer, IntoAnswer, Key, PutAnswer, ValueBytes, WriteAnswer,
 };
@@ -119,7 +119,7 @@ impl SharedClient {
     #[inline(always)]
     pub(crate) fn write(
         &mut self,
-        when: When,
+        when: Condition,
         key: &Key,
         value: &ValueBytes<'_>,
         now: u32,

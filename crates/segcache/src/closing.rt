@@ -8,7 +8,7 @@ ghost use Rattle.segcache.specs.Returning.{GivenBack, GoesBackFrom, IsWelcome, T
 ghost use Rattle.segcache.specs.Sharing.{AreOfOneCache, IsClientOf, MayBeClient};
 
 use crate::cache::Cache;
-use crate::cursor::{Cursor, Turn};
+use crate::cursor::{Cursor, ShardClose};
 use crate::handle::Handle;
 use crate::kept::Kept;
 use crate::status::Status;
@@ -116,18 +116,18 @@ fn close_cache(alloc: Global, cache: Cache, kept: &mut Kept) -> Closing
     let homes = cache.into_homes();
     let mut cursor = Cursor::new(alloc, homes);
     match cursor.turn(alloc) {
-        Turn::Listed => {
+        ShardClose::Listed => {
             *kept = Kept::Cursor(cursor);
             Closing::Listed
         }
-        Turn::Refused(why) => {
+        ShardClose::Refused(why) => {
             let left = cursor.into_homes();
             let same = Cache::new(left);
             *kept = Kept::Cache(same);
             Closing::Refused(why)
         }
-        Turn::Gone => Closing::Gone,
-        Turn::Done => unreachable!(),
+        ShardClose::Gone => Closing::Gone,
+        ShardClose::Done => unreachable!(),
     }
 }
 

@@ -15,7 +15,7 @@ pub struct Cursor {
 }
 
 /// How the close of one more shard went.
-pub(crate) enum Turn {
+pub(crate) enum ShardClose {
     /// Its content is listed.
     Listed,
     /// It didn't come about, and the shard is as it was.
@@ -52,24 +52,24 @@ impl Cursor {
     }
 
     /// Closes the last of the shards that are left, and lists its content.
-    pub(crate) fn turn(&mut self, alloc: Global) -> Turn
+    pub(crate) fn turn(&mut self, alloc: Global) -> ShardClose
         ensures { TurnsAs self.old self.new result }
     {
         let Some(home) = self.homes.pop() else {
-            return Turn::Done;
+            return ShardClose::Done;
         };
         self.pairs = Vec::new(alloc);
         self.next = 0;
         match home.end(alloc) {
             End::Content { pairs } => {
                 self.pairs = pairs;
-                Turn::Listed
+                ShardClose::Listed
             }
             End::Refused { home, why } => {
                 self.homes.push_reserved(home);
-                Turn::Refused(why)
+                ShardClose::Refused(why)
             }
-            End::Gone => Turn::Gone,
+            End::Gone => ShardClose::Gone,
         }
     }
 
@@ -79,10 +79,10 @@ impl Cursor {
     {
         while self.next >= self.pairs.len() {
             match self.turn(alloc) {
-                Turn::Listed => {}
-                Turn::Refused(why) => return why,
-                Turn::Gone => return Status::OutOfMemory,
-                Turn::Done => return Status::End,
+                ShardClose::Listed => {}
+                ShardClose::Refused(why) => return why,
+                ShardClose::Gone => return Status::OutOfMemory,
+                ShardClose::Done => return Status::End,
             }
         }
         Status::Ok

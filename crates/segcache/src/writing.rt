@@ -4,10 +4,10 @@ ghost use Rattle.segcache.specs.Exports.{Answers};
 ghost use Rattle.segcache.specs.Writing.{delete_status, Deleted, Put, put_status, PutFor};
 ghost use Rattle.segcache.specs.Writing.{write_status, Wrote};
 
+use crate::condition::Condition;
 use crate::handle::Handle;
 use crate::kept::Kept;
 use crate::status::Status;
-use crate::when::When;
 use segclient::{DeleteAnswer, Key, PutAnswer, ValueBytes, WriteAnswer};
 
 // The status of an answer to a put.
@@ -111,19 +111,19 @@ fn put_for(kept: &mut Kept, key: &[u8], value: &[u8], seconds: u32, now: u32) ->
 /// Stores a value under a key, and makes no room.
 #[unsafe(no_mangle)]
 pub extern "C" fn segcache_raw_set(client: &mut Handle, key: &[u8], value: &[u8], now: u32) -> u32
-    ensures { Answers result (Wrote When.Always key.now value.now now
+    ensures { Answers result (Wrote Condition.Always key.now value.now now
         client.old.value client.new.value) }
 {
-    write_by(client, When::Always, key, value, now)
+    write_by(client, Condition::Always, key, value, now)
 }
 
 /// Stores a value if the key is absent.
 #[unsafe(no_mangle)]
 pub extern "C" fn segcache_raw_add(client: &mut Handle, key: &[u8], value: &[u8], now: u32) -> u32
-    ensures { Answers result (Wrote When.IfAbsent key.now value.now now
+    ensures { Answers result (Wrote Condition.IfAbsent key.now value.now now
         client.old.value client.new.value) }
 {
-    write_by(client, When::IfAbsent, key, value, now)
+    write_by(client, Condition::IfAbsent, key, value, now)
 }
 
 /// Stores a value if the key is present.
@@ -134,10 +134,10 @@ pub extern "C" fn segcache_raw_replace(
     value: &[u8],
     now: u32,
 ) -> u32
-    ensures { Answers result (Wrote When.IfPresent key.now value.now now
+    ensures { Answers result (Wrote Condition.IfPresent key.now value.now now
         client.old.value client.new.value) }
 {
-    write_by(client, When::IfPresent, key, value, now)
+    write_by(client, Condition::IfPresent, key, value, now)
 }
 
 /// Stores a value if the key is present and its bucket has the version.
@@ -149,15 +149,15 @@ pub extern "C" fn segcache_raw_cas(
     version: u32,
     now: u32,
 ) -> u32
-    ensures { Answers result (Wrote (When.IfVersion version) key.now value.now now
+    ensures { Answers result (Wrote (Condition.IfVersion version) key.now value.now now
         client.old.value client.new.value) }
 {
-    write_by(client, When::IfVersion(version), key, value, now)
+    write_by(client, Condition::IfVersion(version), key, value, now)
 }
 
 // A set, an add, a replace or a compare-and-swap by what a handle has, and the status's number.
 #[inline(always)]
-fn write_by(client: &mut Handle, when: When, key: &[u8], value: &[u8], now: u32) -> u32
+fn write_by(client: &mut Handle, when: Condition, key: &[u8], value: &[u8], now: u32) -> u32
     ensures { Answers result (Wrote when key.now value.now now
         client.old.value client.new.value) }
 {
@@ -169,7 +169,7 @@ fn write_by(client: &mut Handle, when: When, key: &[u8], value: &[u8], now: u32)
 
 // The same by a client.
 #[inline(always)]
-fn write(kept: &mut Kept, when: When, key: &[u8], value: &[u8], now: u32) -> Status
+fn write(kept: &mut Kept, when: Condition, key: &[u8], value: &[u8], now: u32) -> Status
     ensures { Wrote when key.now value.now now (Some kept.old) (Some kept.new) result }
 {
     let Kept::Client(client) = kept else {

@@ -10,7 +10,7 @@ use crate::rows::are_left;
 use crate::segments::Segments;
 use segindex::{Index, Pass, RowRef};
 use segmodel::{DeleteAnswer, SegState};
-use segqueues::{Place, Queue, Queues, Round};
+use segqueues::{Queue, Queues, Round, SegmentRow};
 use segword::{Key, hash};
 use std::alloc::{AllocError, Global};
 
@@ -228,8 +228,8 @@ pub(crate) fn was_refilled(
 }
 
 // The row of a segment of the pass's own that was used last.
-fn last_row(index: &Index, pass: &Pass, segment: u32) -> Place {
-    Place {
+fn last_row(index: &Index, pass: &Pass, segment: u32) -> SegmentRow {
+    SegmentRow {
         segment: own_place(index, pass, segment),
         row: pass.used(segment).unwrap_or(0).saturating_sub(1),
     }
@@ -237,7 +237,7 @@ fn last_row(index: &Index, pass: &Pass, segment: u32) -> Place {
 
 // The item of a row of the source is done. It was alive, or wasn't.
 pub(crate) fn note_done(index: &Index, queues: &mut Queues, row: RowRef, is_alive: bool) {
-    let at = Place {
+    let at = SegmentRow {
         segment: place_of(index, row.segment),
         row: row.row,
     };
@@ -246,7 +246,7 @@ pub(crate) fn note_done(index: &Index, queues: &mut Queues, row: RowRef, is_aliv
 
 // The item of a row of the source moved into this segment.
 pub(crate) fn note_moved(index: &Index, pass: &Pass, queues: &mut Queues, from: RowRef, into: u32) {
-    let place = Place {
+    let place = SegmentRow {
         segment: place_of(index, from.segment),
         row: from.row,
     };
@@ -257,7 +257,7 @@ pub(crate) fn note_moved(index: &Index, pass: &Pass, queues: &mut Queues, from: 
 pub(crate) fn note_dead(index: &Index, pass: &Pass, queues: &mut Queues, row: RowRef) {
     let segment = own_place(index, pass, row.segment);
     if segment < index.shape().segments_each {
-        queues.has_died(Place {
+        queues.has_died(SegmentRow {
             segment,
             row: row.row,
         });

@@ -10,4 +10,4 @@ mod queues;
 mod source;
 
 pub use lists::Queue;
-pub use queues::{Place, Queues, Round};
+pub use queues::{Queues, Round, SegmentRow};

@@ -15,7 +15,7 @@ pub enum Queue {
 
 // A segment between its neighbours in its list.
 #[derive(Clone, Copy)]
-struct Place {
+struct Node {
     queue: Queue,
     is_held: bool,
     before: u32,
@@ -34,13 +34,13 @@ pub(crate) struct Lists {
     main: u32,
     // How many of the free ones are held.
     held: u32,
-    places: Vec<Place>,
+    places: Vec<Node>,
 }
 
 impl Lists {
     // All segments are free, the first one first.
     pub(crate) fn new(alloc: Global, segments: u32) -> Result<Lists, AllocError> {
-        let place = Place {
+        let place = Node {
             queue: Queue::Free,
             is_held: false,
             before: 0,

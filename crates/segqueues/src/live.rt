@@ -82,9 +82,9 @@ struct Known {
     deadline: u32,
 }
 
-// What was found in a segment that was gone over.
+// What was observed of a segment that was gone over.
 #[derive(Clone, Copy)]
-pub(crate) struct Found {
+pub(crate) struct Observation {
     // How many rows could be alive as far as the pass knew, of how many.
     pub(crate) known: Kinds,
     pub(crate) used: u32,
@@ -256,9 +256,9 @@ impl Live {
     }
 
     // What would be found in the segment if nobody else had written.
-    pub(crate) fn known_of(&self, at: u32) -> Found {
+    pub(crate) fn known_of(&self, at: u32) -> Observation {
         let known = self.known(at);
-        Found {
+        Observation {
             known: known.alive,
             used: known.used,
             alive: known.alive,
@@ -318,7 +318,7 @@ impl Live {
     }
 
     // A segment was gone over.
-    pub(crate) fn learn(&mut self, found: Found) {
+    pub(crate) fn learn(&mut self, found: Observation) {
         let used = u64::from(found.used.max(1));
         let share = u64::from(found.alive.sum())
             .saturating_mul(ALL)

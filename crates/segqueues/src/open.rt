@@ -4,12 +4,12 @@ use std::alloc::{AllocError, Global};
 
 // An open segment and its deadline.
 #[derive(Clone, Copy)]
-struct Place {
+struct OpenSegment {
     deadline: u32,
     segment: u32,
 }
 
-const NOWHERE: Place = Place {
+const NOWHERE: OpenSegment = OpenSegment {
     deadline: 0,
     segment: 0,
 };
@@ -21,7 +21,7 @@ const HALVINGS: u32 = 32;
 #[derive(Drop)]
 pub(crate) struct Open {
     count: usize,
-    places: Vec<Place>,
+    places: Vec<OpenSegment>,
 }
 
 impl Open {
@@ -33,14 +33,14 @@ impl Open {
         })
     }
 
-    fn place(&self, at: usize) -> Place {
+    fn place(&self, at: usize) -> OpenSegment {
         match self.places.get(at) {
             Some(place) => *place,
             None => NOWHERE,
         }
     }
 
-    fn set_place(&mut self, at: usize, next: Place) {
+    fn set_place(&mut self, at: usize, next: OpenSegment) {
         if let Some(place) = self.places.get_mut(at) {
             *place = next;
         }
@@ -95,7 +95,7 @@ impl Open {
     // The segment is open now. Another one with its deadline isn't any more.
     pub(crate) fn add(&mut self, deadline: u32, segment: u32) {
         let rank = self.rank(deadline);
-        let mut next = Place { deadline, segment };
+        let mut next = OpenSegment { deadline, segment };
         if self.at(deadline).is_some() {
             self.set_place(rank, next);
             return;

@@ -43,7 +43,7 @@ impl Round {
 
 /// A row of a segment.
 #[derive(Clone, Copy, Debug)]
-pub struct Place {
+pub struct SegmentRow {
     pub segment: u32,
     pub row: u32,
 }
@@ -200,7 +200,7 @@ impl Queues {
     // An item with this need has the next rows of the segment, up to this one. If no row is left
     // then, the segment is open no more.
     #[inline(always)]
-    fn was_used(&mut self, at: Place, need: u8, is_stored: bool) {
+    fn was_used(&mut self, at: SegmentRow, need: u8, is_stored: bool) {
         self.needs.set(at.segment, at.row, need);
         let is_update = is_of_update(need);
         if self.live.used(at.segment) == at.row {
@@ -215,7 +215,7 @@ impl Queues {
 
     // An item has the next rows of the segment, up to this one: more than one.
     #[inline(never)]
-    fn were_used(&mut self, at: Place, is_stored: bool, is_update: bool) {
+    fn were_used(&mut self, at: SegmentRow, is_stored: bool, is_update: bool) {
         let first = self.live.used(at.segment);
         self.needs.go_on(at.segment, first, at.row);
         let rows = at.row.saturating_add(1).saturating_sub(first);
@@ -225,7 +225,7 @@ impl Queues {
 
     /// An item of the source moved, which goes up to a row there, into the next rows of another
     /// segment, up to a row there. It needs more to move on again, unless all moves on.
-    pub fn was_moved(&mut self, from: Place, into: Place) {
+    pub fn was_moved(&mut self, from: SegmentRow, into: SegmentRow) {
         let need = self.needs.of(from.segment, from.row);
         let more = u8::from(!self.clearing.moves_all);
         self.was_used(into, need.saturating_add(more), false);
@@ -233,13 +233,13 @@ impl Queues {
     }
 
     /// A key of this hash was stored into the next rows of a segment, up to this one.
-    pub fn was_stored(&mut self, at: Place, hash: u64, is_update: bool) {
+    pub fn was_stored(&mut self, at: SegmentRow, hash: u64, is_update: bool) {
         let need = self.needs.of_put(hash, is_update);
         self.was_used(at, need, true);
     }
 
     /// The item that has this row first was replaced or deleted by the pass.
-    pub fn has_died(&mut self, at: Place) {
+    pub fn has_died(&mut self, at: SegmentRow) {
         if self.longest == 1 {
             let is_update = self.needs.is_update(at.segment, at.row);
             self.live.have_died(at.segment, 1, is_update);
@@ -250,7 +250,7 @@ impl Queues {
 
     // All rows died of the item that has this one first.
     #[inline(never)]
-    fn have_died(&mut self, at: Place) {
+    fn have_died(&mut self, at: SegmentRow) {
         let last = self.needs.last_of(at.segment, at.row);
         let rows = last.saturating_sub(at.row).saturating_add(1);
         let is_update = self.needs.is_update(at.segment, last);

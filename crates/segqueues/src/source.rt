@@ -3,8 +3,8 @@
 //! Once few rows are dead, what is put must be read on probation to move on, and main segments
 //! alone are cleared for their dead rows, while that takes few moves.
 use crate::lists::Queue;
-use crate::live::{ALL, Found, Kinds, PARTS};
-use crate::queues::{Place, Queues};
+use crate::live::{ALL, Kinds, Observation, PARTS};
+use crate::queues::{Queues, SegmentRow};
 
 // One segment of so many is on probation. From there on the oldest of these is cleared.
 const PROBATION_SHARE: u32 = 12;
@@ -37,14 +37,14 @@ pub(crate) struct Clearing {
     // Whether it expires and no other segment has its deadline. Then none is opened for it.
     pub(crate) is_alone: bool,
     // What was known of it at first, and found so far in how many rows.
-    known: Found,
+    known: Observation,
     looked: u32,
     alive: Kinds,
 }
 
 impl Clearing {
     pub(crate) fn none() -> Clearing {
-        let none = Found {
+        let none = Observation {
             known: Kinds::none(),
             used: 0,
             alive: Kinds::none(),
@@ -445,7 +445,7 @@ impl Queues {
     }
 
     /// The next rows of the source are done, up to this one. Their item was alive, or wasn't.
-    pub fn was_done(&mut self, at: Place, is_alive: bool) {
+    pub fn was_done(&mut self, at: SegmentRow, is_alive: bool) {
         let looked = at.row.wrapping_add(1);
         let rows = looked.saturating_sub(self.clearing.looked);
         self.clearing.looked = looked;
@@ -461,7 +461,7 @@ impl Queues {
         if self.clearing.looked < known.used {
             return;
         }
-        let found = Found {
+        let found = Observation {
             alive: self.clearing.alive,
             ..known
         };

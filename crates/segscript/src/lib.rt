@@ -23,7 +23,7 @@ pub use device::{Failed, Sink, Source, write_all};
 pub use explain::{BadLine, Explaining};
 pub use fault::RunFault;
 pub use limits::{LINE_BYTES, REPLY_BYTES};
-pub use line::{Reply, read_line, reply_of};
+pub use line::{ReplyLine, read_line, reply_of};
 pub use memory::{MemSink, MemSource, WhenFull};
 pub use reason::{LineFault, Part, WordFault, line_fault};
 pub use script::{run_script, serve_script};

@@ -290,10 +290,10 @@ pub fn read_line(line: &[u8], passes: u32) -> Option<(u32, Turn)>
 }
 
 /// A reply: at most `VALUE`, a value of `VALUE_BYTES` bytes and a number of ten digits.
-pub type Reply = Line;
+pub type ReplyLine = Line;
 
 /// The line of an outcome.
-pub fn reply_of(outcome: &Outcome) -> Reply
+pub fn reply_of(outcome: &Outcome) -> ReplyLine
     ensures { result.items ≡ reply outcome.now }
 {
     match outcome {
@@ -312,7 +312,7 @@ pub fn reply_of(outcome: &Outcome) -> Reply
     }
 }
 
-fn answer_reply(answer: &Answer) -> Reply
+fn answer_reply(answer: &Answer) -> ReplyLine
     ensures { result.items ≡ answer_reply answer.now }
 {
     match answer {
@@ -364,7 +364,7 @@ fn refill_line(answer: RefillAnswer) -> &'static [u8]
     }
 }
 
-fn get_reply(answer: &GetAnswer) -> Reply
+fn get_reply(answer: &GetAnswer) -> ReplyLine
     ensures { result.items ≡ get_reply answer.now }
 {
     match answer {
@@ -374,7 +374,7 @@ fn get_reply(answer: &GetAnswer) -> Reply
     }
 }
 
-fn gets_reply(answer: &GetsAnswer) -> Reply
+fn gets_reply(answer: &GetsAnswer) -> ReplyLine
     ensures { result.items ≡ gets_reply answer.now }
 {
     match answer {
@@ -391,7 +391,7 @@ fn gets_reply(answer: &GetsAnswer) -> Reply
     }
 }
 
-fn evict_reply(answer: EvictAnswer) -> Reply
+fn evict_reply(answer: EvictAnswer) -> ReplyLine
     ensures { result.items ≡ evict_reply answer }
 {
     match answer {
@@ -401,7 +401,7 @@ fn evict_reply(answer: EvictAnswer) -> Reply
     }
 }
 
-fn keep_reply(answer: KeepAnswer) -> Reply
+fn keep_reply(answer: KeepAnswer) -> ReplyLine
     ensures { result.items ≡ keep_reply answer }
 {
     match answer {
@@ -413,7 +413,7 @@ fn keep_reply(answer: KeepAnswer) -> Reply
 }
 
 // The line of a value.
-fn value_reply(value: &Value) -> Reply
+fn value_reply(value: &Value) -> ReplyLine
     ensures { result.items ≡ value_reply value.now }
 {
     let mut text = line_of(b"VALUE ");
@@ -423,7 +423,7 @@ fn value_reply(value: &Value) -> Reply
 }
 
 // The line of a word and a number.
-fn counted(word: &[u8], count: u32) -> Reply
+fn counted(word: &[u8], count: u32) -> ReplyLine
     requires { length word.now ≤ 40 }
     ensures { result.items ≡ word.now ++ decimal count ++ codes "\n" }
 {
@@ -433,7 +433,7 @@ fn counted(word: &[u8], count: u32) -> Reply
     text
 }
 
-fn put_value(text: &mut Reply, value: &Value)
+fn put_value(text: &mut ReplyLine, value: &Value)
     requires { array_vec_len text.old ≤ 32 }
     ensures text { text.new.items ≡ text.old.items ++ value_word value.now }
     ensures room { array_vec_len text.new ≤ array_vec_len text.old + VALUE_BYTES }

@@ -25,15 +25,15 @@ pub trait Shards {
 
 // Keys that are looked for: of each the place of its shard, and where in it.
 #[derive(Drop)]
-struct Round {
+struct Batch {
     steps: [Option<(usize, Seeker)>; ROUND],
     count: usize,
 }
 
-impl Round {
+impl Batch {
     // No keys.
-    fn new() -> Round {
-        Round {
+    fn new() -> Batch {
+        Batch {
             steps: [None; ROUND],
             count: 0,
         }
@@ -50,13 +50,13 @@ impl Round {
 
     // Loads the ends of the buckets of these keys, and then those of the rows that words of these
     // buckets name. What is left are the keys whose chains go on.
-    fn load<S: Shards>(&self, shards: &S) -> Round {
+    fn load<S: Shards>(&self, shards: &S) -> Batch {
         for (place, seeker) in self.steps.iter().flatten() {
             if let Some(index) = shards.index_at(*place) {
                 index.load(*seeker);
             }
         }
-        let mut next = Round::new();
+        let mut next = Batch::new();
         let mut items = [None; ROUND];
         for (item, step) in items.iter_mut().zip(self.steps.iter()) {
             if let Some((place, seeker)) = step {
@@ -93,18 +93,18 @@ fn look_ahead_piece<S: Shards>(shards: &S, count: usize, keys: &[Key])
     requires some { 1 ≤ count }
     requires few { count ≤ MOST_SHARDS }
 {
-    let mut round = Round::new();
+    let mut batch = Batch::new();
     for key in keys {
         let place = shard_of(hash(key), count);
         if let Some(index) = shards.index_at(place) {
-            round.push(place, index.seeker(key));
+            batch.push(place, index.seeker(key));
         }
     }
     for _ in 0..CHAIN_BUCKETS {
-        if round.count == 0 {
+        if batch.count == 0 {
             return;
         }
-        round = round.load(shards);
+        batch = batch.load(shards);
     }
 }
 

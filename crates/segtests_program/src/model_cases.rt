@@ -3,7 +3,7 @@
 //! Several keys before it stand in turn for the key `*` in it, as in `a b c: set * 1 @0 = STORED`.
 use arrayvec::ArrayVec;
 use segmodel::{Answer, Command, Outcome, Plain, Shelf, Turn};
-use segscript::{Reply, read_line, reply_of};
+use segscript::{ReplyLine, read_line, reply_of};
 use segword::Shape;
 use std::alloc::AllocGlobal;
 use std::process::Abort;
@@ -39,7 +39,7 @@ pub fn command(text: &str, each: &str) -> Option<Command> {
 }
 
 /// The reply to a command that is answered so, without the end of its line.
-pub fn reply(answer: Answer) -> Reply {
+pub fn reply(answer: Answer) -> ReplyLine {
     let mut reply = reply_of(&Outcome::Answered(answer));
     reply.pop();
     reply

@@ -1,8 +1,8 @@
-//! When a write stores its value.
+//! The condition under which a write stores its value.
 
 /// A set, an add, a replace or a compare-and-swap.
 #[derive(Clone, Copy, Debug, PartialEq, Eq)]
-pub enum When {
+pub enum Condition {
     Always,
     IfAbsent,
     IfPresent,
