@@ -11,6 +11,7 @@ pub mod Printing
 pub mod Program
 pub mod Progress
 pub mod Stats
+pub mod Statuses
 pub mod Streams
 pub mod Totals
 pub mod Replayed

@@ -4,6 +4,7 @@ ghost use Rattle.segcli.specs.Streams.{output};
 ghost use Rattle.segcli.specs.Faults.{fault_line, fault_status};
 ghost use Rattle.segcli.specs.Printing.{PrintOutcome, IsPrinted, IsFlushed, WasFlushed};
 
+use crate::status::Status;
 use segindex::MakeFault;
 use segload::LoadFault;
 use segreplay::{ReplayFault, TraceFault, TraceLineFault};
@@ -118,13 +119,13 @@ impl ProgramFault {
             ProgramFault::BadLine(_)
             | ProgramFault::BadRow(_, _)
             | ProgramFault::BadWord
-            | ProgramFault::BadArguments => 2,
+            | ProgramFault::BadArguments => Status::BadInput.code(),
             ProgramFault::BadShape(_)
             | ProgramFault::OutOfMemory
             | ProgramFault::Read
             | ProgramFault::Write
             | ProgramFault::TooLong
-            | ProgramFault::Stopped(_) => 3,
+            | ProgramFault::Stopped(_) => Status::Failed.code(),
         }
     }
 

@@ -11,14 +11,12 @@ use crate::arguments::{Refusal, read_command};
 use crate::command::{Host, carry_out};
 use crate::fault::{ProgramFault, print_after, report};
 use crate::progress::{NoWatch, Watch};
+use crate::status::Status;
 use crate::streams::Streams;
 use segscript::{Sink, Source};
 use std::alloc::{AllocGlobal, Global};
 use std::sync::Wait;
 use std::thread::Threads;
-
-/// The status of a bad command line.
-const BAD_USAGE: u8 = 2;
 
 /// Does what the words after the program's name ask for, with a script from the source.
 /// It returns the exit status: 0 if that was done,
@@ -117,7 +115,7 @@ fn refuse<W: Sink, E: Sink>(refusal: &Refusal, writer: &mut W, errors: &mut E) -
         Refusal::Usage(text) => {
             let _ = writer.flush();
             print_after(writer, errors, text.as_str().as_bytes());
-            BAD_USAGE
+            Status::BadInput.code()
         }
         Refusal::OutOfMemory => report(ProgramFault::OutOfMemory, writer, errors),
     }

@@ -2,7 +2,7 @@
 ghost use Rattle.std.specs.Prelude.{◌≡◌, false};
 
 use crate::progress::Teller;
-use segcli::{Streams, Task, bad_line_text, read_command, run_given, words_of};
+use segcli::{Status, Streams, Task, bad_line_text, read_command, run_given, words_of};
 use segscript::{Explaining, ReadSource, Source, WriteSink};
 use std::alloc::AllocGlobal;
 use std::fs::File;
@@ -10,11 +10,6 @@ use std::io::{IsTerminal, Read, Write};
 use std::sync::Wait;
 use std::thread::Threads;
 use std::{env, io};
-
-/// The status of a bad line, and of a reader that failed.
-const BAD_LINE: u8 = 2;
-
-const READ_FAILED: u8 = 3;
 
 const SCRIPT_HINT: &[u8] =
     b"segrun: reads a script from the terminal (segrun script --help has its lines, Ctrl-D ends it)\n";
@@ -59,7 +54,7 @@ fn run_trace<T: Threads + Wait + AllocGlobal + Sync>(
             Ok(file) => run_from(threads, rt, None, file),
             Err(error) => {
                 let _ = tell_in_a_line(rt, path, &error);
-                READ_FAILED
+                Status::Failed.code()
             }
         },
         _ => run_file(threads, rt, None, None, TRACE_HINT),
@@ -86,7 +81,7 @@ fn run_file<T: Threads + Wait + AllocGlobal + Sync>(
             Ok(file) => run_from(threads, rt, passes, file),
             Err(error) => {
                 let _ = tell_why(rt, path, &error);
-                READ_FAILED
+                Status::Failed.code()
             }
         },
         _ => {
@@ -115,7 +110,7 @@ fn run_from<T: Threads + Wait + AllocGlobal + Sync, R: Read + Drop>(
     };
     let source = Explaining::new(ReadSource::new(input), passes);
     let (status, source) = run_over(threads, rt, source);
-    if status == BAD_LINE {
+    if status == Status::BadInput.code() {
         explain(rt, &source);
     }
     status
