@@ -5,3 +5,4 @@ pub mod Lists
 pub mod Names
 pub mod Fields
 pub mod Written
+pub mod Wholes

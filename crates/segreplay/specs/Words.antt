@@ -6,6 +6,7 @@ use Rattle.std.specs.List.{list_all, prefix_len, suffix_len}
 use Rattle.std.specs.Str.{str_eq_ignore_ascii_case}
 use Rattle.segword.specs.declared.key.TheConstants.{KEY_BYTES}
 use Rattle.segword.specs.Fnv.{hash_of}
+use Rattle.segscript.specs.Reading.{number_below}
 use Rattle.segreplay.specs.declared.line.Operation.{Operation}
 use Rattle.segreplay.specs.declared.line.Operation.TheVariants as verb
 
@@ -61,16 +62,9 @@ key_named text =
 
 -- ---- numbers
 
--- the number below 2^32 that these digits write, behind digits that write the first one
-abbrev pub number_from : ℕ → List ℕ → Option ℕ
-number_from number [] = Some number
-number_from number (byte ∷ text) =
-    if is_ascii_digit byte && nat_lt (number * 10 + (byte - 48)) (2 ^ 32)
-    then number_from (number * 10 + (byte - 48)) text
-    else None
-
+-- the number below 2^32 that these digits write
 abbrev pub number_named : List ℕ → Option ℕ
-number_named text = if length text == 0 then None else number_from 0 text
+number_named text = number_below (2 ^ 32) text
 
 -- a time to live of 0 stands for no end
 abbrev pub lasting : Option ℕ → Option ℕ

@@ -7,13 +7,17 @@ ghost use Rattle.segword.specs.Fnv.{hash_of};
 ghost use Rattle.segreplay.specs.Lines.{field_at, fields_of};
 ghost use Rattle.segreplay.specs.Words.{is_change, is_get, is_name, is_set, key_named, lasting};
 ghost use Rattle.segreplay.specs.Words.{moment_named, moment_of, number_named, seconds_of, shown};
-ghost use Rattle.segreplay.specs.Words.{trimmed, verb_named, whole_from, whole_named, without_return};
+ghost use Rattle.segreplay.specs.Words.{trimmed, verb_named, whole_named, without_return};
 
 use crate::line::Operation;
+use segscript::number_below;
 use segword::{KEY_BYTES, Key};
 
 /// From this number on a moment is one of milliseconds.
 const MILLISECONDS: u64 = 1_000_000_000_000;
+
+/// The whole part of a decimal is below this number.
+const WHOLES: u64 = 1 << 60;
 
 // ---- texts
 
@@ -155,21 +159,8 @@ pub(crate) fn key_of(text: &[u8]) -> Option<Key>
 pub(crate) fn number_of(text: &[u8]) -> Option<u32>
     ensures { result ≡ number_named text.now }
 {
-    if text.is_empty() {
-        return None;
-    }
-    let mut number: u32 = 0;
-    for byte in text {
-        if !byte.is_ascii_digit() {
-            return None;
-        }
-        let next = u64::from(number) * 10 + u64::from(*byte - b'0');
-        if next >= 1 << 32 {
-            return None;
-        }
-        number = next as u32;
-    }
-    Some(number)
+    let number = number_below(text, 1 << 32)?;
+    Some(number as u32)
 }
 
 /// A time to live of 0 stands for none.
@@ -187,47 +178,23 @@ pub(crate) fn lasting(time_to_live: Option<u32>) -> Option<u32>
 fn are_digits(text: &[u8]) -> bool
     ensures { result ≡ list_all is_ascii_digit text.now }
 {
-    for byte in text {
-        if !byte.is_ascii_digit() {
-            return false;
-        }
-    }
-    true
-}
-
-// The whole part of what is a decimal, if it begins with a digit.
-fn whole_from(text: &[u8]) -> Option<u64>
-    ensures { result ≡ whole_from 0 text.now }
-{
-    let mut number: u64 = 0;
-    for (place, byte) in text.iter().enumerate() {
-        if *byte == b'.' {
-            return if are_digits(&text[place + 1..]) {
-                Some(number)
-            } else {
-                None
-            };
-        }
-        if !byte.is_ascii_digit() {
-            return None;
-        }
-        let next = number * 10 + u64::from(*byte - b'0');
-        if next >= 1 << 60 {
-            return None;
-        }
-        number = next;
-    }
-    Some(number)
+    text.iter().all(|byte| byte.is_ascii_digit())
 }
 
 // The whole part of a decimal.
 fn whole_of(text: &[u8]) -> Option<u64>
     ensures { result ≡ whole_named text.now }
 {
-    if text.is_empty() || !text[0].is_ascii_digit() {
-        return None;
+    match cut(text, b'.') {
+        None => number_below(text, WHOLES),
+        Some((whole, part)) => {
+            if are_digits(part) {
+                number_below(whole, WHOLES)
+            } else {
+                None
+            }
+        }
     }
-    whole_from(text)
 }
 
 fn seconds_of(number: u64) -> u64

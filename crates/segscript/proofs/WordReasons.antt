@@ -1,12 +1,12 @@
 -- A word has a fault exactly if it is not what its place in a line asks for.
-use Rattle.std.proofs.Common.{◌≡◌, ◌≢◌, ℕ, ◌+◌, ◌<◌, ◌≤◌, ◌^◌, Bool, true, false, inl, inr, ◌⊎◌, List, [], ◌∷◌, length, drop, codes, refl, sym, ◌∙◌, ap, subst, arith, Option, Some, None, true≢false, get_or, map}
+use Rattle.std.proofs.Common.{◌≡◌, ◌≢◌, ℕ, ◌+◌, ◌<◌, ◌≤◌, ◌^◌, Bool, true, false, List, [], ◌∷◌, length, drop, codes, refl, sym, ◌∙◌, ap, subst, arith, Option, Some, None, true≢false, get_or, map}
 use Rattle.std.specs.Prelude.{◌==◌, ◌&&◌, not, nat_lt, if◌then◌else◌, slice_index, decimal}
 use Rattle.std.specs.List.{list_all, AllByRecursion}
 use Rattle.std.specs.Char.{is_ascii_digit}
 use Rattle.std.specs.Str.{all_ascii_digits, bytes_eq}
 use Rattle.std.specs.Str.Parse.{digits_value}
-use Rattle.std.proofs.lemmas.Bool.{eqb-true, eqb-false, ne_eqb, ltb-true, ltb-false, lt-ltb, le-ltb, and_parts, and_cases, and_from, and_left, and_right, or_parts, or_from, not_from_true}
-use Rattle.std.proofs.lemmas.Bool.Decides.{eqb_tells, not_from_Decides}
+use Rattle.std.proofs.lemmas.Bool.{eqb-true, eqb-false, ne_eqb, ltb-true, ltb-false, lt-ltb, le-ltb, and_parts, and_from, or_parts, or_from, not_from_true}
+use Rattle.std.proofs.lemmas.Bool.Decides.{not_from_Decides}
 use Rattle.std.proofs.lemmas.Slice.Eq.{bytes_eq-Decides}
 use Rattle.std.proofs.lemmas.Str.Parse.{IsNumeralModel, numerals_by_value, tells_all_ascii_digits}
 use Rattle.std.proofs.lemmas.Fmt.{decimal-digits_value, decimal_is_IsNumeral}
@@ -16,8 +16,8 @@ use Rattle.segscript.specs.Spelling.{commands, IsNumber, IsValueWord, IsVerb, Is
 use Rattle.std.specs.Borrow.{Bor}
 use Rattle.std.proofs.lemmas.List.{drop_more}
 use Rattle.std.proofs.lemmas.Option.{none-some}
-use Rattle.segscript.specs.Reading.{ReadsAs}
-use Rattle.segscript.specs.Reasons.{is_word_byte, are_no_digits, has_leading_zero, or_else, number_fault, below_fault, bytes_fault, command_fault, part_fault, word_fault, at_place, words_fault}
+use Rattle.segscript.specs.Reading.{has_leading_zero, ReadsAs}
+use Rattle.segscript.specs.Reasons.{is_word_byte, are_no_digits, or_else, number_fault, below_fault, bytes_fault, command_fault, part_fault, word_fault, at_place, words_fault}
 use Rattle.segscript.specs.declared.reason.LineFault.{LineFault}
 use Rattle.segscript.specs.declared.reason.Part.{Part}
 use Rattle.segscript.specs.declared.reason.Part.TheVariants as part
@@ -25,7 +25,7 @@ use Rattle.segscript.specs.declared.reason.WordFault.{WordFault}
 use Rattle.segscript.specs.declared.reason.WordFault.TheVariants as why
 use Rattle.segscript.specs.declared.line.Verb.{Verb}
 use Rattle.segscript.proofs.Commands.{named_self}
-use Rattle.segscript.proofs.Numbers.{BeginsPlainly-decimal}
+use Rattle.segscript.proofs.Numbers.{decimal_plain, zero_alone}
 use Rattle.segscript.proofs.Parts.{Says}
 
 -- ---- tests that find no fault
@@ -81,11 +81,8 @@ number_read ds e =
     let digits : all_ascii_digits ds ≡ true = sym (all_digits ds) ∙ all_so (list_all is_ascii_digit ds) parts.1 in
     let some : 0 < length ds = not_empty ds parts.0 in
     let small : digits_value 10 ds < 2 ^ 32 = ltb-true _ _ three.0 in
-    (small, sym (decimal-digits_value own ds digits some (leading ds two.0) (omega (arith, small))))
+    (small, sym (decimal-digits_value own ds digits some (zero_alone ds two.0) (omega (arith, small))))
   where
-    zero_is_not : ◌≡◌ {A = ℕ} 0 48 → ⊥
-    zero_is_not e = omega arith
-
     all_so : (b : Bool) → not b ≡ false → b ≡ true
     all_so true n = refl
     all_so false n = absurd (true≢false n)
@@ -93,29 +90,18 @@ number_read ds e =
     not_empty : (xs : List ℕ) → (length xs == 0) ≡ false → 0 < length xs
     not_empty xs n = let other = eqb-false (length xs) 0 n in omega arith
 
-    leading : (xs : List ℕ) → (slice_index xs 0 == 48 && nat_lt 1 (length xs)) ≡ false → slice_index xs 0 ≡ 48 → length xs ≡ 1
-    leading [] plain same = absurd (zero_is_not same)
-    leading (x ∷ xs) plain same = elim (and_cases _ _ plain) [ inl h ↦ absurd (eqb-false _ _ h same) | inr h ↦ let most = ltb-false 1 (length (x ∷ xs)) h in omega arith ]
-
 pub number_fits : (n : ℕ) → IsNumber n → number_fault (decimal n) ≡ None
 number_fits n small =
     let small_enough : n < 2 ^ 64 = omega (arith, small) in
     let is = decimal_is_IsNumeral n small_enough in
-    let plain = BeginsPlainly-decimal n small in
     let first : are_no_digits (decimal n) ≡ false = or_from _ _ (no_length (decimal n) is.0.0) (not_from_true _ (all_digits (decimal n) ∙ own.from (decimal n) is.0.1)) in
-    let second : has_leading_zero (decimal n) ≡ false = leading (decimal n) (eqb_tells (slice_index (decimal n) 0) 48) plain.1 in
+    let second : has_leading_zero (decimal n) ≡ false = decimal_plain n small in
     let below : digits_value 10 (decimal n) < 2 ^ 32 = rw is.1 small in
     let third : nat_lt (digits_value 10 (decimal n)) (2 ^ 32) ≡ true = lt-ltb _ _ below in
     none_else _ _ _ first (none_else _ _ _ second (none_if why.LargeNumber _ _ third refl))
   where
     no_length : (xs : List ℕ) → 0 < length xs → (length xs == 0) ≡ false
     no_length xs some = ne_eqb (length xs) 0 (λ z. omega arith)
-
-    leading : (xs : List ℕ) → ((slice_index xs 0 == 48) ≡ true) × (slice_index xs 0 ≡ 48)
-        ⊎ ((slice_index xs 0 == 48) ≡ false) × (slice_index xs 0 ≢ 48) → (slice_index xs 0 ≡ 48 → length xs ≡ 1)
-        → has_leading_zero xs ≡ false
-    leading xs (inl t) one = let e : length xs ≡ 1 = one t.1 in and_right _ _ (le-ltb 1 (length xs) (omega arith))
-    leading xs (inr f) one = and_left _ _ f.0
 
 number_value : (n : ℕ) → IsNumber n → digits_value 10 (decimal n) ≡ n
 number_value n small = (decimal_is_IsNumeral n (omega (arith, small))).1

@@ -6,6 +6,7 @@ use Rattle.std.specs.Char.{is_ascii_digit}
 use Rattle.std.specs.Str.Parse.{digits_value}
 use Rattle.segword.specs.declared.key.TheConstants.{KEY_BYTES}
 use Rattle.segword.specs.declared.value.TheConstants.{VALUE_BYTES}
+use Rattle.segscript.specs.Reading.{has_leading_zero}
 use Rattle.segscript.specs.Spelling.{commands, line_parts, named_among}
 use Rattle.segscript.specs.declared.line.Verb.{Verb}
 use Rattle.segscript.specs.declared.reason.LineFault.{LineFault}
@@ -28,9 +29,6 @@ or_else None other = other
 
 abbrev pub are_no_digits : List ℕ → Bool
 are_no_digits word = length word == 0 || not (list_all is_ascii_digit word)
-
-abbrev pub has_leading_zero : List ℕ → Bool
-has_leading_zero word = slice_index word 0 == 48 && nat_lt 1 (length word)
 
 -- the fault of decimal digits that are to be a number below 2^32
 abbrev pub number_fault : List ℕ → Option WordFault

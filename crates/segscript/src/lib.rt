@@ -30,3 +30,4 @@ pub use script::{run_script, serve_script};
 pub use server::Server;
 pub use standard::{ReadSource, WriteSink};
 pub use text::{Line, line_of, put, put_number};
+pub use word::number_below;

@@ -2,7 +2,7 @@
 ghost use Rattle.std.specs.Prelude.{◌≡◌, ◌<◌, map, length};
 ghost use Rattle.std.specs.Char.{is_ascii_digit};
 ghost use Rattle.std.specs.List.{list_all};
-ghost use Rattle.segscript.specs.Reasons.{is_word_byte, are_no_digits, has_leading_zero};
+ghost use Rattle.segscript.specs.Reasons.{is_word_byte, are_no_digits};
 ghost use Rattle.segscript.specs.Reasons.{or_else, number_fault, below_fault};
 ghost use Rattle.segscript.specs.Reasons.{ReturnsNumber, bytes_fault, part_fault, command_fault};
 ghost use Rattle.segscript.specs.Reasons.{word_fault, words_fault, line_fault, extra_fault};
@@ -10,7 +10,7 @@ ghost use Rattle.segscript.specs.Spelling.{commands, line_parts, named_among};
 
 use crate::limits::LINE_BYTES;
 use crate::line::{parts_of, parts_of_line, verb_of};
-use crate::word::number;
+use crate::word::{has_leading_zero, number};
 use segword::{KEY_BYTES, VALUE_BYTES};
 
 /// What a word of a line is to be.
@@ -78,12 +78,6 @@ fn are_no_digits(word: &[u8]) -> bool
     ensures { result ≡ are_no_digits word.now }
 {
     word.is_empty() || !are_digits(word)
-}
-
-fn has_leading_zero(word: &[u8]) -> bool
-    ensures { result ≡ has_leading_zero word.now }
-{
-    word.len() > 1 && word[0] == b'0'
 }
 
 fn are_printable(word: &[u8]) -> bool

@@ -1,30 +1,52 @@
 //! Reads single words of a line.
-ghost use Rattle.std.specs.Prelude.{◌↔◌, decimal, IsTrue};
+ghost use Rattle.std.specs.Prelude.{◌≡◌, ◌↔◌, ◌<◌, ◌≤◌, ◌^◌, decimal, IfSome, IsTrue};
 ghost use Rattle.std.specs.List.{AllByRecursion};
 ghost use Rattle.segscript.specs.Spelling.{IsNumber, IsFrequency, IsKeyWord, IsValueWord};
 ghost use Rattle.segscript.specs.Spelling.{IsPass, IsWordByte, moment_word, pass_word, value_word};
-ghost use Rattle.segscript.specs.Reading.{ReadsAs, BeginsPlainly};
+ghost use Rattle.segscript.specs.Reading.{has_leading_zero, number_below, ReadsAs};
 
 use segword::{Key, Value};
 
-// Whether the word has no plus in front, and no zero in front of more bytes.
-fn begins_plainly(word: &[u8]) -> bool
-    ensures { IsTrue result ↔ BeginsPlainly word.now }
+/// The number that decimal digits write, if it is below this limit.
+/// Zeros in front count for nothing.
+pub fn number_below(digits: &[u8], limit: u64) -> Option<u64>
+    requires limit { (0 < limit) × (limit ≤ 2 ^ 60) }
+    ensures number { result ≡ number_below limit digits.now }
+    ensures below { IfSome result (λ number. number < limit) }
 {
-    !matches!(word, [b'+', ..] | [b'0', _, ..])
+    if digits.is_empty() {
+        return None;
+    }
+    let mut number: u64 = 0;
+    for byte in digits {
+        if !byte.is_ascii_digit() {
+            return None;
+        }
+        let next = number * 10 + u64::from(*byte - b'0');
+        if next >= limit {
+            return None;
+        }
+        number = next;
+    }
+    Some(number)
+}
+
+/// Whether a zero stands in front of more bytes.
+pub(crate) fn has_leading_zero(word: &[u8]) -> bool
+    ensures { result ≡ has_leading_zero word.now }
+{
+    word.len() > 1 && word[0] == b'0'
 }
 
 /// A number below 2^32 in decimal digits, with no leading zero but `0` itself.
 pub fn number(word: &[u8]) -> Option<u32>
     ensures { ReadsAs IsNumber decimal word.now result }
 {
-    if !begins_plainly(word) {
+    if has_leading_zero(word) {
         return None;
     }
-    match str::from_utf8(word) {
-        Ok(text) => text.parse::<u32>().ok(),
-        Err(_) => None,
-    }
+    let number = number_below(word, 1 << 32)?;
+    Some(number as u32)
 }
 
 /// A frequency: a number below 256.

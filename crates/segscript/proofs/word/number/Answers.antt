@@ -1,12 +1,14 @@
-use Rattle.std.proofs.Common.{rules}
-use Rattle.segscript.proofs.Numbers.{ReadsAs-parse, none-not_plain, none-not_utf8}
+use Rattle.std.proofs.Common.{sym, ◌∙◌}
+use Rattle.segscript.proofs.Numbers.{none-decimal, none-plain, some-decimal}
 use Rattle.segscript.proofs.word.number.Goals as goal
 
-pub returns-then-not-begins_plainly : goal.returns-then-not-begins_plainly
-returns-then-not-begins_plainly c = none-not_plain c.args.word.now (search rules)
+pub returns-then-has_leading_zero : goal.returns-then-has_leading_zero
+returns-then-has_leading_zero c = none-plain c.args.word.now (sym c.has_leading_zero.ensures ∙ c.if-has_leading_zero.true)
 
-pub returns-in-Ok : goal.returns-in-Ok
-returns-in-Ok c = rw c.ok.ensures.value (ReadsAs-parse c.args.word.now c.parse.result (search rules) (rw c.in-Ok.ensures.cases.0 at c.parse.ensures.value.0))
+pub returns-in_err-number : goal.returns-in_err-number
+returns-in_err-number c = rw c.from_residual.ensures (none-decimal c.args.word.now (sym c.in_err-number.ensures.number))
 
-pub returns-in-Err : goal.returns-in-Err
-returns-in-Err c = none-not_utf8 c.args.word.now c.in-Err.ensures.cases.0
+pub returns : goal.returns
+returns c =
+    let small = c.in_ok-number.ensures.below in
+    (small, some-decimal c.args.word.now c.in_ok-number.number (sym c.has_leading_zero.ensures ∙ c.if-has_leading_zero.false) (sym c.in_ok-number.ensures.number) small)
