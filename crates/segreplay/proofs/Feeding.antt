@@ -68,14 +68,14 @@ module _ (rules : Rules) (seen : List ℕ) (made : List Assignment) (old new : T
   kept same = ap (λ l. made ++ l) same ∙ here.turns
 
   -- what came, with more bytes
-  whole : (more : List ℕ) → seen ++ more ≡ flat_map ended here.lines ++ (old.line.items ++ more)
-  whole more = ap (λ s. s ++ more) here.splits.whole ∙ append_assoc (flat_map ended here.lines) old.line.items more
+  whole : (more : List ℕ) → seen ++ more ≡ flat_map ended here.lines ++ (old.line ++ more)
+  whole more = ap (λ s. s ++ more) here.splits.whole ∙ append_assoc (flat_map ended here.lines) old.line more
 
   early : (more : List ℕ) → new.turns.items ≡ old.turns.items → EndsEarly rules (seen ++ more) (made ++ new.turns.items)
   early more same = record {
     form = old.form;
     lines = here.lines;
-    after = old.line.items ++ more;
+    after = old.line ++ more;
     requests = here.requests;
     whole = whole more;
     each = here.splits.each;
@@ -83,12 +83,12 @@ module _ (rules : Rules) (seen : List ℕ) (made : List Assignment) (old new : T
     made = kept same;
   }
 
-  bad : (more : List ℕ) (n : ℕ) (why : TraceLineFault) → n ≡ old.number → stated old.form old.line.items ≡ Err why
+  bad : (more : List ℕ) (n : ℕ) (why : TraceLineFault) → n ≡ old.number → stated old.form old.line ≡ Err why
       → new.turns.items ≡ old.turns.items → EndsBad rules (seen ++ more) (made ++ new.turns.items) n why
   bad more n why at none same = record {
     form = old.form;
     lines = here.lines;
-    bad = old.line.items;
+    bad = old.line;
     after = more;
     requests = here.requests;
     whole = whole more;
@@ -101,24 +101,24 @@ module _ (rules : Rules) (seen : List ℕ) (made : List Assignment) (old new : T
   }
 
   -- the lines with the one that has ended now
-  stated_now : (said : Stated) → stated old.form old.line.items ≡ Ok said → new.form ≡ form_after old.form said
-      → State rules.form (here.lines ++ old.line.items ∷ []) (here.requests ++ requests_in said) new.form
+  stated_now : (said : Stated) → stated old.form old.line ≡ Ok said → new.form ≡ form_after old.form said
+      → State rules.form (here.lines ++ old.line ∷ []) (here.requests ++ requests_in said) new.form
   stated_now said one after =
-      subst (State rules.form (here.lines ++ old.line.items ∷ []) (here.requests ++ requests_in said)) (sym after)
-      (state_more rules.form old.form here.lines old.line.items here.requests said here.states one)
+      subst (State rules.form (here.lines ++ old.line ∷ []) (here.requests ++ requests_in said)) (sym after)
+      (state_more rules.form old.form here.lines old.line here.requests said here.states one)
 
   -- the end of a line
   pub line_fed : (end : Result (Unit {0}) TraceFault) → TakesLine old new end → Feeds rules (seen ++ 10 ∷ []) made new end
   line_fed (Ok v) took = record {
-    lines = here.lines ++ old.line.items ∷ [];
+    lines = here.lines ++ old.line ∷ [];
     requests = here.requests ++ requests_in took.0;
     same = took.7 ∙ here.same;
-    splits = subst (Splits (seen ++ 10 ∷ []) (here.lines ++ old.line.items ∷ [])) (sym took.5) (Splits-end seen here.lines old.line.items here.splits);
+    splits = subst (Splits (seen ++ 10 ∷ []) (here.lines ++ old.line ∷ [])) (sym took.5) (Splits-end seen here.lines old.line here.splits);
     short = subst (λ l. length l ≤ 4096) (sym took.5) (omega arith);
     states = stated_now took.0 took.1 took.4;
     turns = taken (requests_in took.0) took.2;
     commands = took.3 ∙ ap (λ n. number_after n (requests_in took.0)) here.commands ∙ sym (after_more 0 here.requests (requests_in took.0));
-    number = took.6 ∙ ap (λ n. with_more n 1) here.number ∙ sym (line_more 1 here.lines old.line.items);
+    number = took.6 ∙ ap (λ n. with_more n 1) here.number ∙ sym (line_more 1 here.lines old.line);
   }
   line_fed (Err (fault.Line n why)) took = bad (10 ∷ []) n why took.0 took.1 took.2
   line_fed (Err fault.OutOfMemory) took = early (10 ∷ []) took
@@ -130,7 +130,7 @@ module _ (rules : Rules) (seen : List ℕ) (made : List Assignment) (old new : T
   line_ended (Ok v) took = record {
     form = new.form;
     lines = here.lines;
-    last = old.line.items;
+    last = old.line;
     requests = here.requests ++ requests_in took.0;
     splits = here.splits;
     states = stated_now took.0 took.1 took.4;
@@ -142,37 +142,33 @@ module _ (rules : Rules) (seen : List ℕ) (made : List Assignment) (old new : T
   line_ended (Err fault.TooLong) took = absurd took
 
   -- a byte of a line
-  pub byte_kept : (byte : ℕ) → byte ≢ 10 → length old.line.items < 4096 → new.rules ≡ old.rules
-      → new.form ≡ old.form → new.line.items ≡ old.line.items ++ byte ∷ [] → new.turns.items ≡ old.turns.items
+  pub byte_kept : (byte : ℕ) → byte ≢ 10 → length old.line < 4096 → new.rules ≡ old.rules
+      → new.form ≡ old.form → new.line ≡ old.line ++ byte ∷ [] → new.turns.items ≡ old.turns.items
       → new.commands ≡ old.commands → new.number ≡ old.number → HasRead rules (seen ++ byte ∷ []) made new
   byte_kept byte other room equal form line turns commands number = record {
     lines = here.lines;
     requests = here.requests;
     same = equal ∙ here.same;
-    splits = subst (Splits (seen ++ byte ∷ []) here.lines) (sym line) (Splits-byte seen here.lines old.line.items byte here.splits other);
-    short = subst (λ l. length l ≤ 4096) (sym line) (let long = length-append old.line.items (byte ∷ []) in omega arith);
+    splits = subst (Splits (seen ++ byte ∷ []) here.lines) (sym line) (Splits-byte seen here.lines old.line byte here.splits other);
+    short = subst (λ l. length l ≤ 4096) (sym line) (let long = length-append old.line (byte ∷ []) in omega arith);
     states = subst (State rules.form here.lines here.requests) (sym form) here.states;
     turns = kept turns;
     commands = commands ∙ here.commands;
     number = number ∙ here.number;
   }
 
-  -- a byte that no memory was left for
-  pub byte_lost : (byte : ℕ) → new.turns.items ≡ old.turns.items → Feeds rules (seen ++ byte ∷ []) made new (Err fault.OutOfMemory)
-  byte_lost byte same = early (byte ∷ []) same
-
   -- a byte too many
-  pub byte_over : (byte : ℕ) → byte ≢ 10 → length old.line.items ≡ 4096 → new.turns.items ≡ old.turns.items → Feeds rules (seen ++ byte ∷ []) made new (Err (fault.Line old.number line_fault.TooLong))
+  pub byte_over : (byte : ℕ) → byte ≢ 10 → length old.line ≡ 4096 → new.turns.items ≡ old.turns.items → Feeds rules (seen ++ byte ∷ []) made new (Err (fault.Line old.number line_fault.TooLong))
   byte_over byte other full same = record {
     form = old.form;
     lines = here.lines;
-    bad = old.line.items ++ byte ∷ [];
+    bad = old.line ++ byte ∷ [];
     after = [];
     requests = here.requests;
-    whole = whole (byte ∷ []) ∙ ap (λ l. flat_map ended here.lines ++ l) (sym (append-nil (old.line.items ++ byte ∷ [])));
+    whole = whole (byte ∷ []) ∙ ap (λ l. flat_map ended here.lines ++ l) (sym (append-nil (old.line ++ byte ∷ [])));
     each = here.splits.each;
-    unbroken = IsLine-append old.line.items (byte ∷ []) here.splits.partial (other, tt);
-    is_bad = inl ((let long = length-append old.line.items (byte ∷ []) in omega arith), refl);
+    unbroken = IsLine-append old.line (byte ∷ []) here.splits.partial (other, tt);
+    is_bad = inl ((let long = length-append old.line (byte ∷ []) in omega arith), refl);
     states = here.states;
     made = kept same;
     number = here.number;
@@ -186,7 +182,7 @@ pub stopped : (rules : Rules) (seen : List ℕ) (made : List Assignment) (r : Tr
 stopped rules seen made r here = record {
   form = r.form;
   lines = here.lines;
-  after = r.line.items;
+  after = r.line;
   requests = here.requests;
   whole = here.splits.whole;
   each = here.splits.each;
@@ -270,7 +266,7 @@ nothing_taken said old is = rw is (sym (append-nil old.turns.items), refl, refl,
 pub header_taken : (said : Stated) (columns : Columns) (old : TracePosition) → said ≡ states.Header columns → TakesStated said old (record old { form = form.Named columns }) (Ok tt)
 header_taken said columns old is = rw is (sym (append-nil old.turns.items), refl, refl, refl, refl)
 
-pub stated_taken : (said : Stated) (old new : TracePosition) (end : Result (Unit {0}) TraceFault) → stated old.form old.line.items ≡ Ok said → TakesStated said old new end → TakesCommand old new end
+pub stated_taken : (said : Stated) (old new : TracePosition) (end : Result (Unit {0}) TraceFault) → stated old.form old.line ≡ Ok said → TakesStated said old new end → TakesCommand old new end
 stated_taken said old new (Ok v) is took = (said, is, took.0, took.1, took.2, took.3, took.4)
 stated_taken said old new (Err fault.OutOfMemory) is took = took
 stated_taken said old new (Err (fault.Line n why)) is took = absurd took

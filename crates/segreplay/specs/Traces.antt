@@ -72,8 +72,8 @@ pub record HasRead (rules : Rules) (seen : List ℕ) (made : List Assignment) (r
   pub lines : List (List ℕ)
   pub requests : List TraceCommand
   pub same : r.rules ≡ rules
-  pub splits : Splits seen lines r.line.items
-  pub short : length r.line.items ≤ 4096
+  pub splits : Splits seen lines r.line
+  pub short : length r.line ≤ 4096
   pub states : State rules.form lines requests r.form
   pub turns : made ++ r.turns.items ≡ turns_from rules 0 requests
   pub commands : r.commands ≡ number_after 0 requests
@@ -141,7 +141,7 @@ TakesStated said old new (Err _) = ⊥
 abbrev pub TakesCommand : TracePosition → TracePosition → Result (Unit {0}) TraceFault → Type 0
 TakesCommand old new (Ok _) =
     (said : Stated)
-    × (stated old.form old.line.items ≡ Ok said)
+    × (stated old.form old.line ≡ Ok said)
     × (new.turns.items ≡ old.turns.items ++ turns_from old.rules old.commands (requests_in said))
     × (new.commands ≡ number_after old.commands (requests_in said))
     × (new.form ≡ form_after old.form said)
@@ -149,7 +149,7 @@ TakesCommand old new (Ok _) =
     × (new.rules ≡ old.rules)
 TakesCommand old new (Err (fault.Line n why)) =
     (n ≡ old.number)
-    × (stated old.form old.line.items ≡ Err why)
+    × (stated old.form old.line ≡ Err why)
     × (new.turns.items ≡ old.turns.items)
 TakesCommand old new (Err fault.OutOfMemory) = new.turns.items ≡ old.turns.items
 TakesCommand old new (Err _) = ⊥
@@ -158,11 +158,11 @@ TakesCommand old new (Err _) = ⊥
 abbrev pub TakesLine : TracePosition → TracePosition → Result (Unit {0}) TraceFault → Type 0
 TakesLine old new (Ok _) =
     (said : Stated)
-    × (stated old.form old.line.items ≡ Ok said)
+    × (stated old.form old.line ≡ Ok said)
     × (new.turns.items ≡ old.turns.items ++ turns_from old.rules old.commands (requests_in said))
     × (new.commands ≡ number_after old.commands (requests_in said))
     × (new.form ≡ form_after old.form said)
-    × (new.line.items ≡ [])
+    × (new.line ≡ [])
     × (new.number ≡ with_more old.number 1)
     × (new.rules ≡ old.rules)
 TakesLine old new (Err f) = TakesCommand old new (Err f)

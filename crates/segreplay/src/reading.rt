@@ -2,7 +2,8 @@
 use crate::fault::TraceFault;
 use crate::line::{Form, Stated, TraceCommand, TraceLineFault, read_line};
 use crate::player::Assignment;
-use std::alloc::{AllocError, Global};
+use segscript::{LineBuffer, Taken};
+use std::alloc::Global;
 
 /// The most bytes of a line.
 const LINE: usize = 4096;
@@ -23,7 +24,7 @@ pub(crate) struct TracePosition {
     // How the next line is written.
     form: Form,
     // The bytes of the line that has no end yet, and its number.
-    line: Vec<u8>,
+    line: LineBuffer<LINE>,
     number: u64,
     /// How many commands were read.
     pub(crate) commands: u64,
@@ -32,22 +33,22 @@ pub(crate) struct TracePosition {
 }
 
 impl TracePosition {
-    ghost use Rattle.std.specs.Prelude.{[], ◌∷◌, IfOk};
+    ghost use Rattle.std.specs.Prelude.{[], ◌∷◌};
     ghost use Rattle.segreplay.specs.Traces.{FeedsMore, HandsOn, HasRead, TakesCommand};
     ghost use Rattle.segreplay.specs.Traces.{TakesLine, TakesStated};
 
     /// Nothing is read yet.
-    pub(crate) fn new(alloc: Global, rules: Rules) -> Result<TracePosition, AllocError>
-        ensures { IfOk result (HasRead rules [] []) }
+    pub(crate) fn new(alloc: Global, rules: Rules) -> TracePosition
+        ensures { HasRead rules [] [] result }
     {
-        Ok(TracePosition {
+        TracePosition {
             rules,
             form: rules.form,
-            line: Vec::with_capacity(alloc, LINE)?,
+            line: LineBuffer::new(),
             number: 1,
             commands: 0,
             turns: Vec::new(alloc),
-        })
+        }
     }
 
     /// Hands on the commands that were read.
@@ -73,15 +74,10 @@ impl TracePosition {
     fn feed(&mut self, byte: u8) -> Result<(), TraceFault>
         ensures { FeedsMore (byte ∷ []) self.old self.new result }
     {
-        if byte == b'\n' {
-            return self.end_line();
-        }
-        if self.line.len() == LINE {
-            return Err(TraceFault::Line(self.number, TraceLineFault::TooLong));
-        }
-        match self.line.push(byte) {
-            Ok(()) => Ok(()),
-            Err(_) => Err(TraceFault::OutOfMemory),
+        match self.line.take(byte) {
+            Taken::Kept => Ok(()),
+            Taken::NoRoom => Err(TraceFault::Line(self.number, TraceLineFault::TooLong)),
+            Taken::End => self.end_line(),
         }
     }
 

@@ -218,9 +218,7 @@ pub fn replay<R: Threads + Sync, S: Source, F: Follow>(
         clients: plan.shape.passes,
         warm: plan.warm,
     };
-    let Ok(reading) = TracePosition::new(alloc, rules) else {
-        return Err(ReplayFault::OutOfMemory);
-    };
+    let reading = TracePosition::new(alloc, rules);
     let crew = Crew {
         rt,
         threads: plan.shape.passes,

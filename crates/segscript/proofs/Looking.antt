@@ -7,7 +7,7 @@ use Rattle.std.proofs.lemmas.List.{length-take-le, take_all, take-append-le}
 use Rattle.segscript.specs.Script.{ended}
 use Rattle.segscript.specs.Reasons.{line_fault, words_fault}
 use Rattle.segscript.specs.Spelling.{line_parts}
-use Rattle.segscript.specs.Explaining.{AreFine, FindsBad, HasFound, HasLooked, HasLookedFor, KeepsByte, Look, look_at, LooksAt, LooksOn}
+use Rattle.segscript.specs.Explaining.{AreFine, FindsBad, HasFound, HasLooked, HasLookedFor, Look, look_at, LooksAt, LooksOn}
 use Rattle.segscript.specs.declared.explain.BadLine.{BadLine}
 use Rattle.segscript.specs.declared.reason.LineFault.{LineFault}
 use Rattle.segscript.specs.declared.reason.LineFault.TheVariants as fault
@@ -57,6 +57,12 @@ kept_full line rest b kept full = by (cases_lt (length rest) KEPT_BYTES)
     by (inr many) = kept ∙ sym (take-append-le KEPT_BYTES rest (b ∷ []) many)
 
 -- ---- one byte more
+
+-- a byte of a line is kept if it is one of the first KEPT_BYTES
+abbrev pub KeepsByte : ℕ → List ℕ → List ℕ → Type 0
+KeepsByte byte old new =
+    ((length old < KEPT_BYTES) × (new ≡ old ++ byte ∷ []))
+    ⊎ ((length old ≡ KEPT_BYTES) × (new ≡ old))
 
 pub byte_looked : (passes : ℕ) (line line' : List ℕ) (number b : ℕ) (seen : List ℕ) → b ≢ 10
     → KeepsByte b line line' → LooksOn (look_at passes line number None) seen

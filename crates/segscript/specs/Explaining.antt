@@ -1,5 +1,5 @@
 -- What a reader finds that looks for the first bad line in the bytes that it hands out.
-use Rattle.std.specs.Prelude.{◌≡◌, ◌⊎◌, ℕ, ◌+◌, ◌%◌, ◌^◌, ◌<◌, List, [], ◌∷◌, ◌++◌, length, take, Option, Some, None, refl}
+use Rattle.std.specs.Prelude.{◌≡◌, ◌⊎◌, ℕ, ◌+◌, ◌%◌, ◌^◌, List, [], ◌∷◌, ◌++◌, length, take, Option, Some, None, refl}
 use Rattle.std.specs.List.{flat_map, AllByRecursion}
 use Rattle.std.proofs.Common.{append_assoc, append-nil, sym, ◌∙◌, subst}
 use Rattle.segscript.specs.Reasons.{line_fault}
@@ -59,12 +59,6 @@ look_at passes line number bad = record {
   number = number;
   bad = bad;
 }
-
--- A byte of a line is kept if it is one of the first KEPT_BYTES.
-abbrev pub KeepsByte : ℕ → List ℕ → List ℕ → Type 0
-KeepsByte byte old new =
-    ((length old < KEPT_BYTES) × (new ≡ old ++ byte ∷ []))
-    ⊎ ((length old ≡ KEPT_BYTES) × (new ≡ old))
 
 -- The reader has looked at these bytes, and no line of them that has its end has a fault.
 -- Of the line without an end it keeps the first KEPT_BYTES bytes, which have the line's fault.

@@ -1,13 +1,13 @@
 //! A reader that looks at what it hands out, for the first bad line of a script.
 ghost use Rattle.std.specs.Prelude.{◌≡◌, ◌∷◌, [], ℕ, List, None, MatchOption};
-ghost use Rattle.segscript.specs.Explaining.{FindsBad, HasLooked, KeepsByte, look_at};
+ghost use Rattle.segscript.specs.Explaining.{FindsBad, HasLooked, look_at};
 ghost use Rattle.segscript.specs.Explaining.{looks_more, looks_none, LooksAt};
 ghost use Rattle.segscript.specs.Reasons.{line_fault};
 
 use crate::device::{Failed, Source};
 use crate::limits::KEPT_BYTES;
+use crate::line_buffer::{LineBuffer, Taken};
 use crate::reason::{LineFault, line_fault};
-use arrayvec::ArrayVec;
 
 /// The first bad line of a script, and its first fault. Lines are counted from 1.
 #[derive(Clone, Copy, Debug, PartialEq, Eq)]
@@ -22,7 +22,7 @@ pub struct Explaining<R: Source> {
     inner: R,
     passes: u32,
     // The line that has no end yet: its first bytes, and its number modulo 2^64.
-    line: ArrayVec<u8, KEPT_BYTES>,
+    line: LineBuffer<KEPT_BYTES>,
     number: u64,
     bad: Option<BadLine>,
 }
@@ -33,12 +33,12 @@ impl<R: Source> Explaining<R> {
         ensures inner { result.inner ≡ inner }
         ensures passes { result.passes ≡ passes }
         ensures looked { HasLooked
-            (look_at result.passes result.line.items result.number result.bad) [] }
+            (look_at result.passes result.line result.number result.bad) [] }
     {
         Explaining {
             inner,
             passes,
-            line: ArrayVec::new(),
+            line: LineBuffer::new(),
             number: 1,
             bad: None,
         }
@@ -47,7 +47,7 @@ impl<R: Source> Explaining<R> {
     /// The first bad line of what was handed out. What has no end yet counts as a line.
     pub fn bad_line(&self) -> Option<BadLine>
         ensures { (seen : List ℕ) → HasLooked
-            (look_at self.now.passes self.now.line.items self.now.number self.now.bad) seen
+            (look_at self.now.passes self.now.line self.now.number self.now.bad) seen
             → FindsBad self.now.passes seen result }
     {
         if self.bad.is_some() {
@@ -59,8 +59,8 @@ impl<R: Source> Explaining<R> {
     // The fault of the line that has no end yet, as if it ended here.
     fn fault_of_line(&self) -> Option<BadLine>
         ensures { MatchOption result
-            (line_fault self.now.passes self.now.line.items ≡ None)
-            (λ bad. (line_fault self.now.passes self.now.line.items ≡ Some bad.fault)
+            (line_fault self.now.passes self.now.line ≡ None)
+            (λ bad. (line_fault self.now.passes self.now.line ≡ Some bad.fault)
             × (bad.number ≡ self.now.number)) }
     {
         let fault = line_fault(self.line.as_slice(), self.passes)?;
@@ -75,40 +75,27 @@ impl<R: Source> Explaining<R> {
         requires none { self.old.bad ≡ None }
         ensures inner { self.new.inner ≡ self.old.inner }
         ensures looks { LooksAt
-            (look_at self.old.passes self.old.line.items self.old.number self.old.bad)
+            (look_at self.old.passes self.old.line self.old.number self.old.bad)
             (byte ∷ [])
-            (look_at self.new.passes self.new.line.items self.new.number self.new.bad) }
+            (look_at self.new.passes self.new.line self.new.number self.new.bad) }
     {
-        if byte != b'\n' {
-            self.keep(byte);
-            return;
+        match self.line.take(byte) {
+            Taken::Kept => return,
+            Taken::NoRoom => return,
+            Taken::End => {}
         }
         self.bad = self.fault_of_line();
         self.line.clear();
         self.number = self.number.wrapping_add(1);
     }
 
-    // Keeps a byte of the line, if it is one of the first `KEPT_BYTES`.
-    fn keep(&mut self, byte: u8)
-        ensures inner { self.new.inner ≡ self.old.inner }
-        ensures passes { self.new.passes ≡ self.old.passes }
-        ensures number { self.new.number ≡ self.old.number }
-        ensures bad { self.new.bad ≡ self.old.bad }
-        ensures line { KeepsByte byte self.old.line.items self.new.line.items }
-    {
-        if self.line.is_full() {
-            return;
-        }
-        self.line.push(byte);
-    }
-
     // Looks at the next bytes of the script, until a bad line is found.
     fn look_at_all(&mut self, bytes: &[u8])
         ensures inner { self.new.inner ≡ self.old.inner }
         ensures looks { LooksAt
-            (look_at self.old.passes self.old.line.items self.old.number self.old.bad)
+            (look_at self.old.passes self.old.line self.old.number self.old.bad)
             bytes.now
-            (look_at self.new.passes self.new.line.items self.new.number self.new.bad) }
+            (look_at self.new.passes self.new.line self.new.number self.new.bad) }
     {
         for byte in bytes {
             if self.bad.is_some() {
@@ -121,8 +108,8 @@ impl<R: Source> Explaining<R> {
 
 impl<R: Source> Source for Explaining<R> {
     ghost hands = { λ old bytes new. R.hands old.inner bytes new.inner
-        × LooksAt (look_at old.passes old.line.items old.number old.bad) bytes
-        (look_at new.passes new.line.items new.number new.bad) };
+        × LooksAt (look_at old.passes old.line old.number old.bad) bytes
+        (look_at new.passes new.line new.number new.bad) };
 
     ghost is_at_end = { λ s. R.is_at_end s.inner };
 
@@ -142,13 +129,13 @@ impl<R: Source> Source for Explaining<R> {
 
     ghost hands_none = { λ s. (
       R.hands_none s.inner,
-      looks_none (look_at s.passes s.line.items s.number s.bad),
+      looks_none (look_at s.passes s.line s.number s.bad),
     ) };
 
     ghost hands_more = { λ s t u a b first then. (
       R.hands_more s.inner t.inner u.inner a b first.0 then.0,
-      looks_more (look_at s.passes s.line.items s.number s.bad)
-          (look_at t.passes t.line.items t.number t.bad)
-          (look_at u.passes u.line.items u.number u.bad) a b first.1 then.1,
+      looks_more (look_at s.passes s.line s.number s.bad)
+          (look_at t.passes t.line t.number t.bad)
+          (look_at u.passes u.line u.number u.bad) a b first.1 then.1,
     ) };
 }

@@ -11,7 +11,7 @@ use crate::engine::Engine;
 use crate::fault::RunFault;
 use crate::limits::LINE_BYTES;
 use crate::line::{read_line, reply_of};
-use arrayvec::ArrayVec;
+use crate::line_buffer::{LineBuffer, Taken};
 
 /// One more than the number of bytes that a script can have.
 const LIMIT: u64 = 1 << 63;
@@ -22,7 +22,7 @@ const PIECE: usize = 4096;
 /// The line whose end has not come yet: its bytes so far, and its number.
 #[derive(Drop)]
 struct OpenLine {
-    bytes: ArrayVec<u8, LINE_BYTES>,
+    bytes: LineBuffer<LINE_BYTES>,
     number: u64,
 }
 
@@ -37,7 +37,7 @@ impl OpenLine {
         ensures ready { E.is_ready engine.new }
         ensures outcome { LineOutcome (E.shape engine.old).passes E.turns engine.old engine.new
             (λ text. W.takes writer.old text writer.new)
-            self.now.bytes.items self.now.number result }
+            self.now.bytes self.now.number result }
         ensures failed { W.has_failed writer.new ≡ is_write_fault result }
         ensures flushes { W.flushes writer.new ≡ W.flushes writer.old }
         ensures no_read { is_read_fault result ≡ false }
@@ -71,21 +71,19 @@ impl OpenLine {
         ensures ready { E.is_ready engine.new }
         ensures outcome { (start : E) (seen told : List ℕ) →
             HasServed (E.shape engine.old).passes E.turns start engine.old seen told
-            self.old.bytes.items self.old.number →
+            self.old.bytes self.old.number →
             FeedOutcome (E.shape engine.old).passes E.turns start engine.new
             (λ text. W.takes writer.old text writer.new)
-            (seen ++ byte ∷ []) told self.new.bytes.items self.new.number result }
+            (seen ++ byte ∷ []) told self.new.bytes self.new.number result }
         ensures failed { W.has_failed writer.new ≡ is_write_fault result }
         ensures flushes { W.flushes writer.new ≡ W.flushes writer.old }
         ensures no_read { is_read_fault result ≡ false }
         ensures made { is_make_fault result ≡ false }
     {
-        if byte != b'\n' {
-            if self.bytes.is_full() {
-                return Err(RunFault::Line(self.number));
-            }
-            self.bytes.push(byte);
-            return Ok(());
+        match self.bytes.take(byte) {
+            Taken::Kept => return Ok(()),
+            Taken::NoRoom => return Err(RunFault::Line(self.number)),
+            Taken::End => {}
         }
         match self.serve(engine, writer) {
             Ok(()) => {
@@ -112,10 +110,10 @@ impl OpenLine {
         ensures ready { E.is_ready engine.new }
         ensures outcome { (start : E) (seen told : List ℕ) →
             HasServed (E.shape engine.old).passes E.turns start engine.old seen told
-            self.old.bytes.items self.old.number →
+            self.old.bytes self.old.number →
             FeedOutcome (E.shape engine.old).passes E.turns start engine.new
             (λ text. W.takes writer.old text writer.new)
-            (seen ++ bytes.now) told self.new.bytes.items self.new.number result }
+            (seen ++ bytes.now) told self.new.bytes self.new.number result }
         ensures failed { W.has_failed writer.new ≡ is_write_fault result }
         ensures flushes { W.flushes writer.new ≡ W.flushes writer.old }
         ensures no_read { is_read_fault result ≡ false }
@@ -136,7 +134,7 @@ impl OpenLine {
         ensures ready { E.is_ready engine.new }
         ensures outcome { (start : E) (seen told : List ℕ) →
             HasServed (E.shape engine.old).passes E.turns start engine.old seen told
-            self.now.bytes.items self.now.number →
+            self.now.bytes self.now.number →
             FinishOutcome (E.shape engine.old).passes E.turns start engine.new
             (λ text. W.takes writer.old text writer.new)
             (W.flushes writer.old) (W.flushes writer.new) seen told result }
@@ -165,7 +163,7 @@ fn read_piece<R: Source, W: Sink, E: Engine>(
     requires works { R.has_failed reader.old ≡ false }
     requires room { 0 < length piece.old }
     requires replied { AllReplied (E.shape _engine.now).passes E.turns R.hands W.takes _engine.now
-        reader.old _writer.now _line.now.bytes.items _line.now.number }
+        reader.old _writer.now _line.now.bytes _line.now.number }
     ensures count { IfOk result (λ n. n ≤ length piece.new) }
     ensures bytes { IfOk result (λ n. R.hands reader.old (take n piece.new) reader.new) }
     ensures end { IfOk result (λ n. n ≡ 0 → R.is_at_end reader.new) }
@@ -201,7 +199,7 @@ pub fn run<R: Source, W: Sink, E: Engine>(
     ensures ends { EndsOnce (R.ends reader.old) (R.ends reader.new) result }
 {
     let mut line = OpenLine {
-        bytes: ArrayVec::new(),
+        bytes: LineBuffer::new(),
         number: 1,
     };
     let mut piece = [0u8; PIECE];

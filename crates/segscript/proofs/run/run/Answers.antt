@@ -41,10 +41,10 @@ pub returns-in-Err-clause-outcome : goal.returns-in-Err-clause-outcome
 returns-in-Err-clause-outcome g c =
     let going = c.loop-total.invariant.going in
     let outcome = at_passes _ _ (ap (λ (s : Shape). s.passes) c.loop-total.invariant.shape) _ c.args.engine.now
-    c.loop-total.engine c.feed_all.new.engine _ _ c.feed_all.new.self.bytes.items _ c.feed_all.new.self.number _
+    c.loop-total.engine c.feed_all.new.engine _ _ c.feed_all.new.self.bytes _ c.feed_all.new.self.number _
     (Err c.in-Err.fault) c.in-Err.ensures.outcome in
     ends_fed _ _ _ g.R.Source.hands g.met.R.Source.hands_more g.W.Sink.takes g.met.W.Sink.takes_more
-    g.W.Sink.flushes _ c.feed_all.new.engine _ _ _ _ _ _ _ _ c.feed_all.new.self.bytes.items _
+    g.W.Sink.flushes _ c.feed_all.new.engine _ _ _ _ _ _ _ _ c.feed_all.new.self.bytes _
     c.feed_all.new.self.number _ _ (g.R.Source.is_at_end c.read_piece.new.reader) c.in-Err.fault going
     (c.in-Err.ensures.flushes ∙ c.loop-total.invariant.unflushed)
     c.in-Ok.ensures.bytes (take-append-le c.in-Ok.n _ _ c.in-Ok.ensures.count) (outcome _ _ going.here)

@@ -14,7 +14,7 @@ invariant-loop-total g l = record {
   most : l.total ≤ 2 ^ 63;
   buffer : length l.piece ≡ 4096;
   going : Going (g.E.Engine.shape l.fn.engine).passes g.E.Engine.turns l.fn.engine l.engine g.R.Source.hands
-      g.W.Sink.takes l.fn.reader l.reader l.fn.writer l.writer l.total l.line.bytes.items l.line.number;
+      g.W.Sink.takes l.fn.reader l.reader l.fn.writer l.writer l.total l.line.bytes l.line.number;
 }
 
 abbrev pub decreases-loop-total : goal.decreases-loop-total

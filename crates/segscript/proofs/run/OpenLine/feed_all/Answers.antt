@@ -18,9 +18,9 @@ pub returns-in-Err-clause-outcome : goal.returns-in-Err-clause-outcome
 returns-in-Err-clause-outcome g c = λ start seen told here.
     let fed = c.loop-byte.invariant.fed start seen told here in
     let outcome = at_passes _ _ (ap (λ (s : Shape). s.passes) c.loop-byte.invariant.shape) _ start
-    c.loop-byte.engine c.feed.new.engine _ _ c.feed.new.self.bytes.items _ c.feed.new.self.number _
+    c.loop-byte.engine c.feed.new.engine _ _ c.feed.new.self.bytes _ c.feed.new.self.number _
     (Err c.in-Err.fault) c.in-Err.ensures.outcome in
-    fault_later _ _ start g.W.Sink.takes g.met.W.Sink.takes_more _ _ _ seen told _ _ _ _ _ c.feed.new.engine _ c.feed.new.self.bytes.items _ c.feed.new.self.number c.in-Err.fault fed
+    fault_later _ _ start g.W.Sink.takes g.met.W.Sink.takes_more _ _ _ seen told _ _ _ _ _ c.feed.new.engine _ c.feed.new.self.bytes _ c.feed.new.self.number c.in-Err.fault fed
     (cut_at c.args.bytes.now c.loop-byte.byte-index c.loop-byte-test.true) (outcome _ _ fed.here)
 
 pub loop-byte-preserved : goal.loop-byte-preserved

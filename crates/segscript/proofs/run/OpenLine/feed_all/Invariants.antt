@@ -10,6 +10,6 @@ invariant-loop-byte g l = record {
   shape : g.E.Engine.shape l.engine ≡ g.E.Engine.shape l.fn.engine;
   ready : g.E.Engine.is_ready l.engine;
   few : l.self.number ≤ l.fn.self.number + l.byte-index;
-  fed : (start : g.row.E.Denot) (seen told : List ℕ) → HasServed (g.E.Engine.shape l.fn.engine).passes g.E.Engine.turns start l.fn.engine seen told l.fn.self.bytes.items l.fn.self.number →
-      Fed (g.E.Engine.shape l.fn.engine).passes g.E.Engine.turns start g.W.Sink.takes l.fn.writer seen told (take l.byte-index l.bytes) l.writer l.engine l.self.bytes.items l.self.number;
+  fed : (start : g.row.E.Denot) (seen told : List ℕ) → HasServed (g.E.Engine.shape l.fn.engine).passes g.E.Engine.turns start l.fn.engine seen told l.fn.self.bytes l.fn.self.number →
+      Fed (g.E.Engine.shape l.fn.engine).passes g.E.Engine.turns start g.W.Sink.takes l.fn.writer seen told (take l.byte-index l.bytes) l.writer l.engine l.self.bytes l.self.number;
 }

@@ -5,7 +5,7 @@ use Rattle.segscript.proofs.run.OpenLine.finish.Goals as goal
 
 pub returns-in-Err-clause-outcome : goal.returns-in-Err-clause-outcome
 returns-in-Err-clause-outcome g c = λ start seen told here.
-    finish-fault _ _ start _ c.serve.new.engine _ _ _ seen told c.args.self.now.bytes.items c.args.self.now.number c.in-Err.fault c.in-Err.ensures.flushes here c.in-Err.ensures.outcome
+    finish-fault _ _ start _ c.serve.new.engine _ _ _ seen told c.args.self.now.bytes c.args.self.now.number c.in-Err.fault c.in-Err.ensures.flushes here c.in-Err.ensures.outcome
 
 pub returns-in-Ok-clause-outcome : goal.returns-in-Ok-clause-outcome
 returns-in-Ok-clause-outcome g c = λ start seen told here.
