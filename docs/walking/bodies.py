@@ -314,16 +314,28 @@ class Body(Calls):
         found = self.own if path == ["Self"] else self.resolve(path)
         return found if isinstance(found, Type) else UNKNOWN
 
+    def matches(self):
+        """What `matches!` compares, and the condition behind its pattern."""
+        outer, self.reader = self.reader, Reader(self.reader.group())
+        kind = self.expression()
+        self.reader.take(",")
+        pattern = self.reader.until("if")
+        self.bind(Reader(pattern), kind)
+        if self.reader.take("if"):
+            self.expression()
+        self.reader = outer
+        return Type("bool")
+
     def macro(self, name):
         reader = self.reader
-        if name in ("matches", "assert", "debug_assert", "vec", "assert_eq", "format", "write", "writeln", "println"):
+        if name == "matches":
+            return self.matches()
+        if name in ("assert", "debug_assert", "vec", "assert_eq", "format", "write", "writeln", "println"):
             outer, self.reader = self.reader, Reader(reader.group())
             self.reader.take("in")
             kinds = []
             while self.reader.peek():
                 kinds.append(self.expression())
-                if name == "matches":
-                    break
                 self.reader.until(",", ";")
                 self.reader.take(",", ";")
             self.reader = outer

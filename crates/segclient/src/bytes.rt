@@ -142,7 +142,7 @@ impl Member {
         told
     }
 
-    // Counts a put that was answered so and took this effort, and what is cleared then.
+    // Counts a put that was answered so and took this effort. It ends as a write does.
     #[inline(always)]
     fn end_put(&mut self, index: &Index, key: &Key, told: PutAnswer, effort: Effort)
         requires member { IsMember index.now self.old }

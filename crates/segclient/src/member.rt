@@ -223,7 +223,8 @@ impl Member {
         )
     }
 
-    // Counts a write that was answered so, and what is cleared then.
+    // Counts a write that was answered so. Once it is stored, some rows are cleared,
+    // and that is counted, too.
     #[inline(always)]
     pub(crate) fn end_write(
         &mut self,

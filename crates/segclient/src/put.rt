@@ -54,7 +54,7 @@ impl PutAnswer {
 // How often a set is made again while it is busy.
 const TRIES: u32 = 16;
 
-// A set. It leaves the row that the key had before.
+// A set. It stores in `replaced` which row the key had before.
 #[inline(always)]
 fn set_once(
     index: &Index,
@@ -76,7 +76,7 @@ fn set_once(
     told
 }
 
-// A set, made again while it is busy. It leaves the row that the key had before.
+// A set, made again while it is busy. It stores in `replaced` which row the key had before.
 #[inline(always)]
 fn set_while_busy(
     index: &Index,

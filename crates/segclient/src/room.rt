@@ -126,9 +126,9 @@ fn keep_rows(index: &Index, pass: &mut Pass, segment: u32, cutoff: u8) -> u32
     kept
 }
 
-// Clears the segment that is next in turn, so that the next time it can be refilled at once:
-// what was read often is moved into the one that the pass stores into, and the rest evicted,
-// as far as each comes about. It stays next. One that the pass stores into is left.
+// Clears the segment that is next in turn, so that the next time it can be refilled at once.
+// What was read often is moved into the one that the pass stores into, and the rest is evicted,
+// unless others are in the way. It stays next. One that the pass stores into is left.
 pub(crate) fn clear_next(index: &Index, pass: &mut Pass, ring: &Ring, cutoff: u8) -> Effort
     requires quiet { IsQuiet (board_of index.now) pass.old }
     requires own { IsOwnRing (shape_of index.now) (number pass.old) ring.now }
@@ -202,8 +202,8 @@ fn is_source(source: Option<Source>, segment: u32) -> bool
     }
 }
 
-// Refills the free segment that was evicted before the others, for puts, and says whether that
-// came about. One that is held comes last. The one that is being cleared is left.
+// Refills the free segment that was evicted before the others, for puts, and returns whether it
+// could. One that is held comes last. The one that is being cleared is left.
 pub(crate) fn take_free(
     index: &Index,
     pass: &mut Pass,
