@@ -17,7 +17,7 @@ use crate::fault::{ProgramFault, print};
 use crate::note::report_explained;
 use crate::progress::{Followed, Watch, Watched};
 use crate::replayed::{plan_of, text_of_replay};
-use crate::status::Status;
+use crate::status::ExitStatus;
 use crate::streams::Streams;
 use crate::totals::text_in;
 use segload::{LoadFault, OpenGate, Totals, run_crowd};
@@ -278,7 +278,7 @@ fn conclude<W: Sink, E: Sink>(
         (output E.Sink errors.old errors.new) command.now end result }
 {
     match end {
-        Ok(()) => Status::Done.code(),
+        Ok(()) => ExitStatus::Done.code(),
         Err(fault) => report_explained(command, fault, writer, errors),
     }
 }

@@ -4,7 +4,7 @@ ghost use Rattle.segcli.specs.Streams.{output};
 ghost use Rattle.segcli.specs.Faults.{fault_line, fault_status};
 ghost use Rattle.segcli.specs.Printing.{PrintOutcome, IsPrinted, IsFlushed, WasFlushed};
 
-use crate::status::Status;
+use crate::status::ExitStatus;
 use segindex::MakeFault;
 use segload::LoadFault;
 use segreplay::{ReplayFault, TraceFault, TraceLineFault};
@@ -119,13 +119,13 @@ impl ProgramFault {
             ProgramFault::BadLine(_)
             | ProgramFault::BadRow(_, _)
             | ProgramFault::BadWord
-            | ProgramFault::BadArguments => Status::BadInput.code(),
+            | ProgramFault::BadArguments => ExitStatus::BadInput.code(),
             ProgramFault::BadShape(_)
             | ProgramFault::OutOfMemory
             | ProgramFault::Read
             | ProgramFault::Write
             | ProgramFault::TooLong
-            | ProgramFault::Stopped(_) => Status::Failed.code(),
+            | ProgramFault::Stopped(_) => ExitStatus::Failed.code(),
         }
     }
 

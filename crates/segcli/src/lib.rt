@@ -34,5 +34,5 @@ pub use progress::{NoWatch, Watch, progress_line, replay_line};
 pub use segload::Totals;
 pub use segreplay::CacheTotals;
 pub use stats::{Pace, stats_text};
-pub use status::Status;
+pub use status::ExitStatus;
 pub use streams::Streams;

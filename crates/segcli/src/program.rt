@@ -11,7 +11,7 @@ use crate::arguments::{Refusal, read_command};
 use crate::command::{Host, carry_out};
 use crate::fault::{ProgramFault, print_after, report};
 use crate::progress::{NoWatch, Watch};
-use crate::status::Status;
+use crate::status::ExitStatus;
 use crate::streams::Streams;
 use segscript::{Sink, Source};
 use std::alloc::{AllocGlobal, Global};
@@ -115,7 +115,7 @@ fn refuse<W: Sink, E: Sink>(refusal: &Refusal, writer: &mut W, errors: &mut E) -
         Refusal::Usage(text) => {
             let _ = writer.flush();
             print_after(writer, errors, text.as_str().as_bytes());
-            Status::BadInput.code()
+            ExitStatus::BadInput.code()
         }
         Refusal::OutOfMemory => report(ProgramFault::OutOfMemory, writer, errors),
     }

@@ -4,7 +4,7 @@ ghost use Rattle.segcli.specs.Statuses.{status_code};
 
 /// How the program ended.
 #[derive(Clone, Copy, Debug, PartialEq, Eq)]
-pub enum Status {
+pub enum ExitStatus {
     /// It did what it was asked for.
     Done,
     /// A line, a word or the command line is bad.
@@ -13,15 +13,15 @@ pub enum Status {
     Failed,
 }
 
-impl Status {
+impl ExitStatus {
     /// The exit status.
     pub fn code(self) -> u8
         ensures { result ≡ status_code self }
     {
         match self {
-            Status::Done => 0,
-            Status::BadInput => 2,
-            Status::Failed => 3,
+            ExitStatus::Done => 0,
+            ExitStatus::BadInput => 2,
+            ExitStatus::Failed => 3,
         }
     }
 }

@@ -20,7 +20,7 @@ use Rattle.segindex.specs.Sharing.{ReadsKept, ReleasesKept}
 use Rattle.segindex.specs.Words.{board_of, Index, shape_of}
 use Rattle.segindex.proofs.UnnamedRows.{unnamed_stay}
 use Rattle.segtally.specs.Rings.{IsOwnRing}
-use Rattle.segclient.specs.declared.segments.Source.{Source}
+use Rattle.segclient.specs.declared.segments.SourceSegment.{SourceSegment}
 use Rattle.segclient.specs.declared.member.Member.{Member}
 use Rattle.segclient.specs.declared.put.PutAnswer.{PutAnswer}
 use Rattle.segclient.specs.declared.put.PutAnswer.TheVariants as put
@@ -34,7 +34,7 @@ use Rattle.segclient.proofs.Left.{several_then}
 
 -- whatever is being cleared
 abbrev pub StaysCleared : Shape → Pass → Pass → Type 0
-StaysCleared shape p q = (source : Option Source) → IsCleared shape source p → IsCleared shape source q
+StaysCleared shape p q = (source : Option SourceSegment) → IsCleared shape source p → IsCleared shape source q
 
 pub stays_same : (shape : Shape) (p q : Pass) → q ≡ p → StaysCleared shape p q
 stays_same shape p q same = λ source cleared. subst (IsCleared shape source) (sym same) cleared
@@ -44,8 +44,8 @@ stays_then shape p q r one then = λ source cleared. then source (one source cle
 
 module _ (b : Board) (p q : Pass) (quiet : IsQuiet b p) (on : GoesOn b p q) where
   -- the source that is cleared isn't among what is refilled
-  pub source_stays : (source : Option Source) (added : List Entry) → mine q ≡ added ++ mine p
-      → ((one : Source) → source ≡ Some one → NoneFills one.segment added) → IsCleared b.shape source p
+  pub source_stays : (source : Option SourceSegment) (added : List Entry) → mine q ≡ added ++ mine p
+      → ((one : SourceSegment) → source ≡ Some one → NoneFills one.segment added) → IsCleared b.shape source p
       → IsCleared b.shape source q
   source_stays None added is none cleared = tt
   source_stays (Some source) added is none cleared = let way = way_kept b p q source.segment added quiet on is (none source refl) cleared.0 source.row cleared.1 in (
@@ -99,8 +99,8 @@ module _ (b : Board) (p q : Pass) (quiet : IsQuiet b p) where
   hold_stays key now hold_answer.AlreadyHolding holds = stays_same b.shape p q holds.answer
 
   -- a refill of another segment
-  pub refill_stays : (segment deadline : ℕ) (told : RefillAnswer) (source : Option Source)
-      → ((one : Source) → source ≡ Some one → one.segment ≢ segment) → RefillsSegment b segment deadline told p q
+  pub refill_stays : (segment deadline : ℕ) (told : RefillAnswer) (source : Option SourceSegment)
+      → ((one : SourceSegment) → source ≡ Some one → one.segment ≢ segment) → RefillsSegment b segment deadline told p q
       → IsCleared b.shape source p → IsCleared b.shape source q
   refill_stays segment deadline refill.Refilled source other filled =
       source_stays b p q quiet filled.on source (Refilled (number p) segment deadline ∷ []) filled.answer.entry

@@ -21,7 +21,7 @@ use Rattle.segevict.proofs.Naming.{unnamed}
 use Rattle.segevict.proofs.StoredRows.{of_row}
 use Rattle.segevict.proofs.Tiles.{IsRowFrom, item_of, rows_at, start_at}
 use Rattle.segindex.proofs.UnnamedRows.{own_events}
-use Rattle.segclient.specs.declared.segments.Source.{Source}
+use Rattle.segclient.specs.declared.segments.SourceSegment.{SourceSegment}
 use Rattle.segclient.specs.Clearing.{comes_to, IsCleared}
 use Rattle.segclient.proofs.Left.{if_several, of_several, one_alone, one_several}
 
@@ -189,7 +189,7 @@ module _ (b : Board) (q : Pass) (segment row : ℕ) (quiet : IsQuiet b q) (are :
       (way_more h segment (row + span) (suc row) (span - 1) 0 (way_over h segment row row 0 way))
 
 -- so the clearing goes on behind them
-pub cleared_behind : (b : Board) (q : Pass) (source : Source) (rows : ℕ) → IsQuiet b q → owner b.shape source.segment ≡ number q
+pub cleared_behind : (b : Board) (q : Pass) (source : SourceSegment) (rows : ℕ) → IsQuiet b q → owner b.shape source.segment ≡ number q
     → AreUnnamed b.shape source.segment (source.row + 1) q → IfSeveral (comes_to (trace q) source.segment source.row source.row 0 ≡ true)
     → IfSeveral (rows ≡ span_in (trace q) source.segment source.row)
     → IsCleared b.shape (Some (record { segment = source.segment; row = source.row + or_one rows })) q

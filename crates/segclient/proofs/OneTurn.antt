@@ -22,7 +22,7 @@ use Rattle.segevict.specs.Words.{AreUnnamed, EvictsItem, HasRow, KeepsItemInto, 
 use Rattle.segindex.specs.Refilling.{RefillsAside}
 use Rattle.segindex.proofs.UnnamedRows.{evicted_is_unnamed, has_row, moved_is_unnamed}
 use Rattle.segtally.specs.Recycling.{evicted_by, refilled_by}
-use Rattle.segclient.specs.declared.segments.Source.{Source}
+use Rattle.segclient.specs.declared.segments.SourceSegment.{SourceSegment}
 use Rattle.segclient.specs.declared.effort.Effort.{Effort}
 use Rattle.segclient.specs.Clearing.{came_to_step, Clears, ClearsAtMost, comes_to, evicts_rest, evicts_row, IsCleared, IsClearing, IsEffortOf, IsStep, keeps_into, looks_at, most_steps_of_turn, refills_aside, Step, TakesRows}
 use Rattle.segclient.specs.PutCalls.{evicted_keys, kept_items, refilled_segments}
@@ -173,7 +173,7 @@ module _ (b : Board) (p q : Pass) (segment row : ℕ) where
     none = ((λ n d is. let no : Moved (number p) key segment k.answer.0 ≡ Refilled n segment d = is in cc), tt);
   }
 
-module _ (b : Board) (source : Source) (p q : Pass) (quiet : IsQuiet b p) (is : IsClearing b.shape source p) where
+module _ (b : Board) (source : SourceSegment) (p q : Pass) (quiet : IsQuiet b p) (is : IsClearing b.shape source p) where
   -- the item is done, and the clearing goes on behind its rows
   abbrev IsDone : ℕ → Type 0
   IsDone rows = IsCleared b.shape (Some (record { segment = source.segment; row = source.row + or_one rows })) q
@@ -236,7 +236,7 @@ module _ (b : Board) (source : Source) (p q : Pass) (quiet : IsQuiet b p) (is : 
   -- another segment was refilled, or refused
   pub opened_stays : (segment deadline : ℕ) (told : RefillAnswer) → source.segment ≢ segment → RefillsAside b segment deadline told p q → IsCleared b.shape (Some source) q
   opened_stays segment deadline refill.Refilled other fills = source_stays b p q quiet fills.on (Some source) (Refilled (number p) segment deadline ∷ []) fills.answer.entry
-      (λ one same. ((λ pass late filled. other (ap (λ (x : Source). x.segment) (same_Some source one same) ∙ sym (refilled_in (number p) pass segment one.segment deadline late filled))), tt))
+      (λ one same. ((λ pass late filled. other (ap (λ (x : SourceSegment). x.segment) (same_Some source one same) ∙ sym (refilled_in (number p) pass segment one.segment deadline late filled))), tt))
       is.0
   opened_stays segment deadline refill.NotYours other fills = stays_same b.shape p q fills.answer (Some source) is.0
   opened_stays segment deadline refill.NotEvicted other fills = stays_same b.shape p q fills.answer (Some source) is.0
@@ -277,7 +277,7 @@ module _ (b : Board) (source : Source) (p q : Pass) (quiet : IsQuiet b p) (is : 
 
 -- ---- a look at how many rows the item takes
 
-module _ (b : Board) (source : Source) (told : ℕ) (p q : Pass) (quiet : IsQuiet b p) (is : IsClearing b.shape source p)
+module _ (b : Board) (source : SourceSegment) (told : ℕ) (p q : Pass) (quiet : IsQuiet b p) (is : IsClearing b.shape source p)
     (several : eqb most_span 1 ≡ false) (tells : TellsSpan b source.segment source.row told p q) where
   look : IsLook b source.segment source.row told p q
   look = told_look b source.segment source.row told p q several tells

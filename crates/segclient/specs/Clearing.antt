@@ -19,7 +19,7 @@ use Rattle.segevict.specs.declared.retention.KeepRowAnswer.TheVariants as kept
 use Rattle.segevict.specs.Rows.{IfSeveral}
 use Rattle.segevict.specs.Words.{AreUnnamed, EvictsItem, EvictsRest, HasRow, KeepsItemInto, TellsSpan}
 use Rattle.segindex.specs.Refilling.{RefillsAside}
-use Rattle.segclient.specs.declared.segments.Source.{Source}
+use Rattle.segclient.specs.declared.segments.SourceSegment.{SourceSegment}
 use Rattle.segclient.specs.declared.effort.Effort.{Effort}
 use Rattle.segclient.specs.PutCalls.{Amount, evicted_keys, kept_items, refilled_segments}
 
@@ -34,7 +34,7 @@ comes_to trace segment to (suc most) from =
 
 -- It is one of the pass's own, and no item names its first rows, up to where the clearing is.
 -- Where items take several rows, no item reaches over that place.
-abbrev pub IsCleared : Shape → Option Source → Pass → Type 0
+abbrev pub IsCleared : Shape → Option SourceSegment → Pass → Type 0
 IsCleared shape None p = Unit {0}
 IsCleared shape (Some source) p =
     (owner shape source.segment ≡ number p)
@@ -42,13 +42,13 @@ IsCleared shape (Some source) p =
     × IfSeveral (comes_to (trace p) source.segment source.row source.row 0 ≡ true)
 
 -- where items take several rows, the item at which the clearing is takes so many
-abbrev pub TakesRows : Source → ℕ → Pass → Type 0
+abbrev pub TakesRows : SourceSegment → ℕ → Pass → Type 0
 TakesRows source rows p = IfSeveral (
     HasRow source.segment source.row p
     → rows ≡ span_in (trace p) source.segment source.row)
 
 -- it isn't the segment that the pass stores into
-abbrev pub IsClearing : Shape → Source → Pass → Type 0
+abbrev pub IsClearing : Shape → SourceSegment → Pass → Type 0
 IsClearing shape source p =
     IsCleared shape (Some source) p × (current_of p ≢ Some source.segment)
 
@@ -65,7 +65,7 @@ unnamed-prop shape segment from p = Π_prop (λ row. Π_prop (λ below. ×_prop
     (triple-prop (λ used. hlevel props) (λ x y at on. same_Some x y (sym at.0 ∙ on.0)))
     (Π_prop (λ named. hlevel props))))
 
-pub IsCleared-prop : (shape : Shape) (source : Option Source) (p : Pass)
+pub IsCleared-prop : (shape : Shape) (source : Option SourceSegment) (p : Pass)
     → IsProp (IsCleared shape source p)
 IsCleared-prop shape None p = Unit-prop
 IsCleared-prop shape (Some source) p = λ x y j. (

@@ -16,7 +16,7 @@ use crate::queues::{
     was_given_up, was_refilled,
 };
 use crate::rows::{last_of, row_behind, rows_left};
-use crate::segments::{Segments, Source};
+use crate::segments::{Segments, SourceSegment};
 use segindex::{EvictRowAnswer, Index, KeepRowAnswer, Pass, RowRef};
 use segqueues::{Queue, Queues};
 use segtally::{evicted_by, refilled_by};
@@ -44,8 +44,8 @@ impl Terms {
 // What a turn came to: where the clearing is then, whether the put has done its part,
 // and in numbers.
 #[derive(Clone, Copy)]
-pub(crate) struct Turn {
-    pub(crate) source: Option<Source>,
+pub(crate) struct ClearingTurn {
+    pub(crate) source: Option<SourceSegment>,
     pub(crate) is_over: bool,
     pub(crate) effort: Effort,
 }
@@ -61,7 +61,7 @@ fn turns_of(queues: &Queues) -> u32
 }
 
 // The item of the source's row is done, which takes so many rows.
-fn next_row(source: Source, rows: u32, effort: Effort) -> Turn
+fn next_row(source: SourceSegment, rows: u32, effort: Effort) -> ClearingTurn
     requires fits { source.row + or_one rows < 2 ^ 32 }
     ensures { result ≡ record {
       source = Some (record { segment = source.segment; row = source.row + or_one rows });
@@ -69,8 +69,8 @@ fn next_row(source: Source, rows: u32, effort: Effort) -> Turn
       effort = effort;
     } }
 {
-    Turn {
-        source: Some(Source {
+    ClearingTurn {
+        source: Some(SourceSegment {
             segment: source.segment,
             row: row_behind(source.row, rows),
         }),
@@ -80,12 +80,12 @@ fn next_row(source: Source, rows: u32, effort: Effort) -> Turn
 }
 
 // The source is left as it is, and comes last in its queue.
-fn leave(index: &Index, queues: &mut Queues, source: Source, effort: Effort) -> Turn
+fn leave(index: &Index, queues: &mut Queues, source: SourceSegment, effort: Effort) -> ClearingTurn
     ensures { result ≡ record { source = None; is_over = true; effort = effort } }
 {
     queues.was_refused(place_of(index, source.segment));
     queues.was_cleared();
-    Turn {
+    ClearingTurn {
         source: None,
         is_over: true,
         effort,
@@ -93,7 +93,12 @@ fn leave(index: &Index, queues: &mut Queues, source: Source, effort: Effort) -> 
 }
 
 // Evicts what is left of the source, of which each used row is done.
-fn end_source(index: &Index, pass: &mut Pass, queues: &mut Queues, source: Source) -> Turn
+fn end_source(
+    index: &Index,
+    pass: &mut Pass,
+    queues: &mut Queues,
+    source: SourceSegment,
+) -> ClearingTurn
     requires quiet { IsQuiet (board_of index.now) pass.old }
     requires clearing { IsClearing (shape_of index.now) source pass.old }
     requires done { AreDone source.segment source.row pass.old }
@@ -107,7 +112,7 @@ fn end_source(index: &Index, pass: &mut Pass, queues: &mut Queues, source: Sourc
     let told = index.evict_rest(pass, source.segment, source.row);
     was_given_up(index, pass, queues, source.segment);
     queues.was_cleared();
-    Turn {
+    ClearingTurn {
         source: None,
         is_over: false,
         effort: Effort {
@@ -134,7 +139,13 @@ fn row_evicted_by(answer: EvictRowAnswer) -> u32
 }
 
 // Evicts the item of the row, which takes so many rows.
-fn evict_one(index: &Index, pass: &mut Pass, queues: &mut Queues, source: Source, rows: u32) -> Turn
+fn evict_one(
+    index: &Index,
+    pass: &mut Pass,
+    queues: &mut Queues,
+    source: SourceSegment,
+    rows: u32,
+) -> ClearingTurn
     requires quiet { IsQuiet (board_of index.now) pass.old }
     requires clearing { IsClearing (shape_of index.now) source pass.old }
     requires spans { TakesRows source rows pass.old }
@@ -169,7 +180,13 @@ struct Move {
 }
 
 // Moves the item of the row if it was read often enough, and else evicts it.
-fn move_one(index: &Index, pass: &mut Pass, queues: &mut Queues, source: Source, to: Move) -> Turn
+fn move_one(
+    index: &Index,
+    pass: &mut Pass,
+    queues: &mut Queues,
+    source: SourceSegment,
+    to: Move,
+) -> ClearingTurn
     requires quiet { IsQuiet (board_of index.now) pass.old }
     requires clearing { IsClearing (shape_of index.now) source pass.old }
     requires spans { TakesRows source to.rows pass.old }
@@ -213,9 +230,9 @@ fn open_main(
     index: &Index,
     pass: &mut Pass,
     queues: &mut Queues,
-    source: Source,
+    source: SourceSegment,
     until: u32,
-) -> Turn
+) -> ClearingTurn
     requires quiet { IsQuiet (board_of index.now) pass.old }
     requires clearing { IsClearing (shape_of index.now) source pass.old }
     requires until { deadline_of pass.old source.segment ≡ Some until }
@@ -226,7 +243,7 @@ fn open_main(
     ensures clears { (cutoff : Option ℕ)
         → ClearsAtMost (board_of index.now) cutoff 1 result.effort pass.old pass.new }
 {
-    let unopened = Turn {
+    let unopened = ClearingTurn {
         source: Some(source),
         is_over: true,
         effort: Effort::none(),
@@ -243,7 +260,7 @@ fn open_main(
     } else {
         was_given_up(index, pass, queues, segment);
     }
-    Turn {
+    ClearingTurn {
         source: Some(source),
         is_over: refilled == 0,
         effort: Effort {
@@ -255,7 +272,7 @@ fn open_main(
 }
 
 // Whether what is in the source can be read still.
-fn is_fresh(pass: &Pass, source: Source, moment: u32) -> bool {
+fn is_fresh(pass: &Pass, source: SourceSegment, moment: u32) -> bool {
     match pass.deadline(source.segment) {
         Some(deadline) => moment < deadline,
         None => false,
@@ -263,7 +280,13 @@ fn is_fresh(pass: &Pass, source: Source, moment: u32) -> bool {
 }
 
 // Whether a free segment can become a main one.
-fn can_open(index: &Index, pass: &Pass, queues: &Queues, source: Source, turns: u32) -> bool {
+fn can_open(
+    index: &Index,
+    pass: &Pass,
+    queues: &Queues,
+    source: SourceSegment,
+    turns: u32,
+) -> bool {
     let rows = rows_left(index, pass);
     let turns = rows.saturating_mul(TURNS).saturating_add(turns);
     let used = pass.used(source.segment).unwrap_or(0);
@@ -275,9 +298,9 @@ fn clear_one_row(
     index: &Index,
     pass: &mut Pass,
     queues: &mut Queues,
-    source: Source,
+    source: SourceSegment,
     terms: Terms,
-) -> Turn
+) -> ClearingTurn
     requires quiet { IsQuiet (board_of index.now) pass.old }
     requires clearing { IsClearing (shape_of index.now) source pass.old }
     requires spans { TakesRows source terms.rows pass.old }
@@ -326,9 +349,9 @@ fn source_of(
     index: &Index,
     pass: &Pass,
     queues: &mut Queues,
-    was: Option<Source>,
+    was: Option<SourceSegment>,
     terms: Terms,
-) -> Option<Source>
+) -> Option<SourceSegment>
     requires quiet { IsQuiet (board_of index.now) pass.now }
     requires cleared { IsCleared (shape_of index.now) was pass.now }
     ensures clearing { IfSome result (λ source. IsClearing (shape_of index.now) source pass.now) }
@@ -343,7 +366,7 @@ fn source_of(
     } else {
         next_expired(index, pass, queues, terms.moment)?
     };
-    Some(Source { segment, row: 0 })
+    Some(SourceSegment { segment, row: 0 })
 }
 
 // Goes over one item of the source, or opens a main segment for what moves from it.
@@ -352,9 +375,9 @@ fn clear_row(
     index: &Index,
     pass: &mut Pass,
     queues: &mut Queues,
-    source: Source,
+    source: SourceSegment,
     terms: Terms,
-) -> Turn
+) -> ClearingTurn
     requires quiet { IsQuiet (board_of index.now) pass.old }
     requires clearing { IsClearing (shape_of index.now) source pass.old }
     ensures on { GoesOn (board_of index.now) pass.old pass.new }
@@ -376,9 +399,9 @@ fn clear_rows(
     index: &Index,
     pass: &mut Pass,
     queues: &mut Queues,
-    was: Option<Source>,
+    was: Option<SourceSegment>,
     terms: Terms,
-) -> Turn
+) -> ClearingTurn
     requires quiet { IsQuiet (board_of index.now) pass.old }
     requires cleared { IsCleared (shape_of index.now) was pass.old }
     ensures on { GoesOn (board_of index.now) pass.old pass.new }
@@ -393,7 +416,7 @@ fn clear_rows(
     let turns = turns_of(queues);
     for tried in 0..turns {
         let Some(next) = source_of(index, pass, queues, source, terms) else {
-            return Turn {
+            return ClearingTurn {
                 source: None,
                 is_over: true,
                 effort,
@@ -407,14 +430,14 @@ fn clear_rows(
         source = turn.source;
         effort = effort.plus(turn.effort);
         if turn.is_over {
-            return Turn {
+            return ClearingTurn {
                 source,
                 is_over: true,
                 effort,
             };
         }
     }
-    Turn {
+    ClearingTurn {
         source,
         is_over: true,
         effort,

@@ -15,7 +15,7 @@ use crate::effort::{Effort, moved_by};
 use crate::queues::{
     first_to_go, oldest as oldest_in, oldest_in_use, round, was_given_up, was_refilled,
 };
-use crate::segments::{Policy, Segments, Source};
+use crate::segments::{Policy, Segments, SourceSegment};
 use segindex::{Index, KeepRowAnswer, Pass};
 use segmodel::{EvictAnswer, RefillAnswer, SegState};
 use segpolicy::Ring;
@@ -193,8 +193,8 @@ pub(crate) fn make_room_in_order(
 }
 
 // Whether the segment is the one that is being cleared.
-fn is_source(source: Option<Source>, segment: u32) -> bool
-    ensures { result ≡ false → (one : Source) → source ≡ Some one → one.segment ≢ segment }
+fn is_source(source: Option<SourceSegment>, segment: u32) -> bool
+    ensures { result ≡ false → (one : SourceSegment) → source ≡ Some one → one.segment ≢ segment }
 {
     match source {
         Some(source) => source.segment == segment,

@@ -6,7 +6,7 @@ use segword::{Key, ValueBytes};
 
 // A segment of the pass that is being cleared. No item names a row of it before this one.
 #[derive(Clone, Copy)]
-pub(crate) struct Source {
+pub(crate) struct SourceSegment {
     pub(crate) segment: u32,
     pub(crate) row: u32,
 }
@@ -18,7 +18,7 @@ pub(crate) struct Source {
 pub(crate) struct Segments {
     pub(crate) ring: Ring,
     pub(crate) queues: Option<Queues>,
-    pub(crate) source: Option<Source>,
+    pub(crate) source: Option<SourceSegment>,
     // The row that the key of the last put had before it, as it seems.
     pub(crate) replaced: Option<RowRef>,
 }

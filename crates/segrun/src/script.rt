@@ -2,7 +2,7 @@
 ghost use Rattle.std.specs.Prelude.{◌≡◌, false};
 
 use crate::progress::Teller;
-use segcli::{Status, Streams, Task, bad_line_text, read_command, run_given, words_of};
+use segcli::{ExitStatus, Streams, Task, bad_line_text, read_command, run_given, words_of};
 use segscript::{Explaining, ReadSource, Source, WriteSink};
 use std::alloc::AllocGlobal;
 use std::fs::File;
@@ -54,7 +54,7 @@ fn run_trace<T: Threads + Wait + AllocGlobal + Sync>(
             Ok(file) => run_from(threads, rt, None, file),
             Err(error) => {
                 let _ = tell_in_a_line(rt, path, &error);
-                Status::Failed.code()
+                ExitStatus::Failed.code()
             }
         },
         _ => run_file(threads, rt, None, None, TRACE_HINT),
@@ -81,7 +81,7 @@ fn run_file<T: Threads + Wait + AllocGlobal + Sync>(
             Ok(file) => run_from(threads, rt, passes, file),
             Err(error) => {
                 let _ = tell_why(rt, path, &error);
-                Status::Failed.code()
+                ExitStatus::Failed.code()
             }
         },
         _ => {
@@ -110,7 +110,7 @@ fn run_from<T: Threads + Wait + AllocGlobal + Sync, R: Read + Drop>(
     };
     let source = Explaining::new(ReadSource::new(input), passes);
     let (status, source) = run_over(threads, rt, source);
-    if status == Status::BadInput.code() {
+    if status == ExitStatus::BadInput.code() {
         explain(rt, &source);
     }
     status

@@ -1,6 +1,6 @@
 use Rattle.std.proofs.Common.{ap, sym, subst, ◌∙◌}
 use Rattle.segindex.specs.Words.{board_of}
-use Rattle.segclient.specs.declared.clearing.Turn.{Turn}
+use Rattle.segclient.specs.declared.clearing.ClearingTurn.{ClearingTurn}
 use Rattle.segclient.specs.Clearing.{IsCleared}
 use Rattle.segclient.proofs.OneTurn.{evicted_clears, evicted_done, evicted_fits}
 use Rattle.segclient.proofs.clearing.evict_one.Goals as goal
@@ -17,7 +17,7 @@ pub returns-in-Evicted-clause-cleared : goal.returns-in-Evicted-clause-cleared
 returns-in-Evicted-clause-cleared c =
     let b = board_of c.args.index.now in
     let told = c.evict_row-told in
-    subst (λ (t : Turn). IsCleared b.shape t.source told.new.pass) (sym c.next_row.ensures)
+    subst (λ (t : ClearingTurn). IsCleared b.shape t.source told.new.pass) (sym c.next_row.ensures)
     (evicted_done b c.args.source c.args.pass.now told.new.pass c.requires.quiet c.requires.clearing c.args.rows c.requires.spans told.result told.ensures.evicts c.in-Evicted.is)
 
 pub returns-in-Evicted-clause-clears : goal.returns-in-Evicted-clause-clears
@@ -25,14 +25,14 @@ returns-in-Evicted-clause-clears c = λ cutoff.
     let told = c.evict_row-told in
     let from = c.args.source in
     evicted_clears (board_of c.args.index.now) from c.args.pass.now told.new.pass c.requires.quiet c.requires.clearing cutoff c.from.result told.result c.next_row.result.effort
-    (ap (λ (t : Turn). t.effort) c.next_row.ensures ∙ c.evicting-effort.ensures) (c.from.ensures ∙ c.row_evicted_by.ensures.value from.segment from.row) told.ensures.evicts
+    (ap (λ (t : ClearingTurn). t.effort) c.next_row.ensures ∙ c.evicting-effort.ensures) (c.from.ensures ∙ c.row_evicted_by.ensures.value from.segment from.row) told.ensures.evicts
 
 pub returns-in-NotYours-clause-cleared : goal.returns-in-NotYours-clause-cleared
-returns-in-NotYours-clause-cleared c = subst (λ (t : Turn). IsCleared (board_of c.args.index.now).shape t.source c.evict_row-told.new.pass) (sym c.leave.ensures) tt
+returns-in-NotYours-clause-cleared c = subst (λ (t : ClearingTurn). IsCleared (board_of c.args.index.now).shape t.source c.evict_row-told.new.pass) (sym c.leave.ensures) tt
 
 pub returns-in-NotYours-clause-clears : goal.returns-in-NotYours-clause-clears
 returns-in-NotYours-clause-clears c = λ cutoff.
     let told = c.evict_row-told in
     let from = c.args.source in
     evicted_clears (board_of c.args.index.now) from c.args.pass.now told.new.pass c.requires.quiet c.requires.clearing cutoff c.from.result told.result c.leave.result.effort
-    (ap (λ (t : Turn). t.effort) c.leave.ensures ∙ c.evicting-effort.ensures) (c.from.ensures ∙ c.row_evicted_by.ensures.value from.segment from.row) told.ensures.evicts
+    (ap (λ (t : ClearingTurn). t.effort) c.leave.ensures ∙ c.evicting-effort.ensures) (c.from.ensures ∙ c.row_evicted_by.ensures.value from.segment from.row) told.ensures.evicts

@@ -1,7 +1,7 @@
 use Rattle.std.proofs.Common.{Some, ap, sym, subst, ◌∙◌, arith}
 use Rattle.segindex.specs.Words.{board_of}
 use Rattle.segevict.proofs.RowsOut.{goes_then}
-use Rattle.segclient.specs.declared.clearing.Turn.{Turn}
+use Rattle.segclient.specs.declared.clearing.ClearingTurn.{ClearingTurn}
 use Rattle.segclient.specs.Clearing.{IsCleared}
 use Rattle.segclient.proofs.OneTurn.{clears_after, kept_clears, left_clears, left_stays, moved_done, moved_fits, takes_still}
 use Rattle.segclient.proofs.clearing.move_one.Goals as goal
@@ -30,7 +30,7 @@ pub returns-in-Moved-clause-cleared : goal.returns-in-Moved-clause-cleared
 returns-in-Moved-clause-cleared c =
     let b = board_of c.args.index.now in
     let told = c.keep_row_into-told in
-    subst (λ (t : Turn). IsCleared b.shape t.source told.new.pass) (sym c.next_row.ensures)
+    subst (λ (t : ClearingTurn). IsCleared b.shape t.source told.new.pass) (sym c.next_row.ensures)
     (moved_done b c.args.source c.args.pass.now told.new.pass c.requires.quiet c.requires.clearing told.result c.cutoff_of-cutoff.result c.args.to.into c.in-Moved.is told.ensures.keeps
     c.args.to.rows c.requires.spans)
 
@@ -41,7 +41,8 @@ returns-in-Moved-clause-clears c =
     let by = c.cutoff_of-cutoff.result in
     kept_clears (board_of c.args.index.now) from c.args.pass.now told.new.pass c.requires.quiet c.requires.clearing
     c.args.to.least c.from.result by c.args.to.into told.result c.next_row.result.effort
-    (ap (λ (t : Turn). t.effort) c.next_row.ensures) (c.from.ensures ∙ c.moved_by.ensures.value_into from.segment from.row by c.args.to.into) c.cutoff_of-cutoff.ensures.enough told.ensures.keeps
+    (ap (λ (t : ClearingTurn). t.effort) c.next_row.ensures)
+    (c.from.ensures ∙ c.moved_by.ensures.value_into from.segment from.row by c.args.to.into) c.cutoff_of-cutoff.ensures.enough told.ensures.keeps
 
 pub returns-in-Left-clause-on : goal.returns-in-Left-clause-on
 returns-in-Left-clause-on c = goes_then (board_of c.args.index.now) c.args.pass.now c.keep_row_into-told.new.pass c.evict_one.new.pass c.keep_row_into-told.ensures.keeps.on c.evict_one.ensures.on
@@ -64,10 +65,10 @@ returns-in-NoRoom c =
     let told = c.keep_row_into-told in
     let from = c.args.source in
     let by = c.cutoff_of-cutoff.result in
-    let same = ap (λ (t : Turn). t.effort) c.leave.ensures in
+    let same = ap (λ (t : ClearingTurn). t.effort) c.leave.ensures in
     record {
       on = told.ensures.keeps.on;
-      cleared = subst (λ (t : Turn). IsCleared b.shape t.source told.new.pass) (sym c.leave.ensures) tt;
+      cleared = subst (λ (t : ClearingTurn). IsCleared b.shape t.source told.new.pass) (sym c.leave.ensures) tt;
       few =
           let one = ap (λ e. e.refilled) same in
           let two = ap (λ e. e.kept) same in
