@@ -162,6 +162,14 @@ static bool take(struct options *options, int option, char *argument) {
   }
 }
 
+/* What isn't known: a letter, which can stand in a word with others, or a whole word. */
+static const char *unknown(char **words) {
+  static char letter[] = "-?";
+  if (optopt <= 0 || optopt > UCHAR_MAX || strchr(letters, optopt) != NULL) return words[optind - 1];
+  letter[1] = (char)optopt;
+  return letter;
+}
+
 enum reading options_read(struct options *options, int count, char **words) {
   *options = (struct options){.addresses = "127.0.0.1",
                               .socket_mode = 0700,
@@ -175,7 +183,7 @@ enum reading options_read(struct options *options, int count, char **words) {
                               .protocol = "auto-negotiate"};
   for (int option; (option = getopt_long(count, words, letters, names, NULL)) != -1;) {
     if (option == ':') return bad(words[optind - 1], "needs an argument; -h shows them all");
-    if (option == '?') return bad(words[optind - 1], "isn't known; -h shows those that are");
+    if (option == '?') return bad(unknown(words), "isn't known; -h shows those that are");
     if (option == 'h') return fputs(help, stdout), SHOWN;
     if (option == 'V') return puts("segcache-server " SERVER_VERSION), SHOWN;
     if (!take(options, option, optarg)) return BAD;

@@ -42,7 +42,8 @@ BAD_OPTIONS = [
     *[(["-a", text], f"-a: {BITS}") for text in ("9", "", "1000", "70x", "x")],
     *[(["-B", text], "-B: only the text protocol is served: -B auto or -B ascii") for text in ("binary", "asci")],
     (["-U", "11211"], "-U: there is no UDP: only -U 0"),
-    (["-x"], "-x: isn't known; -h shows those that are"),
+    *[(words.split(), f"{named}: isn't known; -h shows those that are") for words, named in (
+        ("-x", "-x"), ("-vx", "-x"), ("-m 64 -f1.25", "-f"), ("--memory-limit 64 -n48", "-n"), ("--daemon=1", "--daemon=1"))],
     (["--nonesuch"], "--nonesuch: isn't known; -h shows those that are"),
     (["-p"], "-p: needs an argument; -h shows them all"),
     (["--keys"], "--keys: needs an argument; -h shows them all"),
