@@ -303,8 +303,8 @@ static inline uint32_t segcache_hand_out(uint32_t status, segcache_handle made, 
    keys, and each key belongs to one of the tables by its hash. A call on a key goes to that table alone.
    In the wide build there is room for so many keys if each item takes one row, as with 32 bytes of value: see
    segcache_open_items for longer ones.
-   It takes all memory at once, but for that of notes and of a close: 174 to 214 bytes a key and up to 8 KB a thread,
-   for a small cache of several threads up to 11 MB in all, and up to 34 MB more for a moment. `cache` and
+   It takes all memory at once, but for that of notes and of a close: 174 to 214 bytes a key and up to 8 KB a thread in
+   each table, for a small cache of several threads up to 11 MB in all, and up to 34 MB more for a moment. `cache` and
    `clients[threads]` are written, whatever they were: if they are of a cache that is still open, that one is lost. If
    the answer is not OK they are zeroed, of more than 64 clients the first 64. Answers: OK, BAD_SHAPE, OUT_OF_MEMORY;
    OTHER_VERSION or OTHER_SIZES, if the library has another version than this header, or other sizes, and nothing was
@@ -340,9 +340,9 @@ static inline uint32_t segcache_open_for_writers(uint32_t keys, uint32_t threads
    and each value up to a multiple of 8: items of 8 and 48 bytes have the mean 72. With the mean 56 some go, since two
    rows are needed where one is planned. The mean and 8 bytes are divided by 64 and rounded up: so many rows are planned
    for each item, 64 at most. The cache has two rows for each planned one. It takes 134 bytes for each planned row, 40 to
-   80 for each item, and up to 8 KB a thread. There is a table for every 200,000 planned rows. In a small cache, of at
-   most 65,536 / threads planned rows, all items have room whichever clients store them, as of segcache_open. BAD_SHAPE
-   comes also if more than 2^32 rows are planned. Answers as segcache_open. */
+   80 for each item, and up to 8 KB a thread in each table. There is a table for every 200,000 planned rows. In a small
+   cache, of at most 65,536 / threads planned rows, all items have room whichever clients store them, as of
+   segcache_open. BAD_SHAPE comes also if more than 2^32 rows are planned. Answers as segcache_open. */
 static inline uint32_t segcache_open_items(uint32_t items, uint32_t mean_bytes, uint32_t threads, segcache *cache,
                                            segcache_client *clients) {
   segcache_handle made, raw[SEGCACHE_MAX_THREADS];
@@ -500,7 +500,7 @@ static inline uint32_t segcache_gets_many_into(segcache_client *client, segcache
 /* --- Writing ---------------------------------------------------------------------------------------- */
 
 /* Each call that stores can evict keys of its client. Once it has stored, a client that keeps by queues goes over up to
-   eight items of another segment of its own, while few of its segments are free or one has expired: it moves them, or
+   eight items of other segments of its own, while few of its segments are free or one has expired: it moves them, or
    evicts them. A client that keeps from a frequency, or nothing, evicts only by put, put_for, fill and
    make_room. Of a set, an add, a replace and a cas NO_ROOM comes first, also where the key's presence or version would
    refuse it. */
@@ -674,8 +674,9 @@ static inline uint32_t segcache_keep_nothing(segcache_client *client) {
 
 /* Makes room, as a put does that finds no row: in the table of the client's last write, if that was answered by NO_ROOM,
    and else in each table. What is stored there next goes into a segment with a deadline for `now`: it lives for seven
-   eighths of the time to live at least. While one is free each call begins another segment, also where the one before has rows left.
-   So call it where a write found no room, and not before each. Answers: OK; NO_ROOM, of one table at least; NO_HANDLE. */
+   eighths of the time to live at least. A client that keeps by queues does nothing where its segment has that deadline
+   and room for the longest item. Else each call begins another segment, also where the one before has rows left. So call
+   it where a write found no room, and not before each. Answers: OK; NO_ROOM, of one table at least; NO_HANDLE. */
 static inline uint32_t segcache_make_room(segcache_client *client, uint32_t now) {
   return SEGCACHE_CALL(client, segcache_raw_make_room(&client->raw, now));
 }

@@ -357,7 +357,8 @@ impl Client {
 
     /// Begins another segment of this client's, and returns whether one could be had: in the table of its last
     /// write, if that was answered by [`Error::NoRoom`], and else in each table. It may evict keys that this
-    /// client stored. While one is free it does so at each call, also where the segment before has rows left. So call
+    /// client stored. A client that keeps by queues does nothing where its segment has the deadline that is asked and
+    /// room for the longest item. Else each call begins another one, also where the one before has rows left. So call
     /// it where a write found no room, and not before each.
     ///
     /// # Errors

@@ -4,7 +4,7 @@
 //! Each thread has a [`Client`] of its own, and reads what all of them put. No call of a client waits; a
 //! client that is dropped waits while another is. A key has 1 to 24 bytes, a value at most 32: [`MAX_KEY`] and
 //! [`MAX_VALUE`]. The cache takes its memory when it is made; notes, a close, [`Client::get_many`] and
-//! [`Client::gets_many`] take more.
+//! [`Client::gets_many`] take more. With the feature `wide` each value that a get returns takes some, too.
 //!
 //! ```
 //! let (_cache, mut clients) = segcache::Cache::builder().keys(1_000).threads(2).build()?;
