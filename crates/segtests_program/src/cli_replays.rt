@@ -235,6 +235,23 @@ fn check_csv<R: Threads + Wait + AllocGlobal + Abort + Sync>(rt: &R, trace: &[u8
     check_same(rt, words.as_slice(), text.matches(counts).count(), 1);
 }
 
+// A trace whose third line has a client with this name.
+fn trace_of_client(alloc: Global, name: &[u8]) -> Result<Vec<u8>, AllocError> {
+    let mut trace = Vec::new(alloc);
+    trace.extend_from_slice(b"0,a,get,0\n\n1,b,1,4,")?;
+    trace.extend_from_slice(name)?;
+    trace.extend_from_slice(b",get,0\n")?;
+    Ok(trace)
+}
+
+#[test]
+fn a_line_has_4096_bytes_at_most(rt: HostRuntime) {
+    let longest = trace_of_client(rt.alloc(), &[b'x'; 4_082]).expect(&rt, "memory");
+    check_csv(&rt, longest.as_slice(), "gets=2 hits=0 ");
+    let longer = trace_of_client(rt.alloc(), &[b'x'; 4_083]).expect(&rt, "memory");
+    check_bad(&rt, &["replay", "--csv"], longer.as_slice());
+}
+
 const ONE_OF_TWO: &str = "gets=2 hits=1 rate=50.00 sets=1 ";
 
 // The segment that the set refills lives for 10.
