@@ -56,7 +56,7 @@ pub(crate) fn try_item(
     pass: &mut Pass,
     place: Place,
     item: Item,
-    key: &KeyWords,
+    key: &KeyWords<'_>,
 ) -> (Keyed, u32)
     requires pass { IsPassOf board.now pass.old }
     requires place { IsChained board.now.shape (trace pass.old) place }
@@ -75,7 +75,7 @@ pub(crate) fn try_item(
 
 // Looks at a word until that is found to be the key's or not, or all tries are counted.
 #[inline(always)]
-fn visit_word(board: &Board, pass: &mut Pass, place: Place, sought: &Sought, tries: u32) -> Scan
+fn visit_word(board: &Board, pass: &mut Pass, place: Place, sought: &Sought<'_>, tries: u32) -> Scan
     requires pass { IsPassOf board.now pass.old }
     requires reader { MayEnterAny pass.old }
     requires place { IsPlaceOf board.now.shape (trace pass.old) sought.now.key place }
@@ -124,7 +124,7 @@ fn visit_bucket(
     board: &Board,
     pass: &mut Pass,
     start: Place,
-    sought: &Sought,
+    sought: &Sought<'_>,
     mut tries: u32,
 ) -> Scan
     requires pass { IsPassOf board.now pass.old }
@@ -159,7 +159,7 @@ pub(crate) fn scan_from(
     board: &Board,
     pass: &mut Pass,
     mut place: Place,
-    sought: &Sought,
+    sought: &Sought<'_>,
     mut tries: u32,
 ) -> Scan
     requires pass { IsPassOf board.now pass.old }

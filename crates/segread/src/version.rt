@@ -18,9 +18,9 @@ use segstore::{Sought, TRIES, leave_segment, next_place, value_of_pair};
 use segword::{Info, Key, same_item};
 
 // A gets: what it looks for, and its clock.
-#[derive(Clone, Copy, Drop)]
-struct GetsCall {
-    sought: Sought,
+#[derive(Drop)]
+struct GetsCall<'k> {
+    sought: Sought<'k>,
     clock: u32,
 }
 
@@ -120,7 +120,7 @@ fn find_locked(board: &Board, pass: &mut Pass, key: &Key, now: u32) -> Versioned
 
 // Looks for a key and its version along its chain.
 // If a scan was disturbed, the next one begins where that one stopped.
-fn find_version(board: &Board, pass: &mut Pass, call: &GetsCall) -> Versioned
+fn find_version(board: &Board, pass: &mut Pass, call: &GetsCall<'_>) -> Versioned
     requires pass { IsPassOf board.now pass.old }
     requires reader { MayEnterAny pass.old }
     requires sought { IsSought board.now.shape call.now.sought }
@@ -153,7 +153,13 @@ fn find_version(board: &Board, pass: &mut Pass, call: &GetsCall) -> Versioned
 
 // One scan from a place on. The item and the version are of one moment if the bit is clear
 // and the item still stands at its place. Then the pass stays in the item's segment.
-fn try_version(board: &Board, pass: &mut Pass, call: &GetsCall, place: Place, tries: u32) -> Attempt
+fn try_version(
+    board: &Board,
+    pass: &mut Pass,
+    call: &GetsCall<'_>,
+    place: Place,
+    tries: u32,
+) -> Attempt
     requires pass { IsPassOf board.now pass.old }
     requires reader { MayEnterAny pass.old }
     requires sought { IsSought board.now.shape call.now.sought }
@@ -207,7 +213,7 @@ fn try_version(board: &Board, pass: &mut Pass, call: &GetsCall, place: Place, tr
 fn see_version(
     board: &Board,
     pass: &mut Pass,
-    call: &GetsCall,
+    call: &GetsCall<'_>,
     place: Place,
     tries: u32,
 ) -> VersionLook

@@ -8,19 +8,19 @@ use segword::{Chain, Key, KeyWords, LAST_WORD, hash, tag_of};
 
 /// What a call looks for: a key as rows hold it, its tag, and the bucket in which its chain begins.
 /// It is computed once a call.
-#[derive(Clone, Copy, Debug)]
-pub struct Sought {
+#[derive(Drop)]
+pub struct Sought<'k> {
     pub bucket: u32,
     pub tag: u16,
-    pub key: KeyWords,
+    pub key: KeyWords<'k>,
 }
 
-impl Sought {
+impl<'k> Sought<'k> {
     ghost use Rattle.segstore.specs.Sought.{IsSought};
 
     /// What a call for this key looks for.
     #[inline(always)]
-    pub fn of(key: &Key, board: &Board) -> Sought
+    pub fn of(key: &'k Key, board: &Board) -> Sought<'k>
         requires { IsValid board.now.shape }
         ensures key { result.key ≡ key.now }
         ensures sought { IsSought board.now.shape result }

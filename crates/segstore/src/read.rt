@@ -54,7 +54,13 @@ pub fn read_linked(board: &Board, pass: &mut Pass, place: Place, word: u64) -> L
 /// Looks again as `read_linked` does, for a key in hand.
 /// The key is compared with the row word by word, and the value isn't read.
 #[inline(always)]
-pub fn read_keyed(board: &Board, pass: &mut Pass, place: Place, word: u64, key: &KeyWords) -> Keyed
+pub fn read_keyed(
+    board: &Board,
+    pass: &mut Pass,
+    place: Place,
+    word: u64,
+    key: &KeyWords<'_>,
+) -> Keyed
     requires pass { IsPassOf board.now pass.old }
     requires place { IsChained board.now.shape (trace pass.old) place }
     requires inside { 0 < inside (trace pass.old) (number pass.old) (segment_part word) }

@@ -31,7 +31,7 @@ pub fn has_room(pass: &Pass) -> bool
 pub fn next_row(
     board: &Board,
     pass: &Pass,
-    key: &KeyWords,
+    key: &KeyWords<'_>,
     value: &ValueBytes<'_>,
 ) -> Result<RowRef, NoRoom>
     ensures next { IfOk result (λ next.

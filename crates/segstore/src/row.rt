@@ -78,7 +78,7 @@ pub fn row_of_key(
     pass: &mut Pass,
     segment: u32,
     row: u32,
-    key: &KeyWords,
+    key: &KeyWords<'_>,
 ) -> Option<u64>
     requires pass { IsPassOf board.now pass.old }
     requires readable { IsReadable board.now pass.old segment row }

@@ -52,7 +52,13 @@ pub fn write_row(
 /// Writes a key and a value into a row of the pass's own that no item named in this filling, and
 /// into as many behind it as their item takes. The call doesn't count the rows as used.
 #[inline(always)]
-pub fn fill_row(board: &Board, pass: &mut Pass, row: RowRef, key: &KeyWords, value: &ValueBytes<'_>)
+pub fn fill_row(
+    board: &Board,
+    pass: &mut Pass,
+    row: RowRef,
+    key: &KeyWords<'_>,
+    value: &ValueBytes<'_>,
+)
     requires pass { IsPassOf board.now pass.old }
     requires own { AreOwnRows board.now.shape (trace pass.old) (number pass.old)
         row.segment row.row (span_of key.now value.now) }
@@ -122,7 +128,13 @@ fn store_words(board: &Board, pass: &mut Pass, row: RowRef, rows: u32, words: &[
 // Makes rows of the pass's own, as many as the item takes, that no item named in this filling, have
 // the words of this key and this value, one by one from where they stand.
 #[inline(always)]
-fn store_item(board: &Board, pass: &mut Pass, row: RowRef, key: &KeyWords, value: &ValueBytes<'_>)
+fn store_item(
+    board: &Board,
+    pass: &mut Pass,
+    row: RowRef,
+    key: &KeyWords<'_>,
+    value: &ValueBytes<'_>,
+)
     requires pass { IsPassOf board.now pass.old }
     requires own { AreOwnRows board.now.shape (trace pass.old) (number pass.old)
         row.segment row.row (span_of key.now value.now) }

@@ -1,18 +1,17 @@
--- A key's bytes with zeros behind them, as keys are kept, and its words as they are written over zeros.
-use Rattle.std.proofs.Common.{◌≡◌, ℕ, zero, suc, ◌+◌, ◌-◌, ◌*◌, ◌<◌, ◌≤◌, List, [], ◌∷◌, ◌++◌, length, get_or, take, drop, replicate, refl, sym, ap, subst, ◌∙◌, inl, inr, arith}
-use Rattle.std.proofs.lemmas.Bool.{cases_lt}
+-- A key's bytes with zeros behind them, as keys are kept.
+use Rattle.std.proofs.Common.{◌≡◌, ℕ, zero, suc, ◌+◌, ◌-◌, ◌*◌, ◌<◌, ◌≤◌, List, [], ◌∷◌, ◌++◌, length, get_or, take, drop, replicate, refl, sym, ap, subst, ◌∙◌, arith}
 use Rattle.std.proofs.lemmas.Grind.{same_number_lists}
 use Rattle.std.proofs.Math.Seq.{take-append_seam}
-use Rattle.std.proofs.lemmas.List.{drop-replicate, drop_all, length-append, length-replicate}
+use Rattle.std.proofs.lemmas.List.{drop-replicate, length-append, length-replicate}
 use Rattle.segword.specs.declared.key.TheConstants.{KEY_BYTES, KEY_ROOM, KEY_WORDS}
 use Rattle.segword.specs.Bytes.{IsKey}
 use Rattle.segword.specs.Fnv.{hash_of}
 use Rattle.segword.specs.Kept.{AreKeyParts}
-use Rattle.segword.specs.Row.{bytes_of, word_at, word_of, words_from}
+use Rattle.segword.specs.Row.{bytes_of, word_at, words_from}
 use Rattle.segword.proofs.WordLemmas.{AreBytes}
-use Rattle.segword.proofs.RowLemmas.{All-AreBytes, byte_at-words_from, get_or-bytes_of, get_or-words_from, length-bytes_of, length-words_from, words_from-kept}
+use Rattle.segword.proofs.RowLemmas.{All-AreBytes, byte_at-words_from, get_or-bytes_of, get_or-words_from, length-bytes_of, words_from-kept}
 
-pub zero_at : (n k : ℕ) → get_or {A = ℕ} (replicate n 0) k 0 ≡ 0
+zero_at : (n k : ℕ) → get_or {A = ℕ} (replicate n 0) k 0 ≡ 0
 zero_at zero k = refl
 zero_at (suc n) zero = refl
 zero_at (suc n) (suc k) = zero_at n k
@@ -60,18 +59,3 @@ kept_word xs bytes k h same lt =
     ap (word_at bytes) at ∙ sym (get_or-words_from KEY_WORDS bytes 0 k lt)
     ∙ ap (λ (ws : List ℕ). get_or ws k 0) (words_from-kept KEY_WORDS KEY_ROOM xs bytes h refl same)
     ∙ get_or-words_from KEY_WORDS xs 0 k lt ∙ ap (word_at xs) (sym at)
-
--- words written over zeros, as many as the bytes need, are all words of the bytes
-pub written_words : (xs ws : List ℕ) → length ws ≡ KEY_WORDS
-    → ((k : ℕ) → 8 * k < length xs → get_or ws k 0 ≡ word_at xs (8 * k))
-    → ((k : ℕ) → length xs ≤ 8 * k → get_or ws k 0 ≡ 0)
-    → ws ≡ words_from KEY_WORDS xs 0
-written_words xs ws l front behind =
-    same_number_lists ws (words_from KEY_WORDS xs 0) (l ∙ sym (length-words_from KEY_WORDS xs 0)) (λ k p.
-    let here : k < KEY_WORDS = omega (arith, p, l) in
-    let at : 8 * k ≡ 0 + 8 * k = omega arith in
-    let own : word_at xs (8 * k) ≡ get_or (words_from KEY_WORDS xs 0) k 0 = ap (word_at xs) at ∙ sym (get_or-words_from KEY_WORDS xs 0 k here) in
-    elim (cases_lt (8 * k) (length xs)) [
-      | inl q ↦ front k q ∙ own
-      | inr q ↦ behind k q ∙ sym (ap (λ (ys : List ℕ). word_of (take 8 ys)) (drop_all (8 * k) xs q)) ∙ own
-    ])

@@ -1,7 +1,6 @@
 -- The part of a row's first words that is the key's: all but the value's length.
-use Rattle.std.specs.Prelude.{◌≡◌, ℕ, List, ◌∷◌, length, take, drop, slice_index}
+use Rattle.std.specs.Prelude.{ℕ, List, ◌∷◌, length, take, drop, slice_index}
 use Rattle.segword.specs.declared.key.TheConstants.{KEY_ROOM, KEY_WORDS}
-use Rattle.segword.specs.Bytes.{IsKey}
 use Rattle.segword.specs.Row.{bytes_of, words_from}
 use Rattle.segword.specs.RowLayout.{key_length}
 
@@ -16,8 +15,3 @@ key_part words = key_length (slice_index words 0) ∷ drop 1 words
 -- the key that has these words, if one has them
 abbrev pub key_from : List ℕ → List ℕ
 key_from words = take (slice_index words 0) (bytes_of (drop 1 words) KEY_ROOM)
-
--- these words are a key's
-pub record AreKeyWords (words : List ℕ) : Type 0 where
-  pub is_key : IsKey (key_from words)
-  pub same_words : key_words (key_from words) ≡ words

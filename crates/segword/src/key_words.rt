@@ -15,43 +15,30 @@ use crate::{Key, ValueBytes};
 use std::marker::Model;
 
 /// A key as rows hold it: its length, and its bytes in `KEY_WORDS` words.
-/// It is computed once a call and then compared with rows, so that no key is read out of a row.
+/// It is compared with rows word by word, so that no key is read out of a row. Each word is
+/// loaded from where the key stands, so that none is copied.
 /// Contracts see it as the list of the key's bytes.
-#[derive(Clone, Copy, Debug)]
-pub struct KeyWords {
-    words: [u64; HEAD_WORDS],
+#[derive(Drop)]
+pub struct KeyWords<'k> {
+    key: &'k Key,
 }
 
-impl Model for KeyWords {
+impl<'k> Model for KeyWords<'k> {
     ghost use Rattle.std.specs.Prelude.{ℕ, List};
-    ghost use Rattle.segword.specs.KeyWords.{key_words, key_from, AreKeyWords};
 
     ghost Value = { List ℕ };
 
-    ghost view = { λ key. key_from key.words };
-
-    ghost invariant = { λ key. AreKeyWords key.words };
-
-    ghost inverse = { λ bytes. record { words = key_words bytes } };
-
-    ghost inverse_ok = { λ key valid i. record { words = valid.same_words i } };
+    ghost view = { λ words. words.key.now };
 }
 
-impl KeyWords {
+impl<'k> KeyWords<'k> {
     /// The words of a key.
     #[inline(always)]
-    pub fn new(key: &Key) -> KeyWords
+    pub fn new(key: &'k Key) -> KeyWords<'k>
         ensures value { result ≡ key.now }
         ensures valid { IsKey key.now }
     {
-        let mut words = [0; HEAD_WORDS];
-        words[0] = key.as_bytes().len() as u64;
-        if MOST_SPAN > 1 {
-            key.write_words(&mut words[1..]);
-            return KeyWords { words };
-        }
-        words[1..].copy_from_slice(&key.words());
-        KeyWords { words }
+        KeyWords { key: key.known() }
     }
 
     /// Whether a row that begins with these words is one of this key.
@@ -64,7 +51,7 @@ impl KeyWords {
     {
         let mut head = *words;
         head[0] &= 0xff;
-        head == self.words
+        head == self.words()
     }
 
     /// How many rows the item of this key and a value takes.
@@ -75,7 +62,7 @@ impl KeyWords {
         ensures key { IsKey self.now }
         ensures valid { IsValue value.now }
     {
-        span(self.words[0] as u32, value.len() as u32)
+        span(self.key.len() as u32, value.len() as u32)
     }
 
     /// The words of this key and a value.
@@ -88,13 +75,13 @@ impl KeyWords {
         if MOST_SPAN > 1 {
             let head = self.head();
             let mut words = [0; ITEM_WORDS];
-            words[..head].copy_from_slice(&self.words[..head]);
+            words[..head].copy_from_slice(&self.words()[..head]);
             words[0] |= (value.len() as u64) << 8;
             words[head..head + VALUE_WORDS].copy_from_slice(&value.words());
             return words;
         }
         let mut row = [0; ITEM_WORDS];
-        row[..HEAD_WORDS].copy_from_slice(&self.words);
+        row[..HEAD_WORDS].copy_from_slice(&self.words());
         row[0] |= (value.len() as u64) << 8;
         row[HEAD_WORDS..].copy_from_slice(&value.words());
         row
@@ -111,9 +98,9 @@ impl KeyWords {
             return value.word(place - head);
         }
         if place == 0 {
-            return self.words[0] | (value.len() as u64) << 8;
+            return self.key.len() as u64 | (value.len() as u64) << 8;
         }
-        self.words[place]
+        self.key.word(place - 1)
     }
 
     /// How many of an item's words have the lengths and this key.
@@ -122,7 +109,7 @@ impl KeyWords {
         ensures words { result ≡ 1 + key_width (length self.now) }
         ensures key { IsKey self.now }
     {
-        1 + key_width(self.words[0] as u32) as usize
+        1 + key_width(self.key.len() as u32) as usize
     }
 
     /// Whether an item with this word at a place can be one of this key: at place 0 if its
@@ -134,8 +121,22 @@ impl KeyWords {
             ≡ (if place == 0 then key_length word else word)) }
     {
         if place == 0 {
-            return word & 0xff == self.words[0];
+            return word & 0xff == self.key.len() as u64;
         }
-        word == self.words[place]
+        word == self.key.word(place - 1)
+    }
+
+    // The length and all words.
+    #[inline(always)]
+    fn words(&self) -> [u64; HEAD_WORDS]
+        ensures words { result ≡ key_words self.now }
+        ensures valid { IsKey self.now }
+    {
+        let mut words = [0; HEAD_WORDS];
+        words[0] = self.key.len() as u64;
+        for place in 0..KEY_WORDS {
+            words[1 + place] = self.key.word(place);
+        }
+        words
     }
 }

@@ -50,8 +50,8 @@ pub(crate) fn full_word_at(bytes: &[u8], from: usize) -> u64
     requires { from + 8 ≤ length bytes.now }
     ensures { result ≡ word_at bytes.now from }
 {
-    let rest = &bytes[from..];
-    u64::from_le_bytes(*rest.first_chunk().unwrap())
+    let (chunks, _) = bytes[from..].as_chunks::<8>();
+    u64::from_le_bytes(chunks[0])
 }
 
 // The word of fewer than eight bytes.

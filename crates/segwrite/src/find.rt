@@ -91,7 +91,7 @@ pub(crate) fn own_word(found: Option<Target>) -> Option<Target>
 }
 
 // The key's word; or the first empty one, if the key doesn't stand; or neither.
-pub(crate) fn find(board: &Board, pass: &mut Pass, sought: &Sought) -> Option<Target>
+pub(crate) fn find(board: &Board, pass: &mut Pass, sought: &Sought<'_>) -> Option<Target>
     requires pass { IsPassOf board.now pass.old }
     requires sought { IsSought board.now.shape sought.now }
     requires bit { HasBit board.now.shape (trace pass.old) (number pass.old) sought.now.bucket }
@@ -104,7 +104,7 @@ pub(crate) fn find(board: &Board, pass: &mut Pass, sought: &Sought) -> Option<Ta
 
 // As `find`, but if there is neither, it returns the end of the chain.
 #[inline(always)]
-pub(crate) fn search(board: &Board, pass: &mut Pass, sought: &Sought) -> Found
+pub(crate) fn search(board: &Board, pass: &mut Pass, sought: &Sought<'_>) -> Found
     requires pass { IsPassOf board.now pass.old }
     requires sought { IsSought board.now.shape sought.now }
     requires bit { HasBit board.now.shape (trace pass.old) (number pass.old) sought.now.bucket }
@@ -154,7 +154,7 @@ pub(crate) fn search(board: &Board, pass: &mut Pass, sought: &Sought) -> Found
 
 // Whether a word that the pass reads under the bit is that of an item of the key.
 #[inline(always)]
-fn is_item_of(board: &Board, pass: &mut Pass, target: Target, sought: &Sought) -> bool
+fn is_item_of(board: &Board, pass: &mut Pass, target: Target, sought: &Sought<'_>) -> bool
     requires pass { IsPassOf board.now pass.old }
     requires sought { IsSought board.now.shape sought.now }
     requires chain { IsInChain board.now (bucket_of board.now.shape sought.now.key) target.place

@@ -34,7 +34,7 @@ pub fn delete(board: &Board, pass: &mut Pass, key: &Key, now: u32) -> DeleteAnsw
 
 // Takes the key out of its bucket, if the key is present, under the bit that the pass has,
 // and gives the bit back.
-fn remove(board: &Board, pass: &mut Pass, sought: &Sought, now: u32) -> DeleteAnswer
+fn remove(board: &Board, pass: &mut Pass, sought: &Sought<'_>, now: u32) -> DeleteAnswer
     ghost request: { Request }
     requires pass { IsPassOf board.now pass.old }
     requires clean { HasCleanBit board.now pass.old sought.now.bucket }

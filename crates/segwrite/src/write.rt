@@ -39,9 +39,9 @@ pub(crate) enum When {
 }
 
 // A write: under which key it stores, what, when, and by which clock.
-#[derive(Clone, Copy, Drop)]
+#[derive(Drop)]
 struct WriteCall<'v> {
-    sought: Sought,
+    sought: Sought<'v>,
     value: &'v ValueBytes<'v>,
     when: When,
     clock: u32,

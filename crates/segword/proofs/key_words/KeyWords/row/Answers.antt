@@ -1,4 +1,4 @@
-use Rattle.std.proofs.Common.{◌≡◌, ◌+◌, ◌-◌, ◌*◌, ◌%◌, ◌^◌, ◌++◌, ℕ, List, bit_or, drop, get_or, length, replicate, set, sym, subst, take, ◌∙◌, ap, arith}
+use Rattle.std.proofs.Common.{◌≡◌, ◌+◌, ◌-◌, ◌*◌, ◌%◌, ◌^◌, ◌++◌, ℕ, List, bit_or, drop, get_or, length, replicate, set, take, ◌∙◌, ap, arith}
 use borrow.Rule.Slice.PartMut.{put_mid}
 use Rattle.segword.specs.declared.row.TheConstants.{HEAD_WORDS}
 use Rattle.segword.specs.declared.spans.TheConstants.{ITEM_WORDS}
@@ -16,26 +16,26 @@ returns-then-this-gt-MOST_SPAN-clause-row c =
     let at = c.head-head.result in
     let is_key : IsKey key = c.head-head.ensures.key in
     let front : c.copy_from_slice.new.self ≡ take at (key_words key) = c.copy_from_slice.ensures.after
-    ∙ ap (take at) (sym (ap key_words (sym c.self.view_is) ∙ c.self.invariant.same_words)) in
+    ∙ ap (take at) c.words.ensures.words in
     let long : c.len.result ≡ length value = c.len.ensures.len in
     let back : c.copy_from_slice-then-this-gt-MOST_SPAN.new.self ≡ words_from VALUE_WORDS value 0 =
-    c.copy_from_slice-then-this-gt-MOST_SPAN.ensures.after ∙ c.words.ensures.value in
+    c.copy_from_slice-then-this-gt-MOST_SPAN.ensures.after ∙ c.words-then-this-gt-MOST_SPAN.ensures.value in
     let made = λ (head : List ℕ) (n : ℕ) (tail : List ℕ).
     put_mid at (at + VALUE_WORDS - at) (set (head ++ drop at (replicate ITEM_WORDS 0)) 0
     (bit_or (get_or (head ++ drop at (replicate ITEM_WORDS 0)) 0 0) (n * 2 ^ 8 % 2 ^ 64))) tail in
     (λ i. made (front i) (long i) (back i))
-    ∙ made_row key value at (at + VALUE_WORDS - at) is_key c.words.ensures.valid c.head-head.ensures.words (omega arith)
+    ∙ made_row key value at (at + VALUE_WORDS - at) is_key c.words-then-this-gt-MOST_SPAN.ensures.valid c.head-head.ensures.words (omega arith)
 
 pub returns-clause-row : goal.returns-clause-row
 returns-clause-row c =
     let key = c.args.self.now in
     let value = c.args.value.now in
-    let is_key : IsKey key = subst IsKey c.self.view_is c.self.invariant.is_key in
-    let is_value : IsValue value = c.words-2.ensures.valid in
-    let front : c.copy_from_slice-2.new.self ≡ key_words key = c.copy_from_slice-2.ensures.after ∙ sym (ap key_words (sym c.self.view_is) ∙ c.self.invariant.same_words) in
+    let is_key : IsKey key = c.words-2.ensures.valid in
+    let is_value : IsValue value = c.words-3.ensures.valid in
+    let front : c.copy_from_slice-2.new.self ≡ key_words key = c.copy_from_slice-2.ensures.after ∙ c.words-2.ensures.words in
     let long : c.len-2.result ≡ length value = c.len-2.ensures.len in
     let back : c.copy_from_slice-3.new.self ≡ words_from VALUE_WORDS value 0 =
-    c.copy_from_slice-3.ensures.after ∙ c.words-2.ensures.value in
+    c.copy_from_slice-3.ensures.after ∙ c.words-3.ensures.value in
     let made = λ (head : List ℕ) (n : ℕ) (tail : List ℕ).
     put_mid HEAD_WORDS (ITEM_WORDS - HEAD_WORDS) (set (head ++ drop HEAD_WORDS (replicate ITEM_WORDS 0)) 0
     (bit_or (get_or (head ++ drop HEAD_WORDS (replicate ITEM_WORDS 0)) 0 0) (n * 2 ^ 8 % 2 ^ 64))) tail in
@@ -47,4 +47,4 @@ pub returns-then-this-gt-MOST_SPAN-clause-key : goal.returns-then-this-gt-MOST_S
 returns-then-this-gt-MOST_SPAN-clause-key c = c.head-head.ensures.key
 
 pub returns-clause-key : goal.returns-clause-key
-returns-clause-key c = subst IsKey c.self.view_is c.self.invariant.is_key
+returns-clause-key c = c.words-2.ensures.valid
