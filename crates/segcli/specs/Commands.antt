@@ -110,7 +110,7 @@ pub record ShowsReplay (asked : Replay) {R W : Type 0} (i : Input R) (o : Output
   pub shown : Result (Unit {0}) ProgramFault
   pub planned : IsPlanOf asked plan
   pub read : HandedOut i seen
-  pub replays : IsReplay plan seen replayed
+  pub replays : IsReplay plan (i.source.is_at_end i.new) seen replayed
   pub whole : OnOk replayed.end (i.source.is_at_end i.new)
   pub shows : ShowOutcome (replay_text asked.format replayed.totals.items) o shown
   pub ended : end ≡ end_of_replay shown replayed.end

@@ -1,6 +1,6 @@
 -- A trace that is read byte by byte.
-use Rattle.std.proofs.Common.{◌≡◌, ◌≢◌, ◌≤◌, ◌<◌, ◌+◌, ℕ, List, [], ◌∷◌, ◌++◌, length, take, drop, get_or, false, Result, Ok, Err, refl, sym, ap, subst, ◌∙◌, inl, inr, append_assoc, append-nil, arith, length-append}
-use Rattle.std.specs.List.{flat_map}
+use Rattle.std.proofs.Common.{◌≡◌, ◌≢◌, ◌<◌, ◌+◌, ℕ, List, [], ◌∷◌, ◌++◌, length, take, drop, get_or, false, Result, Ok, Err, refl, sym, ap, subst, ◌∙◌, inl, inr, append_assoc, append-nil, arith, length-append}
+use Rattle.std.specs.List.{flat_map, AllByRecursion}
 use Rattle.std.proofs.lemmas.List.{take_more, take-append-drop}
 use Rattle.segclient.specs.Counting.{with_more}
 use Rattle.segscript.specs.Script.{ended, Splits}
@@ -20,7 +20,7 @@ use Rattle.segreplay.specs.declared.reading.Rules.{Rules}
 use Rattle.segreplay.specs.declared.reading.TracePosition.{TracePosition}
 use Rattle.segreplay.specs.Lines.{form_after, stated}
 use Rattle.segreplay.specs.Replays.{is_read_end}
-use Rattle.segreplay.specs.Traces.{EndsBad, EndsEarly, EndsTrace, Feeds, HasRead, line_after, number_after, requests_in, State, TakesCommand, TakesLine, TakesStated, turn_of, turns_from}
+use Rattle.segreplay.specs.Traces.{EndsBad, EndsEarly, EndsForMemory, EndsTrace, Feeds, HasEnded, HasRead, IsBad, IsShort, line_after, number_after, requests_in, State, TakesCommand, TakesLine, TakesStated, turn_of, turns_from}
 
 state_more : (form last : Form) (lines : List (List ℕ)) (line : List ℕ) (rs : List TraceCommand) (said : Stated)
     → State form lines rs last → stated last line ≡ Ok said
@@ -47,6 +47,10 @@ line_more : (number : ℕ) (lines : List (List ℕ)) (line : List ℕ) → line_
 line_more number [] line = refl
 line_more number (l ∷ lines) line = line_more (with_more number 1) lines line
 
+short_more : (lines : List (List ℕ)) (line : List ℕ) → AllByRecursion IsShort lines → IsShort line → AllByRecursion IsShort (lines ++ line ∷ [])
+short_more [] line all one = (one, tt)
+short_more (l ∷ lines) line all one = (all.0, short_more lines line all.1 one)
+
 -- the turns after a line
 turns_taken : (rules : Rules) (made old new : List Assignment) (rs more : List TraceCommand) (number : ℕ)
     → made ++ old ≡ turns_from rules 0 rs → number ≡ number_after 0 rs → new ≡ old ++ turns_from rules number more
@@ -71,21 +75,29 @@ module _ (rules : Rules) (seen : List ℕ) (made : List Assignment) (old new : T
   whole : (more : List ℕ) → seen ++ more ≡ flat_map ended here.lines ++ (old.line ++ more)
   whole more = ap (λ s. s ++ more) here.splits.whole ∙ append_assoc (flat_map ended here.lines) old.line more
 
-  early : (more : List ℕ) → new.turns.items ≡ old.turns.items → EndsEarly rules (seen ++ more) (made ++ new.turns.items)
-  early more same = record {
+  for_memory : (Ends : Type 0) (more : List ℕ) → HasEnded Ends more → (r : TraceCommand) → stated old.form old.line ≡ Ok (states.Command r)
+      → new.turns.items ≡ old.turns.items → EndsForMemory rules Ends (seen ++ more) (made ++ new.turns.items)
+  for_memory Ends more known r said same = record {
     form = old.form;
     lines = here.lines;
-    after = old.line ++ more;
+    line = old.line;
+    after = more;
     requests = here.requests;
+    refused = r;
     whole = whole more;
     each = here.splits.each;
+    fit = here.fit;
+    unbroken = here.splits.partial;
+    short = here.short;
+    known = known;
+    said = said;
     states = here.states;
     made = kept same;
   }
 
-  bad : (more : List ℕ) (n : ℕ) (why : TraceLineFault) → n ≡ old.number → stated old.form old.line ≡ Err why
-      → new.turns.items ≡ old.turns.items → EndsBad rules (seen ++ more) (made ++ new.turns.items) n why
-  bad more n why at none same = record {
+  bad : (Ends : Type 0) (more : List ℕ) → HasEnded Ends more → (n : ℕ) (why : TraceLineFault) → n ≡ old.number → stated old.form old.line ≡ Err why
+      → new.turns.items ≡ old.turns.items → EndsBad rules Ends (seen ++ more) (made ++ new.turns.items) n why
+  bad Ends more known n why at none same = record {
     form = old.form;
     lines = here.lines;
     bad = old.line;
@@ -93,8 +105,9 @@ module _ (rules : Rules) (seen : List ℕ) (made : List Assignment) (old new : T
     requests = here.requests;
     whole = whole more;
     each = here.splits.each;
+    fit = here.fit;
     unbroken = here.splits.partial;
-    is_bad = inr none;
+    is_bad = inr (here.short, known, none);
     states = here.states;
     made = kept same;
     number = at ∙ here.number;
@@ -114,32 +127,36 @@ module _ (rules : Rules) (seen : List ℕ) (made : List Assignment) (old new : T
     requests = here.requests ++ requests_in took.0;
     same = took.7 ∙ here.same;
     splits = subst (Splits (seen ++ 10 ∷ []) (here.lines ++ old.line ∷ [])) (sym took.5) (Splits-end seen here.lines old.line here.splits);
-    short = subst (λ l. length l ≤ 4096) (sym took.5) (omega arith);
+    fit = short_more here.lines old.line here.fit here.short;
+    short = subst IsShort (sym took.5) (omega arith);
     states = stated_now took.0 took.1 took.4;
     turns = taken (requests_in took.0) took.2;
     commands = took.3 ∙ ap (λ n. number_after n (requests_in took.0)) here.commands ∙ sym (after_more 0 here.requests (requests_in took.0));
     number = took.6 ∙ ap (λ n. with_more n 1) here.number ∙ sym (line_more 1 here.lines old.line);
   }
-  line_fed (Err (fault.Line n why)) took = bad (10 ∷ []) n why took.0 took.1 took.2
-  line_fed (Err fault.OutOfMemory) took = early (10 ∷ []) took
+  line_fed (Err (fault.Line n why)) took = bad ⊥ (10 ∷ []) (inl ([], refl)) n why took.0 took.1 took.2
+  line_fed (Err fault.OutOfMemory) took = for_memory ⊥ (10 ∷ []) (inl ([], refl)) took.0 took.1 took.2
   line_fed (Err fault.Read) took = absurd took
   line_fed (Err fault.TooLong) took = absurd took
 
   -- the end of the trace
-  pub line_ended : (end : Result (Unit {0}) TraceFault) → TakesLine old new end → EndsTrace rules seen (made ++ new.turns.items) end
-  line_ended (Ok v) took = record {
+  pub line_ended : (Ends : Type 0) → Ends → (end : Result (Unit {0}) TraceFault) → TakesLine old new end → EndsTrace rules Ends seen (made ++ new.turns.items) end
+  line_ended Ends over (Ok v) took = record {
     form = new.form;
     lines = here.lines;
     last = old.line;
     requests = here.requests ++ requests_in took.0;
     splits = here.splits;
+    fit = short_more here.lines old.line here.fit here.short;
     states = stated_now took.0 took.1 took.4;
     made = taken (requests_in took.0) took.2;
   }
-  line_ended (Err (fault.Line n why)) took = subst (λ s. EndsBad rules s (made ++ new.turns.items) n why) (append-nil seen) (bad [] n why took.0 took.1 took.2)
-  line_ended (Err fault.OutOfMemory) took = subst (λ s. EndsEarly rules s (made ++ new.turns.items)) (append-nil seen) (early [] took)
-  line_ended (Err fault.Read) took = absurd took
-  line_ended (Err fault.TooLong) took = absurd took
+  line_ended Ends over (Err (fault.Line n why)) took =
+      subst (λ s. EndsBad rules Ends s (made ++ new.turns.items) n why) (append-nil seen) (bad Ends [] (inr (refl, over)) n why took.0 took.1 took.2)
+  line_ended Ends over (Err fault.OutOfMemory) took =
+      subst (λ s. EndsForMemory rules Ends s (made ++ new.turns.items)) (append-nil seen) (for_memory Ends [] (inr (refl, over)) took.0 took.1 took.2)
+  line_ended Ends over (Err fault.Read) took = absurd took
+  line_ended Ends over (Err fault.TooLong) took = absurd took
 
   -- a byte of a line
   pub byte_kept : (byte : ℕ) → byte ≢ 10 → length old.line < 4096 → new.rules ≡ old.rules
@@ -150,7 +167,8 @@ module _ (rules : Rules) (seen : List ℕ) (made : List Assignment) (old new : T
     requests = here.requests;
     same = equal ∙ here.same;
     splits = subst (Splits (seen ++ byte ∷ []) here.lines) (sym line) (Splits-byte seen here.lines old.line byte here.splits other);
-    short = subst (λ l. length l ≤ 4096) (sym line) (let long = length-append old.line (byte ∷ []) in omega arith);
+    fit = here.fit;
+    short = subst IsShort (sym line) (let long = length-append old.line (byte ∷ []) in omega arith);
     states = subst (State rules.form here.lines here.requests) (sym form) here.states;
     turns = kept turns;
     commands = commands ∙ here.commands;
@@ -167,6 +185,7 @@ module _ (rules : Rules) (seen : List ℕ) (made : List Assignment) (old new : T
     requests = here.requests;
     whole = whole (byte ∷ []) ∙ ap (λ l. flat_map ended here.lines ++ l) (sym (append-nil (old.line ++ byte ∷ [])));
     each = here.splits.each;
+    fit = here.fit;
     unbroken = IsLine-append old.line (byte ∷ []) here.splits.partial (other, tt);
     is_bad = inl ((let long = length-append old.line (byte ∷ []) in omega arith), refl);
     states = here.states;
@@ -177,55 +196,90 @@ module _ (rules : Rules) (seen : List ℕ) (made : List Assignment) (old new : T
 next_byte : (seen bytes : List ℕ) (i : ℕ) → i < length bytes → (seen ++ take i bytes) ++ get_or bytes i 0 ∷ [] ≡ seen ++ take (i + 1) bytes
 next_byte seen bytes i below = append_assoc seen (take i bytes) (get_or bytes i 0 ∷ []) ∙ ap (λ b. seen ++ b) (sym (take_more bytes i 0 below))
 
--- the trace ends here, in the middle of a line or not
+-- the trace ends here, in a line or between two
 pub stopped : (rules : Rules) (seen : List ℕ) (made : List Assignment) (r : TracePosition) → HasRead rules seen made r → EndsEarly rules seen (made ++ r.turns.items)
 stopped rules seen made r here = record {
   form = r.form;
   lines = here.lines;
-  after = r.line;
+  rest = r.line;
   requests = here.requests;
-  whole = here.splits.whole;
-  each = here.splits.each;
+  splits = here.splits;
+  fit = here.fit;
+  short = here.short;
   states = here.states;
   made = here.turns;
 }
 
+-- a line has ended whatever comes later
+ended_later : (Ends : Type 0) (after more : List ℕ) → HasEnded ⊥ after → HasEnded Ends (after ++ more)
+ended_later Ends after more (inl was) = inl (was.0 ++ more, ap (λ l. l ++ more) was.1)
+ended_later Ends after more (inr was) = absurd was.1
+
+bad_later : (Ends : Type 0) (form : Form) (line after more : List ℕ) (why : TraceLineFault) → IsBad form ⊥ line after why → IsBad form Ends line (after ++ more) why
+bad_later Ends form line after more why (inl was) = inl was
+bad_later Ends form line after more why (inr was) = inr (was.0, ended_later Ends after more was.1, was.2)
+
+module _ (rules : Rules) (Ends : Type 0) (seen more : List ℕ) (turns : List Assignment) where
+  whole_later : (lines : List (List ℕ)) (line after : List ℕ) → seen ≡ flat_map ended lines ++ (line ++ after) → seen ++ more ≡ flat_map ended lines ++ (line ++ (after ++ more))
+  whole_later lines line after is =
+      ap (λ s. s ++ more) is
+      ∙ append_assoc (flat_map ended lines) (line ++ after) more
+      ∙ ap (λ l. flat_map ended lines ++ l) (append_assoc line after more)
+
+  ends_bad : (n : ℕ) (why : TraceLineFault) → EndsBad rules ⊥ seen turns n why → EndsBad rules Ends (seen ++ more) turns n why
+  ends_bad n why was = record {
+    form = was.form;
+    lines = was.lines;
+    bad = was.bad;
+    after = was.after ++ more;
+    requests = was.requests;
+    whole = whole_later was.lines was.bad was.after was.whole;
+    each = was.each;
+    fit = was.fit;
+    unbroken = was.unbroken;
+    is_bad = bad_later Ends was.form was.bad was.after more why was.is_bad;
+    states = was.states;
+    made = was.made;
+    number = was.number;
+  }
+
+  ends_for_memory : EndsForMemory rules ⊥ seen turns → EndsForMemory rules Ends (seen ++ more) turns
+  ends_for_memory was = record {
+    form = was.form;
+    lines = was.lines;
+    line = was.line;
+    after = was.after ++ more;
+    requests = was.requests;
+    refused = was.refused;
+    whole = whole_later was.lines was.line was.after was.whole;
+    each = was.each;
+    fit = was.fit;
+    unbroken = was.unbroken;
+    short = was.short;
+    known = ended_later Ends was.after more was.known;
+    said = was.said;
+    states = was.states;
+    made = was.made;
+  }
+
 -- a fault before more bytes
 pub fault_later : (rules : Rules) (seen more : List ℕ) (made : List Assignment) (new : TracePosition) (f : TraceFault) → Feeds rules seen made new (Err f) → Feeds rules (seen ++ more) made new (Err f)
-fault_later rules seen more made new (fault.Line n why) fed = record {
-  form = fed.form;
-  lines = fed.lines;
-  bad = fed.bad;
-  after = fed.after ++ more;
-  requests = fed.requests;
-  whole = ap (λ s. s ++ more) fed.whole ∙ append_assoc (flat_map ended fed.lines) (fed.bad ++ fed.after) more ∙ ap (λ l. flat_map ended fed.lines ++ l) (append_assoc fed.bad fed.after more);
-  each = fed.each;
-  unbroken = fed.unbroken;
-  is_bad = fed.is_bad;
-  states = fed.states;
-  made = fed.made;
-  number = fed.number;
-}
-fault_later rules seen more made new fault.OutOfMemory fed = record {
-  form = fed.form;
-  lines = fed.lines;
-  after = fed.after ++ more;
-  requests = fed.requests;
-  whole = ap (λ s. s ++ more) fed.whole ∙ append_assoc (flat_map ended fed.lines) fed.after more;
-  each = fed.each;
-  states = fed.states;
-  made = fed.made;
-}
+fault_later rules seen more made new (fault.Line n why) fed = ends_bad rules ⊥ seen more (made ++ new.turns.items) n why fed
+fault_later rules seen more made new fault.OutOfMemory fed = ends_for_memory rules ⊥ seen more (made ++ new.turns.items) fed
 fault_later rules seen more made new fault.Read fed = absurd fed
 fault_later rules seen more made new fault.TooLong fed = absurd fed
 
 -- a fault of bytes that were fed ends the trace
-pub fault_ends : (rules : Rules) (seen : List ℕ) (made : List Assignment) (new : TracePosition) (f : TraceFault) → Feeds rules seen made new (Err f)
-    → EndsTrace rules seen (made ++ new.turns.items) (Err f)
-fault_ends rules seen made new (fault.Line n why) fed = fed
-fault_ends rules seen made new fault.OutOfMemory fed = fed
-fault_ends rules seen made new fault.Read fed = absurd fed
-fault_ends rules seen made new fault.TooLong fed = absurd fed
+pub fault_ends : (rules : Rules) (Ends : Type 0) (seen : List ℕ) (made : List Assignment) (new : TracePosition) (f : TraceFault) → Feeds rules seen made new (Err f)
+    → EndsTrace rules Ends seen (made ++ new.turns.items) (Err f)
+fault_ends rules Ends seen made new (fault.Line n why) fed =
+    let turns = made ++ new.turns.items in
+    subst (λ s. EndsBad rules Ends s turns n why) (append-nil seen) (ends_bad rules Ends seen [] turns n why fed)
+fault_ends rules Ends seen made new fault.OutOfMemory fed =
+    let turns = made ++ new.turns.items in
+    subst (λ s. EndsForMemory rules Ends s turns) (append-nil seen) (ends_for_memory rules Ends seen [] turns fed)
+fault_ends rules Ends seen made new fault.Read fed = absurd fed
+fault_ends rules Ends seen made new fault.TooLong fed = absurd fed
 
 -- the next byte of some
 pub fed_on : (rules : Rules) (seen : List ℕ) (made : List Assignment) (bytes : List ℕ) (i : ℕ) (new : TracePosition)
@@ -268,7 +322,7 @@ header_taken said columns old is = rw is (sym (append-nil old.turns.items), refl
 
 pub stated_taken : (said : Stated) (old new : TracePosition) (end : Result (Unit {0}) TraceFault) → stated old.form old.line ≡ Ok said → TakesStated said old new end → TakesCommand old new end
 stated_taken said old new (Ok v) is took = (said, is, took.0, took.1, took.2, took.3, took.4)
-stated_taken said old new (Err fault.OutOfMemory) is took = took
+stated_taken said old new (Err fault.OutOfMemory) is took = (took.0, is ∙ ap Ok took.1, took.2)
 stated_taken said old new (Err (fault.Line n why)) is took = absurd took
 stated_taken said old new (Err fault.Read) is took = absurd took
 stated_taken said old new (Err fault.TooLong) is took = absurd took

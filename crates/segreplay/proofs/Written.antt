@@ -182,7 +182,7 @@ same_lines xs a ys last each all begun is e =
 -- ---- traces
 
 module _ (rules : Rules) (lines : List (List ℕ)) (rs : List TraceCommand) (turns : List Assignment) (last : Form) where
-  as_stated : AllByRecursion IsLine lines → State rules.form (lines ++ [] ∷ []) rs last → EndsTrace rules (flat_map ended lines) turns (Ok tt) → turns ≡ turns_from rules 0 rs
+  as_stated : AllByRecursion IsLine lines → State rules.form (lines ++ [] ∷ []) rs last → EndsTrace rules (Unit {0}) (flat_map ended lines) turns (Ok tt) → turns ≡ turns_from rules 0 rs
   as_stated are said end =
       let same = same_lines lines [] end.lines end.last are end.splits.each tt end.splits.partial (append-nil (flat_map ended lines) ∙ end.splits.whole) in
       end.made ∙ ap (turns_from rules 0) (same_states rules.form (lines ++ [] ∷ []) end.requests rs end.form last (subst (λ l. State rules.form l end.requests end.form) same end.states) said)
@@ -226,10 +226,10 @@ module _ (rules : Rules) (seen after : List ℕ) (turns all : List Assignment) (
       (rest, end.made ∙ ap (turns_from rules 0) more.1 ∙ turns_more rules 0 rs more.0 ∙ ap (λ l. l ++ rest) (sym made))
 
   early : EndsEarly rules seen turns → (rest : List Assignment) × (all ≡ turns ++ rest)
-  early was = first_turns was.lines was.after was.requests was.form was.whole was.each was.states was.made
+  early was = first_turns was.lines was.rest was.requests was.form was.splits.whole was.splits.each was.states was.made
 
 pub faulted : FaultedIsABeginning
 faulted rules seen after turns all (fault.Line n why) was end = first_turns rules seen after turns all end was.lines (was.bad ++ was.after) was.requests was.form was.whole was.each was.states was.made
-faulted rules seen after turns all fault.OutOfMemory was end = early rules seen after turns all end was
+faulted rules seen after turns all fault.OutOfMemory was end = first_turns rules seen after turns all end was.lines (was.line ++ was.after) was.requests was.form was.whole was.each was.states was.made
 faulted rules seen after turns all fault.Read was end = early rules seen after turns all end was
 faulted rules seen after turns all fault.TooLong was end = early rules seen after turns all end was

@@ -1,5 +1,6 @@
 -- Laws of traces: what a caller needs of how a trace is read, in place of the words of its lines.
 -- What else a line can state, and which line is bad, stands in `EndsTrace` alone.
+-- Here its `Ends` asks for nothing, so it holds of a trace that ended in any way.
 -- Each is proved as the contract of a function in src/laws.rt.
 use Rattle.std.specs.Prelude.{◌≡◌, ◌≢◌, ℕ, ◌<◌, ◌≤◌, ◌-◌, ◌^◌, List, [], ◌∷◌, ◌++◌, false, length, slice_index, slice_index_or, Option, Some, None, Ok, Err, codes, decimal}
 use Rattle.std.specs.Char.{is_ascii_whitespace}
@@ -79,7 +80,7 @@ abbrev pub WrittenIsRead : Type 0
 WrittenIsRead = (rules : Rules) (lines : List (List ℕ)) (requests : List TraceCommand)
     (turns : List Assignment)
     → WriteLines rules.form lines requests
-    → EndsTrace rules (flat_map ended lines) turns (Ok tt)
+    → EndsTrace rules (Unit {0}) (flat_map ended lines) turns (Ok tt)
     → turns ≡ turns_from rules 0 requests
 
 abbrev pub header : List ℕ
@@ -101,15 +102,15 @@ HeadedIsRead = (rules : Rules) (lines : List (List ℕ)) (requests : List TraceC
     (turns : List Assignment)
     → rules.form ≡ form.Csv
     → WriteLines (form.Named header_columns) lines requests
-    → EndsTrace rules (flat_map ended (header ∷ lines)) turns (Ok tt)
+    → EndsTrace rules (Unit {0}) (flat_map ended (header ∷ lines)) turns (Ok tt)
     → turns ≡ turns_from rules 0 requests
 
 -- Whatever bytes a trace has, they and the rules determine the commands of one that is read
 -- to its end.
 abbrev pub BytesSayTheTurns : Type 0
 BytesSayTheTurns = (rules : Rules) (seen : List ℕ) (turns others : List Assignment)
-    → EndsTrace rules seen turns (Ok tt)
-    → EndsTrace rules seen others (Ok tt)
+    → EndsTrace rules (Unit {0}) seen turns (Ok tt)
+    → EndsTrace rules (Unit {0}) seen others (Ok tt)
     → turns ≡ others
 
 -- The commands of a trace that ends with a fault are the first of those that it has with whatever
@@ -117,6 +118,6 @@ BytesSayTheTurns = (rules : Rules) (seen : List ℕ) (turns others : List Assign
 abbrev pub FaultedIsABeginning : Type 0
 FaultedIsABeginning = (rules : Rules) (seen after : List ℕ) (turns all : List Assignment)
     (why : TraceFault)
-    → EndsTrace rules seen turns (Err why)
-    → EndsTrace rules (seen ++ after) all (Ok tt)
+    → EndsTrace rules (Unit {0}) seen turns (Err why)
+    → EndsTrace rules (Unit {0}) (seen ++ after) all (Ok tt)
     → (rest : List Assignment) × (all ≡ turns ++ rest)

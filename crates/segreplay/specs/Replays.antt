@@ -63,12 +63,13 @@ planned plan = caches_of plan.policies.now plan.shape plan.sizes
 -- The bytes `seen` came. The commands of their lines were made by the plan's clients:
 -- one for each pass of each of its caches. The totals are what these counted, with the items that
 -- stood at the end, and how many times to live the commands had.
-pub record IsReplay (plan : ReplayPlan) (seen : List ℕ) (r : Replayed) : Type 0 where
+pub record IsReplay (plan : ReplayPlan) (Ends : Type 0) (seen : List ℕ) (r : Replayed)
+    : Type 0 where
   pub turns : List Assignment
   pub starts : List Player
   pub made : List Player
   pub ends : List Player
-  pub ended : EndsTrace (rules_of plan) seen turns r.end
+  pub ended : EndsTrace (rules_of plan) Ends seen turns r.end
   pub fresh : AreFresh 0 (value_of plan.value_bytes) (planned plan) starts
   pub plays : AllPlay turns starts made
   pub counts : AllCount made ends

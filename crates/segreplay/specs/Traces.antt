@@ -1,5 +1,5 @@
 -- Which commands the lines of a trace state, and how far a trace is read.
-use Rattle.std.specs.Prelude.{◌≡◌, ◌⊎◌, ◌<◌, ◌≤◌, ℕ, List, [], ◌∷◌, ◌++◌, length, Result, Ok, Err, nat_le}
+use Rattle.std.specs.Prelude.{◌≡◌, ◌⊎◌, ◌≤◌, ℕ, List, [], ◌∷◌, ◌++◌, length, Result, Ok, Err, nat_le}
 use Rattle.std.specs.List.{flat_map, AllByRecursion}
 use Rattle.segclient.specs.Counting.{with_more}
 use Rattle.segscript.specs.Script.{ended, IsLine, Splits}
@@ -33,10 +33,19 @@ State form (line ∷ lines) requests last =
     × State (form_after form said) lines rest last
     × (requests ≡ requests_in said ++ rest)
 
--- a bad line is too long, or states nothing for this reason
-abbrev pub IsBad : Form → List ℕ → TraceLineFault → Type 0
-IsBad form line why =
-    ((4096 < length line) × (why ≡ line_fault.TooLong)) ⊎ (stated form line ≡ Err why)
+-- a line that isn't too long
+abbrev pub IsShort : List ℕ → Type 0
+IsShort line = length line ≤ 4096
+
+-- What comes behind the bytes of a line begins with its end, or there is nothing, if `Ends` holds.
+abbrev pub HasEnded : Type 0 → List ℕ → Type 0
+HasEnded Ends after = ((more : List ℕ) × (after ≡ 10 ∷ more)) ⊎ ((after ≡ []) × Ends)
+
+-- A bad line has just got one byte too many, or it has ended and states nothing for this reason.
+abbrev pub IsBad : Form → Type 0 → List ℕ → List ℕ → TraceLineFault → Type 0
+IsBad form Ends line after why =
+    ((length line ≡ 4097) × (why ≡ line_fault.TooLong))
+    ⊎ (IsShort line × HasEnded Ends after × (stated form line ≡ Err why))
 
 -- ---- turns
 
@@ -73,16 +82,17 @@ pub record HasRead (rules : Rules) (seen : List ℕ) (made : List Assignment) (r
   pub requests : List TraceCommand
   pub same : r.rules ≡ rules
   pub splits : Splits seen lines r.line
-  pub short : length r.line ≤ 4096
+  pub fit : AllByRecursion IsShort lines
+  pub short : IsShort r.line
   pub states : State rules.form lines requests r.form
   pub turns : made ++ r.turns.items ≡ turns_from rules 0 requests
   pub commands : r.commands ≡ number_after 0 requests
   pub number : r.number ≡ line_after 1 lines
 
--- The n-th line is the first bad one, for this reason.
+-- The n-th line is the first bad one, for this reason. It has ended, or is too long already.
 -- These are the turns of the lines before it.
-pub record EndsBad (rules : Rules) (seen : List ℕ) (turns : List Assignment) (n : ℕ)
-    (why : TraceLineFault) : Type 0 where
+pub record EndsBad (rules : Rules) (Ends : Type 0) (seen : List ℕ) (turns : List Assignment)
+    (n : ℕ) (why : TraceLineFault) : Type 0 where
   pub form : Form
   pub lines : List (List ℕ)
   pub bad : List ℕ
@@ -90,20 +100,43 @@ pub record EndsBad (rules : Rules) (seen : List ℕ) (turns : List Assignment) (
   pub requests : List TraceCommand
   pub whole : seen ≡ flat_map ended lines ++ (bad ++ after)
   pub each : AllByRecursion IsLine lines
+  pub fit : AllByRecursion IsShort lines
   pub unbroken : IsLine bad
-  pub is_bad : IsBad form bad why
+  pub is_bad : IsBad form Ends bad after why
   pub states : State rules.form lines requests form
   pub made : turns ≡ turns_from rules 0 requests
   pub number : n ≡ line_after 1 lines
 
--- These are the turns of the first lines of what came.
+-- A line that has ended states a command, for which there was no memory.
+-- These are the turns of the lines before it.
+pub record EndsForMemory (rules : Rules) (Ends : Type 0) (seen : List ℕ)
+    (turns : List Assignment) : Type 0 where
+  pub form : Form
+  pub lines : List (List ℕ)
+  pub line : List ℕ
+  pub after : List ℕ
+  pub requests : List TraceCommand
+  pub refused : TraceCommand
+  pub whole : seen ≡ flat_map ended lines ++ (line ++ after)
+  pub each : AllByRecursion IsLine lines
+  pub fit : AllByRecursion IsShort lines
+  pub unbroken : IsLine line
+  pub short : IsShort line
+  pub known : HasEnded Ends after
+  pub said : stated form line ≡ Ok (states.Command refused)
+  pub states : State rules.form lines requests form
+  pub made : turns ≡ turns_from rules 0 requests
+
+-- These are the turns of all whole lines of what came.
+-- The line after them has no end, and isn't too long so far.
 pub record EndsEarly (rules : Rules) (seen : List ℕ) (turns : List Assignment) : Type 0 where
   pub form : Form
   pub lines : List (List ℕ)
-  pub after : List ℕ
+  pub rest : List ℕ
   pub requests : List TraceCommand
-  pub whole : seen ≡ flat_map ended lines ++ after
-  pub each : AllByRecursion IsLine lines
+  pub splits : Splits seen lines rest
+  pub fit : AllByRecursion IsShort lines
+  pub short : IsShort rest
   pub states : State rules.form lines requests form
   pub made : turns ≡ turns_from rules 0 requests
 
@@ -114,14 +147,18 @@ pub record EndsWhole (rules : Rules) (seen : List ℕ) (turns : List Assignment)
   pub last : List ℕ
   pub requests : List TraceCommand
   pub splits : Splits seen lines last
+  pub fit : AllByRecursion IsShort (lines ++ last ∷ [])
   pub states : State rules.form (lines ++ last ∷ []) requests form
   pub made : turns ≡ turns_from rules 0 requests
 
--- how a trace ended of which these bytes came, and the turns that it had
-abbrev pub EndsTrace : Rules → List ℕ → List Assignment → Result (Unit {0}) TraceFault → Type 0
-EndsTrace rules seen turns (Ok _) = EndsWhole rules seen turns
-EndsTrace rules seen turns (Err (fault.Line n why)) = EndsBad rules seen turns n why
-EndsTrace rules seen turns (Err _) = EndsEarly rules seen turns
+-- How a trace ended of which these bytes came, and the turns that it had.
+-- `Ends` is that nothing comes behind them.
+abbrev pub EndsTrace : Rules → Type 0 → List ℕ → List Assignment → Result (Unit {0}) TraceFault
+    → Type 0
+EndsTrace rules Ends seen turns (Ok _) = EndsWhole rules seen turns
+EndsTrace rules Ends seen turns (Err (fault.Line n why)) = EndsBad rules Ends seen turns n why
+EndsTrace rules Ends seen turns (Err fault.OutOfMemory) = EndsForMemory rules Ends seen turns
+EndsTrace rules Ends seen turns (Err _) = EndsEarly rules seen turns
 
 -- ---- the parts of a reading
 
@@ -134,7 +171,10 @@ TakesStated said old new (Ok _) =
     × (new.form ≡ form_after old.form said)
     × (new.number ≡ old.number)
     × (new.rules ≡ old.rules)
-TakesStated said old new (Err fault.OutOfMemory) = new.turns.items ≡ old.turns.items
+TakesStated said old new (Err fault.OutOfMemory) =
+    (r : TraceCommand)
+    × (said ≡ states.Command r)
+    × (new.turns.items ≡ old.turns.items)
 TakesStated said old new (Err _) = ⊥
 
 -- what became of the line before its end was taken
@@ -151,7 +191,10 @@ TakesCommand old new (Err (fault.Line n why)) =
     (n ≡ old.number)
     × (stated old.form old.line ≡ Err why)
     × (new.turns.items ≡ old.turns.items)
-TakesCommand old new (Err fault.OutOfMemory) = new.turns.items ≡ old.turns.items
+TakesCommand old new (Err fault.OutOfMemory) =
+    (r : TraceCommand)
+    × (stated old.form old.line ≡ Ok (states.Command r))
+    × (new.turns.items ≡ old.turns.items)
 TakesCommand old new (Err _) = ⊥
 
 -- what became of the line whose end has come
@@ -167,14 +210,15 @@ TakesLine old new (Ok _) =
     × (new.rules ≡ old.rules)
 TakesLine old new (Err f) = TakesCommand old new (Err f)
 
--- what became of bytes that were fed: all that came are `seen`, these among them
+-- What became of bytes that were fed: all that came are `seen`, these among them.
+-- More may come behind them.
 abbrev pub Feeds : Rules → List ℕ → List Assignment → TracePosition → Result (Unit {0}) TraceFault
     → Type 0
 Feeds rules seen made new (Ok _) = HasRead rules seen made new
 Feeds rules seen made new (Err (fault.Line n why)) =
-    EndsBad rules seen (made ++ new.turns.items) n why
+    EndsBad rules ⊥ seen (made ++ new.turns.items) n why
 Feeds rules seen made new (Err fault.OutOfMemory) =
-    EndsEarly rules seen (made ++ new.turns.items)
+    EndsForMemory rules ⊥ seen (made ++ new.turns.items)
 Feeds rules seen made new (Err _) = ⊥
 
 -- These bytes were fed, whatever came before.

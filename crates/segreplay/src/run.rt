@@ -137,7 +137,8 @@ fn read_all<R: Threads + Sync, S: Source, F: Follow>(
     ensures outcome { (seen : List ℕ) × (made : List Assignment)
         × S.hands source.old seen source.new
         × AllPlay made players.old players.new
-        × EndsTrace reading.old.rules seen (made ++ reading.new.turns.items) result
+        × EndsTrace reading.old.rules (S.is_at_end source.new) seen
+        (made ++ reading.new.turns.items) result
         × AddsLives made lives.old lives.new }
     ensures whole { OnOk result (S.is_at_end source.new) }
     ensures read { S.has_failed source.new ≡ is_read_end result }
@@ -172,7 +173,7 @@ fn run<R: Threads + Sync, S: Source, F: Follow>(
         × S.hands source.old seen source.new
         × AllPlay turns players.old made
         × AllCount made players.new
-        × EndsTrace reading.rules seen turns result
+        × EndsTrace reading.rules (S.is_at_end source.new) seen turns result
         × AddsLives turns lives.old lives.new }
     ensures whole { OnOk result (S.is_at_end source.new) }
     ensures read { S.has_failed source.new ≡ is_read_end result }
@@ -197,7 +198,8 @@ pub fn replay<R: Threads + Sync, S: Source, F: Follow>(
 ) -> Result<Replayed, ReplayFault>
     requires works { S.has_failed source.old ≡ false }
     ensures outcome { IfOk result (λ replayed. (seen : List ℕ)
-        × S.hands source.old seen source.new × IsReplay plan.now seen replayed) }
+        × S.hands source.old seen source.new
+        × IsReplay plan.now (S.is_at_end source.new) seen replayed) }
     ensures whole { IfOk result (λ replayed. OnOk replayed.end (S.is_at_end source.new)) }
     ensures read { IfOk result (λ replayed.
         S.has_failed source.new ≡ is_read_end replayed.end) }

@@ -28,13 +28,15 @@ returns-then-n-eq0-clause-outcome g c =
     let ran = c.loop-read.invariant.ran in
     let rules = c.args.reading.now.rules in
     let none = ap (λ k. take k c.read.new.buffer) c.if-n-eq0.true in
-    let handed = subst (λ b. g.S.Source.hands c.loop-read.source b c.read.new.self) none c.in-Ok.ensures.bytes in (
+    let handed = subst (λ b. g.S.Source.hands c.loop-read.source b c.read.new.self) none c.in-Ok.ensures.bytes in
+    let AtEnd = g.S.Source.is_at_end c.read.new.self in (
       ran.0 ++ [],
       ran.1,
       g.met.S.Source.hands_more _ _ _ _ _ ran.2 handed,
       ran.3,
-      subst (λ s. EndsTrace rules s (ran.1 ++ c.end_line.new.self.turns.items) c.end_line.result) (sym (append-nil ran.0))
-          (line_ended rules ran.0 ran.1 c.loop-read.reading c.end_line.new.self ran.4 c.end_line.result c.end_line.ensures),
+      subst (λ s. EndsTrace rules AtEnd s (ran.1 ++ c.end_line.new.self.turns.items) c.end_line.result) (sym (append-nil ran.0))
+          (line_ended rules ran.0 ran.1 c.loop-read.reading c.end_line.new.self ran.4 AtEnd (c.in-Ok.ensures.end c.if-n-eq0.true)
+          c.end_line.result c.end_line.ensures),
       ran.5,
     )
 
@@ -53,7 +55,7 @@ returns-in-Err-clause-outcome g c =
       ran.1,
       g.met.S.Source.hands_more _ _ _ _ _ ran.2 c.in-Ok.ensures.bytes,
       ran.3,
-      fault_ends rules seen ran.1 c.feed_all.new.self c.in-Err.fault (c.in-Err.ensures rules ran.0 ran.1 ran.4),
+      fault_ends rules (g.S.Source.is_at_end c.read.new.self) seen ran.1 c.feed_all.new.self c.in-Err.fault (c.in-Err.ensures rules ran.0 ran.1 ran.4),
       ran.5,
     )
 

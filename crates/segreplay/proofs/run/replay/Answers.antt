@@ -30,7 +30,7 @@ returns-in-Ok-totals_of-clause-outcome g c =
         starts = players.items;
         made = made;
         ends = ends;
-        ended = subst (λ rules. EndsTrace rules run.0 run.1 c.run-end.result) c.new-reading.ensures.same run.6;
+        ended = subst (λ rules. EndsTrace rules (g.S.Source.is_at_end c.run-end.new.source) run.0 run.1 c.run-end.result) c.new-reading.ensures.same run.6;
         fresh = subst (λ all. AreFresh 0 (value_of plan.value_bytes) all players.items) same_caches
             (subst (λ value. AreFresh 0 value (caches_in dealt.items) players.items) c.value_of-value.ensures c.in-Ok-players_of.ensures);
         plays = plays;
