@@ -20,4 +20,5 @@ pub mod RowValues
 pub mod Hits
 pub mod HoldCalls
 pub mod ReadsFacts
+pub mod RowFacts
 pub mod Copied
