@@ -23,3 +23,4 @@ pub mod Moments
 pub mod Ordering
 pub mod Linear
 pub mod LinearFacts
+pub mod LeavesFacts
