@@ -10,6 +10,7 @@ pub mod Noted
 pub mod OneOrder
 pub mod Opened
 pub mod Places
+pub mod PlanFacts
 pub mod Planned
 pub mod Same
 pub mod ShardOrder
