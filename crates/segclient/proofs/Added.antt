@@ -83,7 +83,7 @@ module _ (i : Index) (time : ℕ) (key value : List ℕ) (old new : Member) (mem
       let between = puts.between in
       let until = puts.until in
       let asks = plan until puts.window in
-      let from = chosen_on b old.pass puts.chosen member.0 puts.chooses in
+      let from = chosen_on b old.pass puts.chosen member.0 puts.chooses.chooses in
       let earlier = puts.answer.0 in
       let is = puts.answer.1 in
       let last = last_of b asks (sets write.Stored) earlier puts.chosen between (subst (λ l. Makes b asks l puts.chosen between) is puts.makes) in
@@ -119,10 +119,11 @@ module _ (i : Index) (time : ℕ) (key value : List ℕ) (old new : Member) (mem
         ),
       )
   put_adds put.NoRoom puts = unstored puts.until puts.window puts.calls puts.chosen puts.between puts.steps
-      (puts.not_stored no_room_stored) puts.chooses puts.makes (puts.unasked no_room_stored) puts.clears
+      (puts.not_stored no_room_stored) puts.chooses.chooses puts.makes (puts.unasked no_room_stored) puts.clears
   put_adds put.BucketFull puts = unstored puts.until puts.window puts.calls puts.chosen puts.between puts.steps
-      (puts.not_stored full_stored) puts.chooses puts.makes (puts.unasked full_stored) puts.clears
-  put_adds put.Busy puts = unstored puts.until puts.window puts.calls puts.chosen puts.between puts.steps (puts.not_stored busy_stored) puts.chooses puts.makes (puts.unasked busy_stored) puts.clears
+      (puts.not_stored full_stored) puts.chooses.chooses puts.makes (puts.unasked full_stored) puts.clears
+  put_adds put.Busy puts = unstored puts.until puts.window puts.calls puts.chosen puts.between puts.steps
+      (puts.not_stored busy_stored) puts.chooses.chooses puts.makes (puts.unasked busy_stored) puts.clears
 
 pub room_adds : (i : Index) (made : Bool) (old new : Member) → IsMember i old → (room : MakesRoomFor made (board_of i) old new)
     → AddsRoom (shape_of i) (number old.pass) old.cutoff (IsOnly (deadline_of old))

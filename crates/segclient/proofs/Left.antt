@@ -95,6 +95,13 @@ one_several rows several = cond-false (eqb most_span 1) 1 rows several
 pub one_alone : (rows : ℕ) → eqb most_span 1 ≡ true → or_one rows ≡ 1
 one_alone rows one = cond-true (eqb most_span 1) 1 rows one
 
+-- where each item takes one row, the longest takes no more
+pub longest_few : (rows : ℕ) → min most_span rows ≤ or_one (min most_span rows)
+longest_few rows = ⊎_elim
+    (λ one. let alone = one_alone (min most_span rows) one in let same = eqb-true most_span 1 one in omega (arith, alone, same))
+    (λ several. let same = one_several (min most_span rows) several in omega (arith, same))
+    (cases_Bool (eqb most_span 1))
+
 pub rows_alone : (request : Request) → eqb most_span 1 ≡ true → rows_of request ≡ 1
 rows_alone request one = span_one (length (key_of request)) (length (value_of request)) one
 

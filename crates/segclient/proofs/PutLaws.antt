@@ -41,7 +41,7 @@ module _ (i : Index) (time : ℕ) (key value : List ℕ) (told : PutAnswer) (old
   put_plan = record { request = Some (Set key value old.clock); cutoff = old.cutoff; deadline = puts.until; window = puts.window }
 
   pub from : Chosen (board_of i) old.pass puts.chosen
-  from = chosen_on (board_of i) old.pass puts.chosen member.0 puts.chooses
+  from = chosen_on (board_of i) old.pass puts.chosen member.0 puts.chooses.chooses
 
   pub made : GoesOn (board_of i) puts.chosen puts.between
   made = makes_on (board_of i) put_plan puts.calls puts.chosen puts.between from.on.quiet puts.makes

@@ -1,5 +1,5 @@
 -- What a pass can store once segments were refilled, kept from or given up, and which ones were refused.
-use Rattle.std.proofs.Common.{◌≡◌, ◌≢◌, ℕ, ◌+◌, ◌<◌, ◌≤◌, Bool, true, false, ◌∷◌, Option, Some, None, option_and_then, is_some, refl, sym, ap, ◌∙◌, inl, inr, eqb, arith}
+use Rattle.std.proofs.Common.{◌≡◌, ◌≢◌, ℕ, ◌+◌, ◌<◌, ◌≤◌, Bool, true, false, [], ◌∷◌, Option, Some, None, option_and_then, is_some, refl, sym, ap, ◌∙◌, subst, inl, inr, eqb, arith}
 use Rattle.std.specs.Int.{IsInRange}
 use Rattle.std.proofs.lemmas.Bool.{false≢true, cond-true, eq-eqb}
 use Rattle.segword.specs.Words.{most_span}
@@ -23,8 +23,8 @@ use Rattle.segindex.proofs.QuietPass.{owned}
 use Rattle.segtally.specs.Recycling.{refilled_by}
 use Rattle.segclient.specs.PutCalls.{evicts, refills, IsRefused, StoresUntil, room_plan}
 use Rattle.segclient.specs.declared.effort.Effort.{Effort}
-use Rattle.segclient.specs.PutParts.{Arranges, effort_from, GivesUp, MakesRoom, MakesRows, StoresAfresh, StoresAsBefore}
-use Rattle.segclient.proofs.Calls.{arranges_as, arranges_then, arranges_wider, both, effort_more, none_arranges, one_more, refill_arranges, refused_then, same_effort}
+use Rattle.segclient.specs.PutParts.{Arranges, effort_from, GivesUp, IsEffort, MakesRoom, MakesRows, MakesRowsIfNone, StoresAfresh, StoresAsBefore}
+use Rattle.segclient.proofs.Calls.{arranges_as, arranges_then, arranges_wider, both, effort_more, no_effort, none_arranges, none_made, one_more, refill_arranges, refused_then, same_effort}
 use Rattle.segclient.proofs.Left.{if_several, none_for_long, none_for_more, of_several, room_afresh}
 
 -- a pass knows its own segments
@@ -233,6 +233,25 @@ module _ (b : Board) (cutoff : Option ℕ) (deadline : ℕ) where
     until = λ made. stores;
     refused = λ none fits. absurd (false≢true (sym none));
   }
+
+  -- no call, where rows are left in a segment with the deadline
+  pub room_there : {rows : ℕ} (queued : Bool) (most : ℕ) (effort : Effort) (p : Pass) → effort ≡ effort_from 0 0 0
+      → has_room_for b.shape rows p ≡ true → StoresUntil deadline p
+      → MakesRowsIfNone b queued cutoff deadline most rows true effort p p
+  room_there queued most effort p none left stores = (
+    record {
+      arranges = record {
+        calls = [];
+        makes = none_made b (room_plan cutoff deadline) p;
+        few = omega arith;
+        comes = subst (IsEffort []) (sym none) no_effort;
+      };
+      room = left;
+      until = λ made. stores;
+      refused = λ none fits. absurd (false≢true (sym none));
+    },
+    λ queues until enough. refl,
+  )
 
   -- calls, and then room was made, or not, by the same policy
   pub room_later : {rows : ℕ} (most more total : ℕ) (made : Bool) (first effort all : Effort) (p q r : Pass)

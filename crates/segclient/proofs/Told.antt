@@ -76,7 +76,7 @@ put_stands i time key value old new member puts = by on.steps
     on : GoesOn (board_of i) old.pass new.pass
     on =
         let b = board_of i in
-        let from = chosen_on b old.pass puts.chosen member.0 puts.chooses in
+        let from = chosen_on b old.pass puts.chosen member.0 puts.chooses.chooses in
         let made = makes_on b (record {
           request = Some (Set key value old.clock);
           cutoff = old.cutoff;

@@ -78,6 +78,18 @@ pub record MakesRows (b : Board) (cutoff : Option ℕ) (deadline most rows : ℕ
       → IfSeveral (rows ≤ b.shape.rows)
       → AreRefused b.shape (number p) arranges.calls
 
+-- By queues no call is made where so many rows are left in a segment with the deadline.
+abbrev pub SparesRows : Shape → Bool → ℕ → ℕ → List PutCall → Pass → Type 0
+SparesRows shape queued deadline rows calls p =
+    queued ≡ true → StoresUntil deadline p → has_room_for shape rows p ≡ true → calls ≡ []
+
+-- room was made so, but by queues only if it wasn't there
+abbrev pub MakesRowsIfNone : Board → Bool → Option ℕ → ℕ → ℕ → ℕ → Bool → Effort → Pass → Pass
+    → Type 0
+MakesRowsIfNone b queued cutoff deadline most rows made effort p q =
+    (room : MakesRows b cutoff deadline most rows made effort p q)
+    × SparesRows b.shape queued deadline rows room.arranges.calls p
+
 -- so it is of one row
 abbrev pub MakesRoom : Board → Option ℕ → ℕ → ℕ → Bool → Effort → Pass → Pass → Type 0
 MakesRoom b cutoff deadline most made effort p q =

@@ -61,7 +61,8 @@ StoredFor window p = (until : ℕ) × StoresUntil until p × IsInWindow window u
 -- It makes at most 16 sets in a row.
 -- With rows enough left in its segment, and a deadline that it asks for, it makes room only once
 -- its bucket was full.
--- Once it is Stored, a client with queues clears rows of another segment, by at most 16 steps.
+-- Once it is Stored, a client with queues clears rows of another segment, by at most 16 steps,
+-- or 24 where items take several rows.
 -- Hold and lock are as they were, and the client counted the put, and what calls and steps came to.
 pub record PutsFor (time : ℕ) (key value : List ℕ) (told : PutAnswer) (b : Board)
     (old new : Member) : Type 0 where
@@ -72,7 +73,7 @@ pub record PutsFor (time : ℕ) (key value : List ℕ) (told : PutAnswer) (b : B
   pub calls : List PutCall
   pub chosen : Pass
   pub between : Pass
-  pub chooses : Chooses b old.pass chosen
+  pub chooses : ChoosesFor window b old.pass chosen
   pub makes : Makes b (record {
     request = Some (Set key value old.clock);
     cutoff = old.cutoff;
@@ -107,6 +108,7 @@ Puts key value told b old new = PutsFor old.time_to_live key value told b old ne
 -- Room was made by these calls, and then a row is left in a segment with the deadline
 -- that is asked. Where items take several rows, as many are left as the longest item takes,
 -- or all of a segment that has fewer. Or it wasn't, and each segment of the pass was refused.
+-- By queues no call is made where a segment with this deadline is current, and so many are left.
 pub record MakesRoomFor (made : Bool) (b : Board) (old new : Member) : Type 0 where
   pub calls : List PutCall
   pub makes : Makes b (room_plan old.cutoff (deadline_of old)) calls old.pass new.pass
@@ -116,6 +118,10 @@ pub record MakesRoomFor (made : Bool) (b : Board) (old new : Member) : Type 0 wh
       → (segment : ℕ)
       → owner b.shape segment ≡ number old.pass
       → IsRefused segment calls
+  pub spares : is_some old.segments.queues ≡ true
+      → StoresUntil (deadline_of old) old.pass
+      → has_room_for b.shape (or_one (min most_span b.shape.rows)) old.pass ≡ true
+      → calls ≡ []
   pub memo : memo new.pass ≡ memo old.pass
   pub stats : new.stats ≡ given_up_too calls old.stats
   pub draws : new.draws ≡ old.draws

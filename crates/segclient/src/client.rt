@@ -179,7 +179,8 @@ impl<'i> Client<'i> {
     }
 
     /// Makes room for a write that returned NoRoom, as `put` does,
-    /// and returns whether there is room.
+    /// and returns whether there is room. By queues it does nothing where the segment that it stores
+    /// into has the deadline of clock and time to live, and room for the longest item.
     pub fn make_room(&mut self) -> bool
         ensures makes { MakesCall (MakesRoomFor result) self.old self.new }
     {

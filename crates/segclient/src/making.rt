@@ -9,7 +9,8 @@ ghost use Rattle.segstore.specs.Words.{GoesOn, IsQuiet};
 ghost use Rattle.segwrite.specs.Words.{or_one, rows_of};
 ghost use Rattle.segtally.specs.Rings.{IsOwnRing};
 ghost use Rattle.segclient.specs.Clearing.{IsCleared};
-ghost use Rattle.segclient.specs.PutParts.{MakesRows, most_at_last, most_for_room, request_of};
+ghost use Rattle.segclient.specs.PutParts.{MakesRows, MakesRowsIfNone, most_at_last};
+ghost use Rattle.segclient.specs.PutParts.{most_for_room, request_of};
 
 use crate::effort::Effort;
 use crate::queues::was_refilled;
@@ -35,9 +36,9 @@ pub(crate) fn make_room_by(
     ensures cleared { IsCleared (shape_of index.now) segments.new.source pass.new }
     ensures few { (result.1.refilled < 2 ^ 30) × (result.1.kept < 2 ^ 60)
         × (result.1.keys < 2 ^ 59) }
-    ensures room { MakesRows (board_of index.now) policy.cutoff policy.deadline
-        (most_for_room (shape_of index.now)) (or_one (min most_span (shape_of index.now).rows))
-        result.0 result.1 pass.old pass.new }
+    ensures room { MakesRowsIfNone (board_of index.now) (is_some segments.old.queues)
+        policy.cutoff policy.deadline (most_for_room (shape_of index.now))
+        (or_one (min most_span (shape_of index.now).rows)) result.0 result.1 pass.old pass.new }
 {
     let rows = (MOST_SPAN as u32).min(index.shape().rows);
     if segments.queues.is_some() && rows <= rows_until(index, pass, policy.deadline) {

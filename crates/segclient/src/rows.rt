@@ -65,6 +65,8 @@ pub(crate) fn has_room(index: &Index, pass: &Pass) -> bool
 pub(crate) fn rows_until(index: &Index, pass: &Pass, deadline: u32) -> u32
     ensures left { (rows : ℕ) → IsInRange 1 result rows
         → has_room_for (shape_of index.now) rows pass.now ≡ true }
+    ensures all { StoresUntil deadline pass.now
+        → (rows : ℕ) → has_room_for (shape_of index.now) rows pass.now ≡ true → rows ≤ result }
     ensures until { 1 ≤ result → StoresUntil deadline pass.now }
 {
     let Some(segment) = pass.current() else {

@@ -1,9 +1,9 @@
 use Rattle.std.proofs.Common.{◌≤◌, refl, ◌∙◌, subst, arith}
-use Rattle.std.specs.Prelude.{min}
+use Rattle.std.specs.Prelude.{is_some, min}
 use Rattle.segword.specs.Words.{most_span}
 use Rattle.segindex.specs.Words.{board_of}
 use Rattle.segwrite.specs.Words.{or_one}
-use Rattle.segclient.specs.PutParts.{MakesRows, most_for_room}
+use Rattle.segclient.specs.PutParts.{MakesRowsIfNone, most_for_room}
 use Rattle.segclient.specs.Puts.{deadline_of}
 use Rattle.segclient.proofs.Added.{counted_too, room_memo}
 use Rattle.segclient.proofs.Few.{room_few}
@@ -16,16 +16,20 @@ returns-clause-makes c =
     let b = board_of c.args.index.now in
     let room = c.make_room_by-is_made in
     let rows = or_one (min most_span b.shape.rows) in
-    let made = subst (λ policy. MakesRows b policy.cutoff policy.deadline (most_for_room b.shape) rows room.result.0 room.result.1 old.pass room.new.pass) c.policy-policy.ensures room.ensures.room in
+    let queued = is_some old.segments.queues in
+    let made = subst (λ policy. MakesRowsIfNone b queued policy.cutoff policy.deadline (most_for_room b.shape) rows room.result.0 room.result.1 old.pass room.new.pass)
+    c.policy-policy.ensures room.ensures.room in
+    let room_made = made.0 in
     record {
-      calls = made.arranges.calls;
-      makes = made.arranges.makes;
-      room = made.room;
-      deadline = made.until;
-      refused = λ none. made.refused none (if_several (rows ≤ b.shape.rows) (λ several. most_few b.shape.rows c.requires.member.0.pass.valid.0.1.0));
-      memo = room_memo b old.cutoff (deadline_of old) made.arranges.calls old.pass room.new.pass c.requires.member.0 made.arranges.makes;
-      stats = c.count_effort.ensures ∙ counted_too made.arranges.calls room.result.1 old.stats made.arranges.comes;
+      calls = room_made.arranges.calls;
+      makes = room_made.arranges.makes;
+      room = room_made.room;
+      deadline = room_made.until;
+      refused = λ none. room_made.refused none (if_several (rows ≤ b.shape.rows) (λ several. most_few b.shape.rows c.requires.member.0.pass.valid.0.1.0));
+      spares = made.1;
+      memo = room_memo b old.cutoff (deadline_of old) room_made.arranges.calls old.pass room.new.pass c.requires.member.0 room_made.arranges.makes;
+      stats = c.count_effort.ensures ∙ counted_too room_made.arranges.calls room.result.1 old.stats room_made.arranges.comes;
       draws = refl;
       settings = record { number = room.ensures.on.same; clock = refl; time_to_live = refl; cutoff = refl; queues = room.ensures.queues };
-      costs = let few = made.arranges.few in let bound = room_few b.shape in omega (arith, few, bound);
+      costs = let few = room_made.arranges.few in let bound = room_few b.shape in omega (arith, few, bound);
     }
