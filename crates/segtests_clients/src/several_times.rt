@@ -142,3 +142,19 @@ fn a_client_without_queues_keeps_the_times_apart(rt: HostRuntime) {
         check_that(&rt, is_there(&rt, &mut client, 2 * number + 1, 3_149));
     }
 }
+
+// A segment that was begun for a shorter time does for a put, if its deadline suits it.
+// Where that one is full, another open one is filled before a third is begun.
+#[test]
+fn an_open_segment_is_filled_before_another_is_begun(rt: HostRuntime) {
+    let (index, passes) = Index::new(rt.alloc(), SHAPE).expect(&rt, "an index");
+    let mut client = only_client(&rt, &index, passes);
+    client.keep_nothing();
+    put_for(&rt, &mut client, 0, 1_000);
+    for number in 1..9 {
+        put_for(&rt, &mut client, number, 900);
+    }
+    same(&rt, &client.stats().segments_refilled, &2);
+    put_for(&rt, &mut client, 9, 1_000);
+    same(&rt, &client.stats().segments_refilled, &2);
+}
