@@ -1,10 +1,10 @@
 -- A put as a whole: its first set, what room for it took, and how it ended.
-use Rattle.std.proofs.Common.{◌≡◌, ◌≢◌, ℕ, List, Some, true, false, refl, sym, ap, ◌∙◌, subst}
+use Rattle.std.proofs.Common.{◌≡◌, ◌≢◌, ℕ, List, Some, refl, sym, ap, ◌∙◌, subst}
 use Rattle.segmodel.specs.declared.answer.WriteAnswer.TheVariants as write
 use Rattle.segmodel.specs.declared.request.Request.TheVariants.{Set}
 use Rattle.segbase.specs.Words.{number, Pass}
 use Rattle.segindex.specs.Words.{board_of, Index, shape_of}
-use Rattle.segstore.specs.Words.{GoesOn, has_room_for}
+use Rattle.segstore.specs.Words.{GoesOn}
 use Rattle.segwrite.specs.Words.{rows_of}
 use Rattle.segtally.specs.Rings.{IsOwnRing}
 use Rattle.segtally.specs.Tallies.{write_tally}
@@ -20,7 +20,7 @@ use Rattle.segclient.specs.Made.{EndsPut}
 use Rattle.segclient.specs.Member.{IsMember}
 use Rattle.segclient.specs.Policies.{IsPolicyFor}
 use Rattle.segclient.specs.PutCalls.{Plan}
-use Rattle.segclient.specs.PutParts.{is_outside, PutsWhole}
+use Rattle.segclient.specs.PutParts.{PutsWhole}
 use Rattle.segclient.specs.Puts.{ChoosesFor, PutsFor, SetsFirst}
 use Rattle.segclient.specs.Putting.{IsPutAnswer, most_calls}
 use Rattle.segclient.specs.Tallies.{put_tally, write_of}
@@ -28,8 +28,6 @@ use Rattle.segclient.proofs.Added.{chosen_on, counted_too, put_memo}
 use Rattle.segclient.proofs.Calls.{makes_on}
 use Rattle.segclient.proofs.Cleared.{member_goes, nothing_stays, timely_stays}
 use Rattle.segclient.proofs.Lasting.{put_for}
-use Rattle.segclient.proofs.Left.{asked_some, room_for_one}
-use Rattle.segclient.proofs.Setting.{not_outside}
 use Rattle.segclient.proofs.Steps.{clears_come}
 
 -- what is cleared is counted before the put or behind it
@@ -98,6 +96,7 @@ made_put i time key value told policy old new chosen member is chooses ended =
       window = policy.window;
       life = is.life;
       deadline = is.deadline;
+      asks = is.asks;
       calls = whole.calls;
       chosen = chosen;
       between = q;
@@ -107,10 +106,7 @@ made_put i time key value told policy old new chosen member is chooses ended =
       stored = put_for b plan (number chosen) rows told whole.calls chosen q from.on.quiet whole.answer whole.makes;
       not_stored = whole.not_stored;
       tries = whole.tries;
-      spares = λ deadline stores within left.
-          let inside = not_outside policy.window deadline old.pass stores within in
-          let same = chooses.stays inside (room_for_one b.shape rows old.pass (asked_some (Some request)) left) in
-          whole.spares (subst (λ r. is_outside policy.window r ≡ false) (sym same) inside) (subst (λ r. has_room_for b.shape rows r ≡ true) (sym same) left);
+      spares = whole.spares;
       steps = ends.steps;
       clears = clears;
       few_steps = ends.few_steps;

@@ -9,9 +9,7 @@ use Rattle.segcore.proofs.Spans.{span_one}
 use Rattle.segbase.specs.Words.{current_of, Pass, used_of}
 use Rattle.segstore.specs.Words.{are_left, has_room, has_room_for, is_below}
 use Rattle.segwrite.specs.Words.{or_one, rows_of}
-use Rattle.segwrite.proofs.Storing.{some_rows}
 use Rattle.segevict.specs.Rows.{IfSeveral}
-use Rattle.segclient.specs.PutCalls.{rows_asked}
 use Rattle.segclient.specs.PutParts.{StoresAfresh}
 
 -- ---- rows of a segment of which so many are used
@@ -71,10 +69,6 @@ pub room_afresh : (shape : Shape) (count : ℕ) (p : Pass) → StoresAfresh p �
 room_afresh shape count p (segment, current, none) few = room_behind shape count 0 segment p current none (omega (arith, few))
 
 -- ---- rows of an item
-
-pub asked_some : (request : Option Request) → 1 ≤ rows_asked request
-asked_some None = omega arith
-asked_some (Some request) = some_rows request
 
 pub one_few : (rows : ℕ) → 1 ≤ rows → (1 ≤ or_one rows) × (or_one rows ≤ rows)
 one_few rows some = cond_both (eqb most_span 1) 1 rows (λ n. (1 ≤ n) × (n ≤ rows)) (λ one. (omega arith, some)) (λ several. (some, omega arith))

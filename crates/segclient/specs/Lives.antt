@@ -30,6 +30,13 @@ IsDeadlineFor queued now time until =
     (until ≡ deadline_by now time (time / 8))
     ⊎ ((queued ≡ true) × (until ≡ deadline_by now time (time / 64)))
 
+-- A put asks for all these deadlines. A client with queues can ask for those alone that come
+-- no earlier than the one that it opens a segment for.
+abbrev pub IsWindowFor : Bool → ℕ → ℕ → ℕ → Window → Type 0
+IsWindowFor queued now time until window =
+    (window ≡ life_window now time)
+    ⊎ ((queued ≡ true) × (window ≡ record (life_window now time) { earliest = until }))
+
 -- these deadlines let an item live for seven eighths of its time at least and for all of it
 -- at most, and this one is among them
 pub record IsLife (now time : ℕ) (window : Window) (until : ℕ) : Type 0 where

@@ -2,7 +2,7 @@
 use Rattle.std.specs.Prelude.{◌≡◌, ℕ, is_some}
 use Rattle.segclient.specs.declared.member.Member.{Member}
 use Rattle.segclient.specs.declared.segments.Policy.{Policy}
-use Rattle.segclient.specs.Lives.{IsDeadlineFor, IsLife, life_window}
+use Rattle.segclient.specs.Lives.{IsDeadlineFor, IsLife, IsWindowFor, life_window}
 use Rattle.segclient.specs.Puts.{deadline_of}
 
 abbrev pub policy_of : Member → Policy
@@ -19,3 +19,5 @@ pub record IsPolicyFor (time : ℕ) (member : Member) (policy : Policy) : Type 0
   pub moment : policy.moment ≡ member.clock
   pub life : IsLife member.clock time policy.window policy.deadline
   pub deadline : IsDeadlineFor (is_some member.segments.queues) member.clock time policy.deadline
+  pub asks : IsWindowFor (is_some member.segments.queues) member.clock time policy.deadline
+      policy.window

@@ -15,12 +15,12 @@ use Rattle.segclient.specs.declared.put.PutAnswer.TheVariants as put
 use Rattle.segclient.specs.declared.segments.Window.{Window}
 use Rattle.segclient.specs.Clearing.{Clears, most_steps_of_put, Step}
 use Rattle.segclient.specs.Counting.{cleared_too, counted, given_up_too}
-use Rattle.segclient.specs.Lives.{deadline_by, IsDeadlineFor, IsLife}
+use Rattle.segclient.specs.Lives.{deadline_by, IsDeadlineFor, IsLife, IsWindowFor}
 use Rattle.segclient.specs.Member.{KeepsSettings}
 use Rattle.segclient.specs.PutCalls.{IsInWindow, IsRefused, Makes, Plan, PutCall, room_plan, sets}
 use Rattle.segclient.specs.PutCalls.{StoresUntil}
-use Rattle.segclient.specs.PutParts.{is_outside, SetsIfTimely}
-use Rattle.segclient.specs.Putting.{IsPutAnswer, most_calls, SetsAtMost16, SetsUntilFull}
+use Rattle.segclient.specs.PutParts.{is_outside, SetsIfTimely, Spares}
+use Rattle.segclient.specs.Putting.{IsPutAnswer, most_calls, SetsAtMost16}
 use Rattle.segclient.specs.Tallies.{put_tally}
 
 -- The deadline of what a client refills now for its own time to live: the last multiple
@@ -37,8 +37,8 @@ Chooses b p q =
 abbrev pub Moves : Shape → Window → Pass → Pass → Type 0
 Moves shape window p q = (q ≡ p) ⊎ ((is_outside window q ≡ false) × (has_room shape q ≡ true))
 
--- The pass chose so, for one of these deadlines: it stays where it stored with such a deadline
--- and a row left.
+-- The pass stays where its segment has one of these deadlines and a row left.
+-- Else it may move, only to an own segment in use that has both.
 pub record ChoosesFor (window : Window) (b : Board) (p q : Pass) : Type 0 where
   pub chooses : Chooses b p q
   pub moves : Moves b.shape window p q
@@ -59,8 +59,8 @@ StoredFor window p = (until : ℕ) × StoresUntil until p × IsInWindow window u
 -- Where it is Stored, the deadline of the segment it is stored into comes in the put's time,
 -- and not before seven eighths of it: it can be read so long, unless it goes before.
 -- It makes at most 16 sets in a row.
--- With rows enough left in its segment, and a deadline that it asks for, it makes room only once
--- its bucket was full.
+-- With rows enough left in the segment that it chose, and a deadline that it asks for, it makes
+-- room only once its bucket was full.
 -- Once it is Stored, a client with queues clears rows of another segment, by at most 16 steps,
 -- or 24 where items take several rows.
 -- Hold and lock are as they were, and the client counted the put, and what calls and steps came to.
@@ -70,6 +70,7 @@ pub record PutsFor (time : ℕ) (key value : List ℕ) (told : PutAnswer) (b : B
   pub window : Window
   pub life : IsLife old.clock time window until
   pub deadline : IsDeadlineFor (is_some old.segments.queues) old.clock time until
+  pub asks : IsWindowFor (is_some old.segments.queues) old.clock time until window
   pub calls : List PutCall
   pub chosen : Pass
   pub between : Pass
@@ -84,11 +85,7 @@ pub record PutsFor (time : ℕ) (key value : List ℕ) (told : PutAnswer) (b : B
   pub stored : told ≡ put.Stored → StoredFor window between
   pub not_stored : told ≢ put.Stored → All (λ call. call ≢ sets write.Stored) calls
   pub tries : SetsAtMost16 calls
-  pub spares : (deadline : ℕ)
-      → StoresUntil deadline old.pass
-      → IsInWindow window deadline
-      → has_room_for b.shape (span_of key value) old.pass ≡ true
-      → SetsUntilFull calls
+  pub spares : Spares b.shape window (span_of key value) calls chosen
   pub steps : List Step
   pub clears : Clears b old.cutoff steps between new.pass
   pub few_steps : length steps ≤ most_steps_of_put
@@ -108,7 +105,8 @@ Puts key value told b old new = PutsFor old.time_to_live key value told b old ne
 -- Room was made by these calls, and then a row is left in a segment with the deadline
 -- that is asked. Where items take several rows, as many are left as the longest item takes,
 -- or all of a segment that has fewer. Or it wasn't, and each segment of the pass was refused.
--- By queues no call is made where a segment with this deadline is current, and so many are left.
+-- A client with queues makes no call where its current segment has this deadline and so many
+-- rows left.
 pub record MakesRoomFor (made : Bool) (b : Board) (old new : Member) : Type 0 where
   pub calls : List PutCall
   pub makes : Makes b (room_plan old.cutoff (deadline_of old)) calls old.pass new.pass

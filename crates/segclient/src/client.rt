@@ -179,8 +179,9 @@ impl<'i> Client<'i> {
     }
 
     /// Makes room for a write that returned NoRoom, as `put` does,
-    /// and returns whether there is room. By queues it does nothing where the segment that it stores
-    /// into has the deadline of clock and time to live, and room for the longest item.
+    /// and returns whether there is room. A client with queues does nothing if its current segment
+    /// has the deadline of clock and time to live, and enough rows left for the longest item,
+    /// or all its rows where it has fewer.
     pub fn make_room(&mut self) -> bool
         ensures makes { MakesCall (MakesRoomFor result) self.old self.new }
     {

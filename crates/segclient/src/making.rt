@@ -21,6 +21,7 @@ use segindex::{Index, Pass};
 use segword::{MOST_SPAN, span_of_bytes};
 
 // Makes room by the client's policy, at this moment, for an item of any length.
+// With queues it does nothing where that room is there.
 pub(crate) fn make_room_by(
     index: &Index,
     pass: &mut Pass,

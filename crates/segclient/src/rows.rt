@@ -61,7 +61,8 @@ pub(crate) fn has_room(index: &Index, pass: &Pass) -> bool
     used < index.shape().rows
 }
 
-// How many rows of the segment that the pass stores into are left, if it has this deadline.
+// How many rows of the segment that the pass stores into are left, if it has this deadline,
+// and else 0.
 pub(crate) fn rows_until(index: &Index, pass: &Pass, deadline: u32) -> u32
     ensures left { (rows : ℕ) → IsInRange 1 result rows
         → has_room_for (shape_of index.now) rows pass.now ≡ true }

@@ -1,6 +1,6 @@
 -- Laws of traces: what a caller needs of how a trace is read, in place of the words of its lines.
 -- What else a line can state, and which line is bad, stands in `EndsTrace` alone.
--- Here its `Ends` asks for nothing, so it holds of a trace that ended in any way.
+-- Here its `Ends` is always true, so the laws cover every reader.
 -- Each is proved as the contract of a function in src/laws.rt.
 use Rattle.std.specs.Prelude.{◌≡◌, ◌≢◌, ℕ, ◌<◌, ◌≤◌, ◌-◌, ◌^◌, List, [], ◌∷◌, ◌++◌, false, length, slice_index, slice_index_or, Option, Some, None, Ok, Err, codes, decimal}
 use Rattle.std.specs.Char.{is_ascii_whitespace}

@@ -37,11 +37,12 @@ State form (line ∷ lines) requests last =
 abbrev pub IsShort : List ℕ → Type 0
 IsShort line = length line ≤ 4096
 
--- What comes behind the bytes of a line begins with its end, or there is nothing, if `Ends` holds.
+-- The bytes after a line begin with a line feed; or there are none, and `Ends` holds.
 abbrev pub HasEnded : Type 0 → List ℕ → Type 0
 HasEnded Ends after = ((more : List ℕ) × (after ≡ 10 ∷ more)) ⊎ ((after ≡ []) × Ends)
 
--- A bad line has just got one byte too many, or it has ended and states nothing for this reason.
+-- A bad line begins with 4,097 bytes without a line feed; or it has at most 4,096, has ended,
+-- and can't be read, for this reason.
 abbrev pub IsBad : Form → Type 0 → List ℕ → List ℕ → TraceLineFault → Type 0
 IsBad form Ends line after why =
     ((length line ≡ 4097) × (why ≡ line_fault.TooLong))
@@ -152,7 +153,7 @@ pub record EndsWhole (rules : Rules) (seen : List ℕ) (turns : List Assignment)
   pub made : turns ≡ turns_from rules 0 requests
 
 -- How a trace ended of which these bytes came, and the turns that it had.
--- `Ends` is that nothing comes behind them.
+-- `Ends` says that the reader has no more bytes.
 abbrev pub EndsTrace : Rules → Type 0 → List ℕ → List Assignment → Result (Unit {0}) TraceFault
     → Type 0
 EndsTrace rules Ends seen turns (Ok _) = EndsWhole rules seen turns

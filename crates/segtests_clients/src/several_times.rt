@@ -143,7 +143,7 @@ fn a_client_without_queues_keeps_the_times_apart(rt: HostRuntime) {
     }
 }
 
-// A segment that was begun for a shorter time does for a put, if its deadline suits it.
+// A put may store into a segment that was begun for a shorter time, if its deadline suits it.
 // Where that one is full, another open one is filled before a third is begun.
 #[test]
 fn an_open_segment_is_filled_before_another_is_begun(rt: HostRuntime) {
