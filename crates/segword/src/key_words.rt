@@ -72,18 +72,22 @@ impl<'k> KeyWords<'k> {
         ensures key { IsKey self.now }
         ensures valid { IsValue value.now }
     {
+        let head = self.head();
         if MOST_SPAN > 1 {
-            let head = self.head();
             let mut words = [0; ITEM_WORDS];
             words[..head].copy_from_slice(&self.words()[..head]);
             words[0] |= (value.len() as u64) << 8;
             words[head..head + VALUE_WORDS].copy_from_slice(&value.words());
             return words;
         }
+        let words = value.words();
         let mut row = [0; ITEM_WORDS];
-        row[..HEAD_WORDS].copy_from_slice(&self.words());
-        row[0] |= (value.len() as u64) << 8;
-        row[HEAD_WORDS..].copy_from_slice(&value.words());
+        for place in 0..head {
+            row[place] = self.item_word(value, place);
+        }
+        for place in 0..VALUE_WORDS {
+            row[head + place] = words[place];
+        }
         row
     }
 

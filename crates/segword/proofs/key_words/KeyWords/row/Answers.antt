@@ -1,9 +1,8 @@
 use Rattle.std.proofs.Common.{◌≡◌, ◌+◌, ◌-◌, ◌*◌, ◌%◌, ◌^◌, ◌++◌, ℕ, List, bit_or, drop, get_or, length, replicate, set, take, ◌∙◌, ap, arith}
 use borrow.Rule.Slice.PartMut.{put_mid}
-use Rattle.segword.specs.declared.row.TheConstants.{HEAD_WORDS}
 use Rattle.segword.specs.declared.spans.TheConstants.{ITEM_WORDS}
 use Rattle.segword.specs.declared.value.TheConstants.{VALUE_WORDS}
-use Rattle.segword.specs.Bytes.{IsKey, IsValue}
+use Rattle.segword.specs.Bytes.{IsKey}
 use Rattle.segword.specs.Row.{words_from}
 use Rattle.segword.specs.KeyWords.{key_words}
 use Rattle.segword.proofs.MadeRow.{made_row}
@@ -26,25 +25,5 @@ returns-then-this-gt-MOST_SPAN-clause-row c =
     (λ i. made (front i) (long i) (back i))
     ∙ made_row key value at (at + VALUE_WORDS - at) is_key c.words-then-this-gt-MOST_SPAN.ensures.valid c.head-head.ensures.words (omega arith)
 
-pub returns-clause-row : goal.returns-clause-row
-returns-clause-row c =
-    let key = c.args.self.now in
-    let value = c.args.value.now in
-    let is_key : IsKey key = c.words-2.ensures.valid in
-    let is_value : IsValue value = c.words-3.ensures.valid in
-    let front : c.copy_from_slice-2.new.self ≡ key_words key = c.copy_from_slice-2.ensures.after ∙ c.words-2.ensures.words in
-    let long : c.len-2.result ≡ length value = c.len-2.ensures.len in
-    let back : c.copy_from_slice-3.new.self ≡ words_from VALUE_WORDS value 0 =
-    c.copy_from_slice-3.ensures.after ∙ c.words-3.ensures.value in
-    let made = λ (head : List ℕ) (n : ℕ) (tail : List ℕ).
-    put_mid HEAD_WORDS (ITEM_WORDS - HEAD_WORDS) (set (head ++ drop HEAD_WORDS (replicate ITEM_WORDS 0)) 0
-    (bit_or (get_or (head ++ drop HEAD_WORDS (replicate ITEM_WORDS 0)) 0 0) (n * 2 ^ 8 % 2 ^ 64))) tail in
-    let one = c.if-this-gt-MOST_SPAN.false in
-    (λ i. made (front i) (long i) (back i))
-    ∙ made_row key value HEAD_WORDS (ITEM_WORDS - HEAD_WORDS) is_key is_value (omega (arith, one)) (omega (arith, one))
-
 pub returns-then-this-gt-MOST_SPAN-clause-key : goal.returns-then-this-gt-MOST_SPAN-clause-key
 returns-then-this-gt-MOST_SPAN-clause-key c = c.head-head.ensures.key
-
-pub returns-clause-key : goal.returns-clause-key
-returns-clause-key c = c.words-2.ensures.valid
