@@ -1,4 +1,4 @@
-use Rattle.std.proofs.Common.{◌≡◌, ◌+◌, ◌-◌, ◌++◌, List, ℕ, ap, arith, drop, length, replicate, rules, sym, subst, take, ◌∙◌}
+use Rattle.std.proofs.Common.{◌≡◌, ◌+◌, ◌-◌, ◌≤◌, ◌++◌, List, ℕ, ap, arith, drop, length, replicate, rules, sym, subst, take, ◌∙◌}
 use Rattle.std.specs.List.{refill}
 use Rattle.std.proofs.Math.Seq.{take-append_seam}
 use Rattle.std.proofs.lemmas.List.{drop-replicate, length-append, length-replicate}
@@ -15,38 +15,34 @@ refilled : (xs ws : List ℕ) → length ws ≡ length xs → refill (length xs)
 refilled xs ws same =
     subst (λ (n : ℕ). take n (ws ++ drop (length ws) xs) ≡ ws) same (take-append_seam ws (drop (length ws) xs))
 
--- the zeros with the bytes over the first of them
-made : (c : goal.After-hash_of)
-    → refill (length c.from-padded.result.items) c.from-padded.result.items c.put_first.new.room
-    ≡ c.args.bytes.now ++ drop (length c.args.bytes.now) (replicate KEY_ROOM 0)
-made c =
-    let bytes = c.args.bytes.now in
-    let items = c.from-padded.result.items in
+-- zeros with bytes put over the first of them
+filled : (bytes items now room : List ℕ) → length bytes ≤ KEY_ROOM → items ≡ replicate KEY_ROOM 0 → now ≡ items
+    → room ≡ bytes ++ drop (length bytes) now → refill (length items) items room ≡ bytes ++ drop (length bytes) (replicate KEY_ROOM 0)
+filled bytes items now room fits zeros same put =
     let n = length bytes in
     let rest : List ℕ = drop n (replicate KEY_ROOM 0) in
-    let zeros : items ≡ replicate KEY_ROOM 0 = c.from-padded.ensures.0 in
-    let is : c.put_first.new.room ≡ bytes ++ rest =
-    c.put_first.ensures ∙ ap (λ (l : List ℕ). bytes ++ drop n l) (c.as_mut_slice.ensures.value ∙ zeros) in
+    let is : room ≡ bytes ++ rest = put ∙ ap (λ (l : List ℕ). bytes ++ drop n l) (same ∙ zeros) in
     let long : length items ≡ KEY_ROOM = ap length zeros ∙ length-replicate {A = ℕ} KEY_ROOM 0 in
     let left : length rest ≡ KEY_ROOM - n = ap length (drop-replicate n KEY_ROOM 0) ∙ length-replicate {A = ℕ} (KEY_ROOM - n) 0 in
     let both : length (bytes ++ rest) ≡ n + length rest = length-append bytes rest in
-    let same : length c.put_first.new.room ≡ length items = ap length is ∙ omega (arith, both, left, long, c.requires.fits) in
-    refilled items c.put_first.new.room same ∙ is
+    refilled items room (ap length is ∙ omega (arith, both, left, long, fits)) ∙ is
 
-are_bytes : (c : goal.After-hash_of) → AreBytes c.args.bytes.now
-are_bytes c = record { at = λ i. search (rules, c.type_inv.bytes i) }
-
-pub invariant_of-result : goal.invariant_of-result
-invariant_of-result c =
+pub invariant_of-key : goal.invariant_of-key
+invariant_of-key c =
     let bytes = c.args.bytes.now in
-    subst (λ (hash : ℕ). AreKeyParts (refill (length c.from-padded.result.items) c.from-padded.result.items c.put_first.new.room) (length bytes) hash)
-    (sym c.hash_of.ensures)
-    (subst (λ (items : List ℕ). AreKeyParts items (length bytes) (hash_of bytes)) (sym (made c))
-    (AreKeyParts-padded bytes (are_bytes c) c.requires.not_empty c.requires.fits))
+    let are_bytes : AreBytes bytes = record { at = λ i. search (rules, c.type_inv.bytes i) } in
+    let items = c.from.result.items in
+    let made = filled bytes items c.as_mut_slice.result.now c.put_first.new.room (omega (arith, c.requires.fits)) c.from.ensures.0
+    c.as_mut_slice.ensures.value c.put_first.ensures in
+    subst (λ (hash : ℕ). AreKeyParts (refill (length items) items c.put_first.new.room) (length bytes) hash) (sym c.hash_of.ensures)
+    (subst (λ (parts : List ℕ). AreKeyParts parts (length bytes) (hash_of bytes)) (sym made)
+    (AreKeyParts-padded bytes are_bytes c.requires.not_empty c.requires.fits))
 
 pub returns-clause-valid : goal.returns-clause-valid
 returns-clause-valid c =
     let bytes = c.args.bytes.now in
-    let front : take (length bytes) (refill (length c.from-padded.result.items) c.from-padded.result.items c.put_first.new.room) ≡ bytes =
-    ap (take (length bytes)) (made c) ∙ take-append_seam bytes (drop (length bytes) (replicate KEY_ROOM 0)) in
-    subst IsKey (sym front) (IsKey-AreBytes bytes (are_bytes c) c.requires.not_empty c.requires.fits)
+    let are_bytes : AreBytes bytes = record { at = λ i. search (rules, c.type_inv.bytes i) } in
+    let made = filled bytes c.from.result.items c.as_mut_slice.result.now c.put_first.new.room (omega (arith, c.requires.fits)) c.from.ensures.0
+    c.as_mut_slice.ensures.value c.put_first.ensures in
+    subst IsKey (sym (ap (take (length bytes)) made ∙ take-append_seam bytes (drop (length bytes) (replicate KEY_ROOM 0))))
+    (IsKey-AreBytes bytes are_bytes c.requires.not_empty c.requires.fits)
