@@ -15,8 +15,8 @@ use crate::{Key, ValueBytes};
 use std::marker::Model;
 
 /// A key as rows hold it: its length, and its bytes in `KEY_WORDS` words.
-/// It is compared with rows word by word, so that no key is read out of a row. Each word is
-/// loaded from where the key stands, so that none is copied.
+/// It is compared with rows word by word, so that no key is read out of a row. The key stays
+/// where it stands: its words are loaded from there.
 /// Contracts see it as the list of the key's bytes.
 #[derive(Drop)]
 pub struct KeyWords<'k> {
