@@ -26,7 +26,7 @@ busy_is_told : (told : RowAnswer) (kept next : Option HeldRow)
     → KeepsRow hold_answer.Busy told kept next → (told ≡ row_answer.Busy) × (next ≡ kept)
 busy_is_told told kept next is = is
 
--- a second hold is told as one, and leaves the first one's row in the place
+-- a second hold is told as one, and leaves in the place what was there
 second_is_told : (told : RowAnswer) (kept next : Option HeldRow)
     → KeepsRow hold_answer.AlreadyHolding told kept next
     → (told ≡ row_answer.AlreadyHolding) × (next ≡ kept)
