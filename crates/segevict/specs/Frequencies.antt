@@ -24,11 +24,12 @@ HadThen shape segment row IsSo p q key =
     HadFrequency shape segment row IsSo (mark.marked start) (marked q) key)
 
 -- at such a moment the key's item was in the segment, in whichever row,
--- and its frequency was the cutoff or over it, or below the cutoff
+-- and its frequency was the cutoff or over it
 abbrev pub WasOften : Shape → ℕ → ℕ → Pass → Pass → List ℕ → Type 0
 WasOften shape segment cutoff p q key =
     (row : ℕ) × HadThen shape segment row (λ frequency. cutoff ≤ frequency) p q key
 
+-- at such a moment it was there, and its frequency was below the cutoff
 abbrev pub WasSeldom : Shape → ℕ → ℕ → Pass → Pass → List ℕ → Type 0
 WasSeldom shape segment cutoff p q key =
     (row : ℕ) × HadThen shape segment row (λ frequency. frequency < cutoff) p q key

@@ -27,8 +27,8 @@ UsesSome into count p q =
     (UsesRows into count p q)
     ((rows : ℕ) × (count ≤ rows) × UsesRows into rows p q)
 
--- The current segment has too few rows left for an item of the segment, or rows enough for one:
--- for as many as a used row's item took when the call began.
+-- The current segment has too few rows left for an item of the segment: for as many as a used
+-- row's item took when the call began.
 abbrev pub LacksRows : Shape → ℕ → Pass → Pass → Type 0
 LacksRows shape segment p q =
     MatchBool (most_span == 1)
@@ -36,6 +36,8 @@ LacksRows shape segment p q =
     ((row : ℕ) × IsUsedRow segment row p
     × (has_room_for shape (span_in (trace p) segment row) q ≡ false))
 
+-- The current segment has rows enough for an item of the segment: for as many as a used row's
+-- item took when the call began.
 abbrev pub HasRowsForOne : Shape → ℕ → Pass → Pass → Type 0
 HasRowsForOne shape segment p q =
     MatchBool (most_span == 1)
