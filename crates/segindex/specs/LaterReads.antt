@@ -46,7 +46,8 @@ StoodIsRead = (b : Board) (key value : List ℕ) (draw now : ℕ) (told : GetAns
     → ReadsKey b key draw now told p q
     → IsReadSince b.shape key value now told stood (seen p) (seen q)
 
--- The same is so of what stood at a moment that the get's first step saw, whoever knew of it.
+-- What stood at a moment that the get's first step saw, whoever knew of it, is what the get
+-- reads, or a later value. Or the key was taken out, or has expired, or the get is Busy.
 -- By `every_schedule` that step has seen all that any call had seen which ended before.
 abbrev pub SeenIsRead : Type 0
 SeenIsRead = (b : Board) (key value : List ℕ) (draw now : ℕ) (told : GetAnswer)

@@ -13,7 +13,7 @@ use Rattle.segstore.specs.Words.{refilled_aside, TakesOneStep}
 -- ---- refilling
 
 -- The refilling was entered. The segment, one of the pass's own, is in use.
--- No row of it is used, and it has this deadline. Then this segment is current.
+-- No row of it is used, and it has this deadline. Then the pass stores into `current`.
 -- All else that the pass keeps is as it was. The call is one step.
 pub record RefillsWith (segment deadline : ℕ) (current : Option ℕ) (p q : Pass) : Type 0 where
   pub entry : AddsEntry (Refilled (number p) segment deadline) p q
@@ -45,7 +45,7 @@ abbrev pub IsRefillAnswer : ℕ → ℕ → RefillAnswer → Pass → Pass → T
 IsRefillAnswer segment deadline told p q =
     IsRefillAnswerWith segment deadline (Some segment) told p q
 
--- A refill after which this segment is current is answered so:
+-- A refill after which the pass stores into `current` is answered so:
 -- NotYours exactly if the segment isn't one of the pass's own, and NotEvicted exactly if it is
 -- in use. An evicted segment in which the pass itself holds an item is always Held.
 pub record RefillsSegmentWith (b : Board) (segment deadline : ℕ) (current : Option ℕ)
