@@ -98,7 +98,7 @@ AreDone segment from p = unwrap_or (used_of p segment) 0 ≤ from
 
 -- A step had its answer. What is kept has at least the cutoff of the client.
 -- The rest of a segment is evicted once each used row is done.
--- What is refilled has the deadline of another segment of the pass's own.
+-- What is refilled has the deadline of a segment of the pass's own that isn't current.
 -- A look is made only where items take several rows.
 abbrev pub IsStep : Board → Option ℕ → Step → Pass → Pass → Type 0
 IsStep b cutoff (looks_at segment row told) p q =

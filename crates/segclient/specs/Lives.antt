@@ -19,7 +19,8 @@ latest_of now time = until_last (now + time) (now + time)
 abbrev pub earliest_of : ℕ → ℕ → ℕ
 earliest_of now time = until_last (now + time) (now + time - time / 8)
 
--- all deadlines that come in this time, and not before seven eighths of it
+-- All deadlines that come in this time, and not before seven eighths of it. Where clock and time
+-- together come to the largest moment or beyond, it is that moment alone.
 abbrev pub life_window : ℕ → ℕ → Window
 life_window now time = record { earliest = earliest_of now time; latest = latest_of now time }
 
@@ -37,8 +38,9 @@ IsWindowFor queued now time until window =
     (window ≡ life_window now time)
     ⊎ ((queued ≡ true) × (window ≡ record (life_window now time) { earliest = until }))
 
--- these deadlines let an item live for seven eighths of its time at least and for all of it
--- at most, and this one is among them
+-- These deadlines let an item live for seven eighths of its time at least and for all of it
+-- at most, and this one is among them. Where clock and time together come to the largest moment
+-- or beyond, the deadline is that moment, however soon it comes.
 pub record IsLife (now time : ℕ) (window : Window) (until : ℕ) : Type 0 where
   pub earliest : earliest_of now time ≤ window.earliest
   pub latest : window.latest ≤ latest_of now time

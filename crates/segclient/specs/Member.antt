@@ -81,7 +81,7 @@ pub record SetsNow (now : ℕ) (old new : Member) : Type 0 where
   pub time_to_live : new.time_to_live ≡ old.time_to_live
   pub cutoff : new.cutoff ≡ old.cutoff
 
--- what it stores expires so much later, and nothing else is changed
+-- the client's time to live is this one from now on, and nothing else is changed
 pub record SetsTimeToLive (time : ℕ) (old new : Member) : Type 0 where
   pub rest : KeepsRest old new
   pub clock : new.clock ≡ old.clock

@@ -9,8 +9,9 @@ ghost use Rattle.segclient.specs.PutLaws.{PutCounts, PutGoesOn, PutIsRefused, Pu
 /// The client counts the answer, and the entries that the put adds beside its request's.
 /// A put that is Stored stores into a segment whose deadline comes in the put's time,
 /// and not before seven eighths of it.
-/// It is NoRoom if each segment of its pass couldn't be had, BucketFull if its key's bucket was
-/// full and later was full again, and Busy if that was in the way.
+/// It is NoRoom only if each segment of its pass couldn't be had, or if its item takes more rows
+/// than a segment has. It is BucketFull only if its key's bucket was full and later was full
+/// again, and Busy only if that bucket was in the way.
 pub fn what_a_put_comes_to()
     ensures on { PutGoesOn }
     ensures counts { PutCounts }
