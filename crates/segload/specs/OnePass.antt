@@ -15,7 +15,7 @@ use Rattle.segload.specs.Loads.{IsLoad, keys_of}
 abbrev pub ServedByModel : Shape → Command → ℕ → Answer → State → State → Type 0
 ServedByModel shape command draw given old new = Serves shape old command given new
 
--- The model, from its start on, serves the commands of a load with one pass, with these totals.
+-- The model, from its start on, serves the commands of a load with one pass, with these tallies.
 -- At the end as many keys stand there.
 abbrev pub OnePassIsModelled : Type 0
 OnePassIsModelled = (shape : Shape) (seed keys commands : ℕ) (totals : Totals) (only : PassTotals)
