@@ -12,7 +12,8 @@ use Rattle.segreplay.specs.declared.fault.ReplayFault.{ReplayFault}
 use Rattle.segreplay.specs.declared.fault.TraceFault.{TraceFault}
 use Rattle.segreplay.specs.declared.run.Replayed.{Replayed}
 use Rattle.segreplay.specs.declared.run.ReplayPlan.{ReplayPlan}
-use Rattle.segreplay.specs.Replays.{IsReplay}
+use Rattle.segreplay.specs.Caches.{IsReplayFault}
+use Rattle.segreplay.specs.Replays.{IsReplay, planned}
 use Rattle.segcli.specs.declared.asked.Replay.{Replay}
 use Rattle.segscript.specs.Words.{EachTurn, EndsOnce, is_make_fault, is_read_fault, is_write_fault, RunFault}
 use Rattle.segscript.specs.Words.{RunOutcome, ShapeIsAnswered}
@@ -115,12 +116,15 @@ pub record ShowsReplay (asked : Replay) {R W : Type 0} (i : Input R) (o : Output
   pub shows : ShowOutcome (replay_text asked.format replayed.totals.items) o shown
   pub ended : end ≡ end_of_replay shown replayed.end
 
--- A replay was shown, or it failed before there were totals to show, and nothing was written.
+-- A replay was shown, or it failed before there were totals to show, and nothing was written: for
+-- a cache that couldn't be made, and then nothing was read; or for memory.
 abbrev pub ReplayOutcome : Replay → {R W : Type 0} → Input R → Output W
     → Result (Unit {0}) ProgramFault → Type 0
 ReplayOutcome asked i o end =
     ShowsReplay asked i o end
-    ⊎ ((why : ReplayFault) × (end ≡ Err (fault_of_replay why)) × Took o [] × IsUnflushed o)
+    ⊎ ((plan : ReplayPlan) × (why : ReplayFault) × IsPlanOf asked plan
+    × IsReplayFault (planned plan) (i.new ≡ i.old) why
+    × (end ≡ Err (fault_of_replay why)) × Took o [] × IsUnflushed o)
 
 -- ---- commands
 

@@ -1,8 +1,8 @@
 -- The caches that a trace is sent through, and their clients before the first command.
-use Rattle.std.specs.Prelude.{◌≡◌, ◌+◌, ◌*◌, ◌/◌, ℕ, zero, suc, max, List, [], ◌∷◌, ◌++◌, map, Some, None, if◌then◌else◌, ◌==◌}
-use Rattle.std.specs.List.{AllZip, flat_map}
+use Rattle.std.specs.Prelude.{◌≡◌, ◌+◌, ◌*◌, ◌/◌, ⊤, ℕ, zero, suc, max, List, [], ◌∷◌, ◌++◌, map, Some, None, if◌then◌else◌, ◌==◌}
+use Rattle.std.specs.List.{AllZip, Contains, flat_map}
 use Rattle.segword.specs.Words.{IsValid, Shape, word_count}
-use Rattle.segbase.specs.Words.{number, Pass}
+use Rattle.segbase.specs.Words.{IsMakeFault, number, Pass}
 use Rattle.segindex.specs.Words.{Index, IsNew}
 use Rattle.segclient.specs.declared.client.Client.{Client}
 use Rattle.segclient.specs.Client.{MakesCall, Starts}
@@ -12,6 +12,8 @@ use Rattle.segreplay.specs.declared.cache.Dealt.{Dealt}
 use Rattle.segreplay.specs.declared.cache.Retention.{Retention}
 use Rattle.segreplay.specs.declared.cache.Retention.TheVariants as policy
 use Rattle.segreplay.specs.declared.counts.Counts.{Counts}
+use Rattle.segreplay.specs.declared.fault.ReplayFault.{ReplayFault}
+use Rattle.segreplay.specs.declared.fault.ReplayFault.TheVariants as fault
 use Rattle.segreplay.specs.declared.player.Player.{Player}
 use Rattle.segreplay.specs.Counting.{no_counts, together}
 
@@ -51,6 +53,13 @@ bytes_of cache = 8 * word_count cache.shape + queue_bytes cache.policy cache.sha
 -- an index can have the shape of the cache
 abbrev pub HasValidShape : CacheConfig → Type 0
 HasValidShape cache = IsValid cache.shape
+
+-- One of the caches couldn't be made, for the first fault of its shape or for memory, and then
+-- `Unread` is so. Or there was no memory for a list.
+abbrev pub IsReplayFault : List CacheConfig → Type 0 → ReplayFault → Type 0
+IsReplayFault caches Unread (fault.Make why) =
+    Unread × ((cache : CacheConfig) × Contains caches cache × IsMakeFault cache.shape why)
+IsReplayFault caches Unread fault.OutOfMemory = ⊤
 
 -- a new index of the cache's shape, and all its passes
 abbrev pub IsDealt : Index → Dealt → Type 0

@@ -95,7 +95,8 @@ Plays [] old new = new ≡ old
 Plays (turn ∷ turns) old new =
     (between : Player) × TakesOwn turn old between × Plays turns between new
 
--- The items were counted that stand in the client's segments: those that a key names.
+-- The items were counted that stand in the client's segments: those that a key names, each as
+-- many times as it takes rows.
 pub record CountsItems (old new : Player) : Type 0 where
   pub told : IndexStats
   pub reads : MakesCall (ReturnsTable told) old.client new.client

@@ -60,9 +60,9 @@ totals_from lives place players (cache ∷ caches) =
 abbrev pub planned : ReplayPlan → List CacheConfig
 planned plan = caches_of plan.policies.now plan.shape plan.sizes
 
--- The bytes `seen` came. The commands of their lines were made by the plan's clients:
--- one for each pass of each of its caches. The totals are what these counted, with the items that
--- stood at the end, and how many times to live the commands had.
+-- The bytes `seen` came. The commands of their lines were made by the plan's clients: one for each
+-- pass of each of its caches. The totals are what these counted, with the rows of the items that
+-- stood at the end, and how many times to live the gets and sets had: 64 stands for 64 or more.
 pub record IsReplay (plan : ReplayPlan) (Ends : Type 0) (seen : List ℕ) (r : Replayed)
     : Type 0 where
   pub turns : List Assignment

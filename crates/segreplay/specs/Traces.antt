@@ -108,7 +108,7 @@ pub record EndsBad (rules : Rules) (Ends : Type 0) (seen : List ℕ) (turns : Li
   pub made : turns ≡ turns_from rules 0 requests
   pub number : n ≡ line_after 1 lines
 
--- A line that has ended states a command, for which there was no memory.
+-- Out of memory was told of a line that has ended and states a command.
 -- These are the turns of the lines before it.
 pub record EndsForMemory (rules : Rules) (Ends : Type 0) (seen : List ℕ)
     (turns : List Assignment) : Type 0 where

@@ -1,10 +1,10 @@
 //! Caches that one trace is sent through: their shapes, and what their clients keep.
-ghost use Rattle.std.specs.Prelude.{◌≡◌, ◌++◌, All, IfOk, List, OnOk};
+ghost use Rattle.std.specs.Prelude.{◌≡◌, ◌++◌, ⊤, All, IfErr, IfOk, List, OnOk};
 ghost use Rattle.std.specs.List.{AllZip};
 ghost use Rattle.segindex.specs.Words.{board_of};
 ghost use Rattle.segstore.specs.Words.{IsQuiet};
 ghost use Rattle.segreplay.specs.Caches.{AreFresh, caches_in, caches_of, half_of, HasValidShape};
-ghost use Rattle.segreplay.specs.Caches.{IsDealt, IsFresh, SetsPolicy, sizes_of};
+ghost use Rattle.segreplay.specs.Caches.{IsDealt, IsFresh, IsReplayFault, SetsPolicy, sizes_of};
 ghost use Rattle.segreplay.specs.Policies.{cutoff_of};
 ghost use Rattle.segreplay.specs.declared.player.Player.{Player};
 
@@ -139,6 +139,7 @@ pub(crate) fn make_all(alloc: Global, caches: &[CacheConfig]) -> Result<Made, Re
     ensures valid { IfOk result (λ _. All HasValidShape caches.now) }
     ensures each { IfOk result (λ made. caches_in made.dealt.items ≡ caches.now) }
     ensures new { IfOk result (λ made. AllZip IsDealt made.indexes.items made.dealt.items) }
+    ensures fault { IfErr result (IsReplayFault caches.now ⊤) }
 {
     let mut indexes = Vec::new(alloc);
     let mut dealt = Vec::new(alloc);

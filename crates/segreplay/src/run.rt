@@ -1,10 +1,11 @@
 //! A replay: the commands of a trace, made by the clients of one cache or several.
-ghost use Rattle.std.specs.Prelude.{◌≡◌, ◌++◌, [], ℕ, List, false, IfOk, OnOk};
+ghost use Rattle.std.specs.Prelude.{◌≡◌, ◌++◌, [], ℕ, List, false, IfErr, IfOk, OnOk};
 ghost use Rattle.segreplay.specs.declared.player.Assignment.{Assignment};
 ghost use Rattle.segreplay.specs.declared.player.Player.{Player};
+ghost use Rattle.segreplay.specs.Caches.{IsReplayFault};
 ghost use Rattle.segreplay.specs.Playing.{CountsItems, Plays};
 ghost use Rattle.segreplay.specs.Replays.{AddsLives, AllCount, AllPlay, is_read_end, IsReplay};
-ghost use Rattle.segreplay.specs.Replays.{MakesSome};
+ghost use Rattle.segreplay.specs.Replays.{MakesSome, planned};
 ghost use Rattle.segreplay.specs.Traces.{EndsTrace, HandsOn, HasRead};
 
 use crate::cache::{Made, Retention, caches_of, make_all, players_of};
@@ -203,6 +204,7 @@ pub fn replay<R: Threads + Sync, S: Source, F: Follow>(
     ensures whole { IfOk result (λ replayed. OnOk replayed.end (S.is_at_end source.new)) }
     ensures read { IfOk result (λ replayed.
         S.has_failed source.new ≡ is_read_end replayed.end) }
+    ensures fault { IfErr result (IsReplayFault (planned plan.now) (source.new ≡ source.old)) }
 {
     let Ok(caches) = caches_of(alloc, plan.policies, plan.shape, plan.sizes) else {
         return Err(ReplayFault::OutOfMemory);
