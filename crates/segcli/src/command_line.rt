@@ -120,7 +120,7 @@ writes segment deadline=4294967295 readers=2.
 Any other word is a bad word, with status 2; --explain says what is wrong with it.";
 
 /// The command line, of which a parse reads the words after the program's name.
-pub fn program<'a>(alloc: Global) -> Result<Command<'a>, AllocError>
+pub(crate) fn program<'a>(alloc: Global) -> Result<Command<'a>, AllocError>
     ensures { IfOk result (Builds command_line) }
 {
     named(alloc)?

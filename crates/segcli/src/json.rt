@@ -52,7 +52,7 @@ fn put_total(text: &mut Vec<u8>, commands: u128, keys: u32) -> Result<(), AllocE
 }
 
 /// One object on one line: an object for each pass, in the order of their numbers, and one for all.
-pub fn json_of(alloc: Global, totals: &Totals) -> Result<Vec<u8>, AllocError>
+pub(crate) fn json_of(alloc: Global, totals: &Totals) -> Result<Vec<u8>, AllocError>
     ensures text { IfOk result (λ text. text.items ≡ json_text totals.now) }
 {
     let mut text = Vec::new(alloc);

@@ -63,7 +63,7 @@ fn put_total(text: &mut Vec<u8>, commands: u128, keys: u32) -> Result<(), AllocE
 }
 
 /// The totals of a load in this format.
-pub fn text_in(alloc: Global, format: Format, totals: &Totals) -> Result<Vec<u8>, AllocError>
+pub(crate) fn text_in(alloc: Global, format: Format, totals: &Totals) -> Result<Vec<u8>, AllocError>
     ensures text { IfOk result (λ text. text.items ≡ text_in format totals.now) }
 {
     match format {
@@ -73,7 +73,7 @@ pub fn text_in(alloc: Global, format: Format, totals: &Totals) -> Result<Vec<u8>
 }
 
 /// The text of a load's totals: a line for each pass, in the order of their numbers, and one for all.
-pub fn text_of(alloc: Global, totals: &Totals) -> Result<Vec<u8>, AllocError>
+pub(crate) fn text_of(alloc: Global, totals: &Totals) -> Result<Vec<u8>, AllocError>
     ensures text { IfOk result (λ text. text.items ≡ totals_text totals.now) }
 {
     let mut text = Vec::new(alloc);
