@@ -247,7 +247,8 @@ impl Client {
     }
 
     /// Stores a value, and makes no room: [`Error::NoRoom`] if the client finds no segment of its own with a row left in
-    /// which the value lives as long as after a put, as before its first put. Then [`Client::make_room`], and set again.
+    /// which the value lives as long as after a put, as before its first put; with the feature `wide` also if the
+    /// segment that it stores into has fewer rows left than the item takes. Then [`Client::make_room`], and set again.
     ///
     /// # Errors
     /// As [`Client::put`].
@@ -358,7 +359,7 @@ impl Client {
     /// Begins another segment of this client's, and returns whether one could be had: in the table of its last
     /// write, if that was answered by [`Error::NoRoom`], and else in each table. It may evict keys that this
     /// client stored. A client that keeps by queues does nothing where its segment has the deadline that is asked and
-    /// room for the longest item. Else each call begins another one, also where the one before has rows left. So call
+    /// room for the longest item, or no used row. Else each call begins another one, also where the one before has rows left. So call
     /// it where a write found no room, and not before each.
     ///
     /// # Errors
