@@ -90,10 +90,13 @@ static void test_requests(void) {
     }
     segcache_get_many(other, &key, sizeof key, key, &lookup, 1);
     segcache_gets_many(other, &key, sizeof key, key, &lookup, 1);
+    segcache_get_many_into(one, &into, 1, key);
     segcache_gets_many_into(other, &into, 1, key);
     if (key % 3 == 0) segcache_delete(other, &key, sizeof key, key);
     segcache_add(other, &key, sizeof key, "added", 5, key);
     segcache_set(one, &key, sizeof key, "set", 3, key);
+    segcache_put_for(other, &key, sizeof key, "put for", 7, 60, key);
+    segcache_fill(clients, 2, &key, sizeof key, "filled", 6, key);
     if (key % 100 == 0) segcache_make_room(one, key);
     if (key == KEYS / 4) segcache_set_time_to_live(one, 60);
     if (key == KEYS / 2) segcache_keep_from(one, 2);
