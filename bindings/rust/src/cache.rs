@@ -68,7 +68,8 @@ impl Builder {
     /// 65,536 / threads keys, all keys fit whichever clients store them. A client isn't told of what others delete:
     /// where they delete what it stores, in the same order all the while, it can evict keys that have room. There is a
     /// table for every 200,000 keys, and each key belongs to one of the tables by its hash. With the feature `wide`
-    /// there is room for so many keys if each item takes one row, as with 32 bytes of value.
+    /// there is room for so many keys if each item takes one row, as with 32 bytes of value. Longer items take more, and
+    /// in a small cache the longest may never be stored: see [`Builder::items`].
     #[must_use]
     pub fn keys(mut self, keys: u32) -> Builder {
         self.keys = keys;
