@@ -88,9 +88,8 @@ const REPLAY: &str = "Replays a trace through a cache, and writes how often its 
 const AFTER_REPLAY: &str =
     "Lines: get KEY, which puts what it misses; KEY, the same; set KEY; delete KEY. With --csv TIME,KEY,OP,TTL,
 Twitter's seven fields, or columns that a header names (timestamp, key, op, ttl, value_size; others are
-skipped). The clock shows TIME (from 10^12 on milliseconds), and what the line puts lives for TTL at most,
-and for seven eighths of it at least (0: it lasts). A key over 24 bytes goes by its hash. A value has
-value_size bytes, or --value-bytes.
+skipped). The clock shows TIME (from 10^12 on milliseconds). What is put lives for TTL at most, for 7/8 of
+it at least (0: it lasts). A key over 24 bytes goes by its hash, a value has value_size or --value-bytes.
 Empty lines count for nothing. A bad line ends the replay with status 2, behind the totals of the lines
 before it; --explain says why it is bad.
 
