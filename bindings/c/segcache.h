@@ -22,9 +22,9 @@
  * 4,352 rows in each table, 64 times 68, can store every item.
  *
  * ANSWERS. Each call on a handle returns a status, SEGCACHE_OK or another of the list below. A null or freed
- * handle and a key or value of a bad length are answers, and the call did nothing. No pointer that a call writes
- * through may be null, but a buffer for a value whose size is 0; nor may the shape of an open. With a short buffer
- * the read was made, a get or gets counted, and the length is written.
+ * handle and a key or value of a bad length are answers, and the call did nothing. A pointer that a call writes
+ * through must not be null, nor the shape of an open. Only the buffer of a value may be null, if its size is 0.
+ * With a short buffer the read was made, a get or gets counted, and the length is written.
  *
  * WHAT IS PROVED, and under which conditions. The functions behind these (segcache_raw_..) are proved
  * under Rattle to be safe and to return, over a proved cache. Of each it is proved what it did for which
@@ -676,8 +676,9 @@ static inline uint32_t segcache_keep_nothing(segcache_client *client) {
 /* Makes room, as a put does that finds no row: in the table of the client's last write, if that was answered by NO_ROOM,
    and else in each table. What is stored there next goes into a segment with a deadline for `now`: it lives for seven
    eighths of the time to live at least. A client that keeps by queues does nothing where its segment has the last such
-   deadline that is a multiple of an eighth of the time, and room for the longest item, or no used row. Else each call begins another segment, also where the one before has rows left. So call
-   it where a write found no room, and not before each. Answers: OK; NO_ROOM, of one table at least; NO_HANDLE. */
+   deadline that is a multiple of an eighth of the time, and room for the longest item, or no used row. Else each call
+   begins another segment, also where the one before has rows left. So call it where a write found no room, and not
+   before each. Answers: OK; NO_ROOM, of one table at least; NO_HANDLE. */
 static inline uint32_t segcache_make_room(segcache_client *client, uint32_t now) {
   return SEGCACHE_CALL(client, segcache_raw_make_room(&client->raw, now));
 }
