@@ -1,5 +1,6 @@
 -- A key's bytes with zeros behind them, as keys are kept.
 use Rattle.std.proofs.Common.{◌≡◌, ℕ, zero, suc, ◌+◌, ◌-◌, ◌*◌, ◌<◌, ◌≤◌, List, [], ◌∷◌, ◌++◌, length, get_or, take, drop, replicate, refl, sym, ap, subst, ◌∙◌, arith}
+use Rattle.std.specs.List.{refill}
 use Rattle.std.proofs.lemmas.Grind.{same_number_lists}
 use Rattle.std.proofs.Math.Seq.{take-append_seam}
 use Rattle.std.proofs.lemmas.List.{drop-replicate, length-append, length-replicate}
@@ -59,3 +60,20 @@ kept_word xs bytes k h same lt =
     ap (word_at bytes) at ∙ sym (get_or-words_from KEY_WORDS bytes 0 k lt)
     ∙ ap (λ (ws : List ℕ). get_or ws k 0) (words_from-kept KEY_WORDS KEY_ROOM xs bytes h refl same)
     ∙ get_or-words_from KEY_WORDS xs 0 k lt ∙ ap (word_at xs) (sym at)
+
+-- a list that is refilled by as many is those
+refilled : (xs ws : List ℕ) → length ws ≡ length xs → refill (length xs) xs ws ≡ ws
+refilled xs ws same =
+    subst (λ (n : ℕ). take n (ws ++ drop (length ws) xs) ≡ ws) same (take-append_seam ws (drop (length ws) xs))
+
+-- zeros with bytes put over the first of them
+pub filled : (bytes items now room : List ℕ) → length bytes ≤ KEY_ROOM → items ≡ replicate KEY_ROOM 0 → now ≡ items
+    → room ≡ bytes ++ drop (length bytes) now → refill (length items) items room ≡ bytes ++ drop (length bytes) (replicate KEY_ROOM 0)
+filled bytes items now room fits zeros same put =
+    let n = length bytes in
+    let rest : List ℕ = drop n (replicate KEY_ROOM 0) in
+    let is : room ≡ bytes ++ rest = put ∙ ap (λ (l : List ℕ). bytes ++ drop n l) (same ∙ zeros) in
+    let long : length items ≡ KEY_ROOM = ap length zeros ∙ length-replicate {A = ℕ} KEY_ROOM 0 in
+    let left : length rest ≡ KEY_ROOM - n = ap length (drop-replicate n KEY_ROOM 0) ∙ length-replicate {A = ℕ} (KEY_ROOM - n) 0 in
+    let both : length (bytes ++ rest) ≡ n + length rest = length-append bytes rest in
+    refilled items room (ap length is ∙ omega (arith, both, left, long, fits)) ∙ is
