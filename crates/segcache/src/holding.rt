@@ -53,9 +53,11 @@ fn hold(kept: &mut Kept, key: &[u8], now: u32) -> Status
     let Kept::Client(client) = kept else {
         return Status::NoHandle;
     };
-    let Some(key) = Key::new(key) else {
+    let bytes = key;
+    let mut key = Key::zero();
+    if !key.assign(bytes) {
         return Status::BadKey;
-    };
+    }
     client.hold(&key, now)
 }
 

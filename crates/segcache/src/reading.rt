@@ -70,9 +70,11 @@ pub(crate) fn get_key(
     ensures { GotKey key.now now (value.old, value_len.old) (value.new, value_len.new) result
         client.old client.new }
 {
-    let Some(key) = Key::new(key) else {
+    let bytes = key;
+    let mut key = Key::zero();
+    if !key.assign(bytes) {
         return Status::BadKey;
-    };
+    }
     tell_length(client.get_into(&key, now, value), value_len)
 }
 
@@ -124,9 +126,11 @@ pub(crate) fn gets_key(
     ensures { GotKeyVersion key.now now (value.old, value_len.old) (value.new, value_len.new)
         version.old version.new result client.old client.new }
 {
-    let Some(key) = Key::new(key) else {
+    let bytes = key;
+    let mut key = Key::zero();
+    if !key.assign(bytes) {
         return Status::BadKey;
-    };
+    }
     tell_version(client.gets_into(&key, now, value), value_len, version)
 }
 

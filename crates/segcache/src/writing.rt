@@ -65,9 +65,11 @@ fn put(kept: &mut Kept, key: &[u8], value: &[u8], now: u32) -> Status
     let Kept::Client(client) = kept else {
         return Status::NoHandle;
     };
-    let Some(key) = Key::new(key) else {
+    let bytes = key;
+    let mut key = Key::zero();
+    if !key.assign(bytes) {
         return Status::BadKey;
-    };
+    }
     let Some(value) = ValueBytes::new(value) else {
         return Status::BadValue;
     };
@@ -99,9 +101,11 @@ fn put_for(kept: &mut Kept, key: &[u8], value: &[u8], seconds: u32, now: u32) ->
     let Kept::Client(client) = kept else {
         return Status::NoHandle;
     };
-    let Some(key) = Key::new(key) else {
+    let bytes = key;
+    let mut key = Key::zero();
+    if !key.assign(bytes) {
         return Status::BadKey;
-    };
+    }
     let Some(value) = ValueBytes::new(value) else {
         return Status::BadValue;
     };
@@ -175,9 +179,11 @@ fn write(kept: &mut Kept, when: Condition, key: &[u8], value: &[u8], now: u32) -
     let Kept::Client(client) = kept else {
         return Status::NoHandle;
     };
-    let Some(key) = Key::new(key) else {
+    let bytes = key;
+    let mut key = Key::zero();
+    if !key.assign(bytes) {
         return Status::BadKey;
-    };
+    }
     let Some(value) = ValueBytes::new(value) else {
         return Status::BadValue;
     };
@@ -201,8 +207,10 @@ fn delete(kept: &mut Kept, key: &[u8], now: u32) -> Status
     let Kept::Client(client) = kept else {
         return Status::NoHandle;
     };
-    let Some(key) = Key::new(key) else {
+    let bytes = key;
+    let mut key = Key::zero();
+    if !key.assign(bytes) {
         return Status::BadKey;
-    };
+    }
     of_delete(client.delete(&key, now))
 }

@@ -1,4 +1,4 @@
-use Rattle.std.proofs.Common.{◌≡◌, ℕ, List, length, refl, subst}
+use Rattle.std.proofs.Common.{◌≡◌, ℕ, List, length, refl, subst, sym, ◌∙◌}
 use Rattle.std.proofs.lemmas.Bool.{false≢true}
 use Rattle.segcache.specs.declared.client.SharedClient.{SharedClient}
 use Rattle.segcache.specs.declared.kept.Kept.TheVariants as kept
@@ -14,8 +14,8 @@ use Rattle.segshards.specs.Shards.{shard_of}
 use Rattle.segcache.specs.Wants.{put_wants}
 use Rattle.segcache.proofs.writing.put_for.Goals as goal
 
-pub returns-in_default-new : goal.returns-in_default-new
-returns-in_default-new c =
+pub returns-then-not-assign : goal.returns-then-not-assign
+returns-then-not-assign c =
     let R : Status → Type 0 = Returns status.BadKey in
     let Makes : SharedClient → SharedClient → Type 0 =
     MakesPutFor c.args.seconds c.args.key.now c.args.value.now c.args.now status.BadKey in
@@ -23,10 +23,10 @@ returns-in_default-new c =
     let Keyed : SharedClient → SharedClient → Type 0 = ByKey R c.args.key.now Valued in
     let client = c.in-Client.client in
     by_client R Keyed c.args.kept.now (kept.Client client) client client c.in-Client.is refl
-    (bad_key R c.args.key.now Valued client (λ is. false≢true (c.in_default-new.ensures.variant.1 is)) refl)
+    (bad_key R c.args.key.now Valued client (λ is. false≢true (sym c.if-not-assign.true ∙ c.assign.ensures.variant.1 is)) refl)
 
-pub returns-in_default-new-2 : goal.returns-in_default-new-2
-returns-in_default-new-2 c =
+pub returns-in_default-new : goal.returns-in_default-new
+returns-in_default-new c =
     let R : Status → Type 0 = Returns status.BadValue in
     let Makes : SharedClient → SharedClient → Type 0 =
     MakesPutFor c.args.seconds c.args.key.now c.args.value.now c.args.now status.BadValue in
@@ -34,9 +34,9 @@ returns-in_default-new-2 c =
     let Keyed : SharedClient → SharedClient → Type 0 = ByKey R c.args.key.now Valued in
     let client = c.in-Client.client in
     by_client R Keyed c.args.kept.now (kept.Client client) client client c.in-Client.is refl
-    (good_key R c.args.key.now Valued client client (c.in-Some.ensures.variant.0 refl)
+    (good_key R c.args.key.now Valued client client (c.assign.ensures.variant.0 c.if-not-assign.false)
     (bad_value R c.args.value.now Makes client
-    (λ is. false≢true (c.in_default-new-2.ensures.variant.1 is)) refl))
+    (λ is. false≢true (c.in_default-new.ensures.variant.1 is)) refl))
 
 pub returns : goal.returns
 returns c =
@@ -50,13 +50,14 @@ returns c =
     let told = c.put_for.result in
     let Calls = λ (k v : List ℕ). CallsKey k (At c.args.now (PutsFor c.args.seconds k v told)) old new in
     let Wants = λ (k : List ℕ). new.wants ≡ put_wants told (shard_of (length old.guests.items) k) in
+    let same = c.assign.ensures.assigned c.if-not-assign.false in
     by_client R Keyed c.args.kept.now (kept.Client new) old new c.in-Client.is refl
-    (good_key R c.args.key.now Valued old new (c.in-Some.ensures.variant.0 refl)
-    (good_value R c.args.value.now Makes old new (c.in-Some-new.ensures.variant.0 refl)
+    (good_key R c.args.key.now Valued old new (c.assign.ensures.variant.0 c.if-not-assign.false)
+    (good_value R c.args.value.now Makes old new (c.in-Some.ensures.variant.0 refl)
     (record {
       answer = told;
-      calls = subst (λ (k : List ℕ). Calls k c.args.value.now) c.in-Some.ensures.some
-          (subst (λ (v : List ℕ). Calls c.in-Some.key v) c.in-Some-new.ensures.some c.put_for.ensures.calls);
-      wants = subst Wants c.in-Some.ensures.some c.put_for.ensures.wants;
+      calls = subst (λ (k : List ℕ). Calls k c.args.value.now) same
+          (subst (λ (v : List ℕ). Calls c.assign.new.self v) c.in-Some.ensures.some c.put_for.ensures.calls);
+      wants = subst Wants same c.put_for.ensures.wants;
       returns = c.of_put.ensures;
     })))
