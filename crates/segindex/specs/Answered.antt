@@ -1,5 +1,5 @@
 -- Laws of commands: what a caller needs of an answer, in place of the contract of the call that
--- the command names. What the call costs stands in that contract alone.
+-- the command names. What the call costs stands only in that contract.
 -- Each is proved as the contract of a function in src/laws.rt.
 use Rattle.std.specs.Prelude.{◌≡◌, ◌⊎◌, IfSome, ℕ, ◌≤◌, false, is_some, List, ◌++◌, length, Option, Some, None, if◌then◌else◌}
 use Rattle.std.specs.List.{AllByRecursion}

@@ -18,8 +18,6 @@ mod segment;
 mod serve;
 mod share;
 mod table_stats;
-#[cfg(test)]
-mod tests;
 mod write;
 
 pub use close::OutOfMemory;
