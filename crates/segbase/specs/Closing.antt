@@ -45,7 +45,7 @@ pub record IsAtRest (words : Words) (trace : List Event) : Type 0 where
       → word_of_cell words cell ≡ word (shape_of words) trace cell
 
 -- All that had happened when the board was closed.
--- It goes on from what the pass has seen, by events of others alone.
+-- It goes on from what the pass has seen, by events of only other passes.
 -- With only one pass, it is what that pass has seen.
 pub record Closes (b : Board) (p : Pass) (words : Words) (last : List Event) : Type 0 where
   pub of : shape_of words ≡ b.shape
@@ -67,7 +67,7 @@ pub record AreAll (b : Board) (passes : List Pass) : Type 0 where
   pub all : HasEach b.shape.passes passes
 
 -- One of the passes has seen all that had happened when the board was closed with all of them.
--- That goes on from what each pass has seen, by events of others alone,
+-- That goes on from what each pass has seen, by events of only other passes,
 -- and no event is of a pass that isn't there.
 pub record ClosesAll (b : Board) (passes : List Pass) (words : Words) : Type 0 where
   pub of : shape_of words ≡ b.shape

@@ -1,4 +1,4 @@
-//! The raw operations on one word. Each takes its step as a value that contracts alone see.
+//! The raw operations on one word. Each takes its step as a value that only contracts see.
 ghost use Rattle.std.specs.Prelude.{◌≡◌, ℕ, ◌+◌, ◌%◌, ◌^◌, ◌<◌, ◌==◌, bit_or};
 ghost use prog.Atomic.{either};
 ghost use Rattle.segcore.specs.Words.{address, IsCell, Step};

@@ -20,7 +20,7 @@ abbrev pub earliest_of : ℕ → ℕ → ℕ
 earliest_of now time = until_last (now + time) (now + time - time / 8)
 
 -- All deadlines that come in this time, and not before seven eighths of it. Where clock and time
--- together come to the largest moment or beyond, it is that moment alone.
+-- sum to the largest moment or more, the only deadline is that moment.
 abbrev pub life_window : ℕ → ℕ → Window
 life_window now time = record { earliest = earliest_of now time; latest = latest_of now time }
 
@@ -31,7 +31,7 @@ IsDeadlineFor queued now time until =
     (until ≡ deadline_by now time (time / 8))
     ⊎ ((queued ≡ true) × (until ≡ deadline_by now time (time / 64)))
 
--- A put asks for all these deadlines. A client with queues can ask for those alone that come
+-- A put asks for all these deadlines. A client with queues can ask for only those that come
 -- no earlier than the one that it opens a segment for.
 abbrev pub IsWindowFor : Bool → ℕ → ℕ → ℕ → Window → Type 0
 IsWindowFor queued now time until window =
@@ -39,8 +39,8 @@ IsWindowFor queued now time until window =
     ⊎ ((queued ≡ true) × (window ≡ record (life_window now time) { earliest = until }))
 
 -- These deadlines let an item live for seven eighths of its time at least and for all of it
--- at most, and this one is among them. Where clock and time together come to the largest moment
--- or beyond, the deadline is that moment, however soon it comes.
+-- at most, and this one is among them. Where clock and time sum to the largest moment
+-- or more, the deadline is that moment, however soon it comes.
 pub record IsLife (now time : ℕ) (window : Window) (until : ℕ) : Type 0 where
   pub earliest : earliest_of now time ≤ window.earliest
   pub latest : window.latest ≤ latest_of now time

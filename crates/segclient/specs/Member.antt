@@ -53,7 +53,7 @@ pub record KeepsSettings (old new : Member) : Type 0 where
   pub cutoff : new.cutoff ≡ old.cutoff
   pub queues : is_some new.segments.queues ≡ is_some old.segments.queues
 
--- and it gives up the same segment next
+-- and it clears the same segment next
 pub record Keeps (old new : Member) : Type 0 where
   pub settings : KeepsSettings old new
   pub segments : new.segments ≡ old.segments

@@ -22,7 +22,7 @@ pub data PutCall : Type 0 where
   keeps : ℕ → ℕ → ℕ → KeepRowAnswer → PutCall
   refills : ℕ → RefillAnswer → PutCall
 
--- what the calls are made for: the request of a put, which is a set, or none if room is made alone;
+-- what the calls are made for: the request of a put, which is a set, or none if only room is made;
 -- the least cutoff of what is kept, if anything is; the deadline of what is refilled;
 -- and the deadlines of what is stored into
 pub record Plan : Type 0 where
@@ -40,7 +40,7 @@ rows_asked (Some request) = rows_of request
 abbrev pub IsInWindow : Window → ℕ → Type 0
 IsInWindow window until = (window.earliest ≤ until) × (until ≤ window.latest)
 
--- calls for room alone: no set is among them
+-- calls that only make room: no set is among them
 abbrev pub room_plan : Option ℕ → ℕ → Plan
 room_plan cutoff deadline = record {
   request = None;

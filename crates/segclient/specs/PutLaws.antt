@@ -1,5 +1,5 @@
 -- Laws of puts: what a caller needs of a put, in place of the calls of the index that it makes.
--- How many calls those are, and when none makes room, stands in `PutsFor` alone.
+-- How many calls those are, and when none makes room, stands only in `PutsFor`.
 -- Each is proved as the contract of a function in src/laws.rt.
 use Rattle.std.specs.Prelude.{◌≡◌, ◌≢◌, ◌⊎◌, ℕ, ◌≤◌, false, is_some, List, ◌∷◌, Some}
 use Rattle.segword.specs.Words.{Shape, span_of}

@@ -207,7 +207,7 @@ EndsSo shape pass rows put.BucketFull calls =
 EndsSo shape pass rows put.Busy calls =
     ((earlier : List PutCall) × (calls ≡ busy_sets 16 ++ earlier)) × AreOpen calls
 
--- A put with rows enough left in a segment with a deadline that is asked gives up nothing for it,
+-- A put with rows enough left in a segment with a deadline that is asked clears nothing for it,
 -- unless its bucket is full.
 abbrev pub Spares : Shape → Window → ℕ → List PutCall → Pass → Type 0
 Spares shape window rows calls p =

@@ -40,7 +40,7 @@ PutAdds = (i : Index) (time : ℕ) (key value : List ℕ) (told : PutAnswer) (ol
     puts.until told (effort_of puts.calls) (effort_of_steps puts.steps)
     (mine old.pass) (mine new.pass)
 
--- So it is of room that is made alone.
+-- So it is where only room is made.
 abbrev pub RoomAdds : Type 0
 RoomAdds = (i : Index) (made : Bool) (old new : Member)
     → IsMember i old

@@ -72,7 +72,7 @@ fn open_for(index: &Index, pass: &Pass, segments: &Segments, window: Window) -> 
 
 // Whether a put stores only into a segment with a finer deadline, which it opens if there is none:
 // plenty are free; or many are, and at least half of the one that it would store into else is used.
-// Where one deadline alone is asked, none is finer.
+// Where only one deadline is asked, none is finer.
 #[inline(always)]
 pub(crate) fn is_fine(index: &Index, pass: &Pass, segments: &Segments, window: Window) -> bool
     requires quiet { IsQuiet (board_of index.now) pass.now }

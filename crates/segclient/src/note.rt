@@ -84,7 +84,7 @@ pub fn what_is_put_stands()
     ensures { PutStands }
 {}
 
-/// What a put adds to the history, and what room adds that is made alone.
+/// What a put adds to the history, and what a call adds that only makes room.
 /// This function does nothing: its contract is the law.
 pub fn what_a_put_adds()
     ensures put { PutAdds }

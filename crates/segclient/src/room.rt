@@ -1,4 +1,4 @@
-//! Which segments of its own a pass gives up for room, in the order in which they were filled
+//! Which segments of its own a pass clears for room, in the order in which they were filled
 //! or by queues, and how it keeps what was read often.
 ghost use Rattle.std.specs.Prelude.{◌≡◌, ◌≢◌, ◌+◌, ◌<◌, ◌≤◌, ◌^◌, ℕ, true, false, is_some, Some, None};
 ghost use Rattle.segmodel.specs.Words.{owner};

@@ -35,7 +35,7 @@ pub data Step : Type 0 where
   -- and the word that is to be there (a link finds 0, a replace an item)
   link : Request → ℕ → ℕ → ℕ → Cell → ℕ → Step
   -- a key, the segment and the row that its item names, its frequency,
-  -- the segment and the row that it comes to name, its position and cell
+  -- the segment and the row that it names from then on, its position and cell
   relink : List ℕ → ℕ → ℕ → ℕ → ℕ → ℕ → ℕ → Cell → Step
   -- a key, its position and cell, the word that is to be there, and why the key's item leaves
   clear : List ℕ → ℕ → Cell → ℕ → Leaving → Step

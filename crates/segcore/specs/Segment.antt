@@ -42,14 +42,14 @@ was_used (Relinked pass key from from_row s row position ∷ trace) segment =
     (s == segment) || was_used trace segment
 was_used (_ ∷ trace) segment = was_used trace segment
 
--- how often the segment was filled anew
+-- how often the segment was refilled
 abbrev pub refills : List Event → ℕ → ℕ
 refills [] segment = 0
 refills (Refilled pass s deadline ∷ trace) segment =
     if s == segment then refills trace segment + 1 else refills trace segment
 refills (_ ∷ trace) segment = refills trace segment
 
--- no event fills the segment anew
+-- no event refills the segment
 abbrev pub NoneRefills : ℕ → List Event → Type 0
 NoneRefills segment [] = Unit {0}
 NoneRefills segment (event ∷ trace) =

@@ -16,7 +16,7 @@ use Rattle.segcore.specs.Kind.{Step, cell, becomes, adds, May}
 
 -- ---- the rule
 
--- the trace goes on from what the pass has seen, by events of others alone
+-- the trace goes on from what the pass has seen, by events of only other passes
 pub record Knows (pass : ℕ) (view : View) (trace : List Event) : Type 0 where
   pub number : view.number ≡ pass
   pub more : List Event

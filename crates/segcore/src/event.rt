@@ -103,7 +103,7 @@ pub enum Event {
         pass: u32,
         segment: u32,
     },
-    /// A segment of the pass's own is filled anew, from its first row, up to a deadline.
+    /// A segment of the pass's own is refilled, from its first row, up to a deadline.
     Refilled {
         pass: u32,
         segment: u32,

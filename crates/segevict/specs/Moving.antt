@@ -20,7 +20,7 @@ use Rattle.segevict.specs.Tries.{TriesFor}
 
 -- ---- what is seen of a row without the bit
 
--- By looks alone the pass saw that a word names the row,
+-- By only looks the pass saw that a word names the row,
 -- for the key that was stored or moved there.
 -- The row's item has a frequency of which this is so.
 pub record SeesRow (b : Board) (segment row : ℕ) (IsSo : ℕ → Type 0) (p q : Pass) : Type 0 where

@@ -39,7 +39,7 @@ pub record CarriesItem (shape : Shape) (segment row cutoff into : ℕ) (p q : Pa
   pub entries : mine q ≡ entry.Moved (number p) key segment into ∷ mine p
   pub left : ¬ (IsNamed shape segment row (marked q))
 
--- What a keep of one row comes to that can move items into segments of which this is so.
+-- What a keep of one row does that can move items into segments of which this is so.
 -- There the pass has rows left for the row's item or not.
 -- Moved: the row named an item of the cutoff's frequency or a higher one,
 -- and by one entry the item came to name a new row of the other segment.
@@ -75,7 +75,7 @@ IsKeepRowAnswer shape segment row cutoff told p q =
     KeepsTo shape segment row cutoff (λ into. IsKeepTarget segment into p)
     (has_room_for shape (span_in (trace p) segment row) q) told p q
 
--- it moves items into this segment alone
+-- it moves items into only this segment
 abbrev pub IsKeepRowIntoAnswer : Shape → ℕ → ℕ → ℕ → ℕ → KeepRowAnswer → Pass → Pass → Type 0
 IsKeepRowIntoAnswer shape segment row cutoff into told p q =
     KeepsTo shape segment row cutoff (λ other. (other ≡ into) × IsMoveTarget segment into p)

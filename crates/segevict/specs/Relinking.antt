@@ -7,12 +7,12 @@ use Rattle.segbase.specs.Words.{AddsAtOnce, Board, Missed, number, Pass, Place, 
 use Rattle.segstore.specs.Words.{memo}
 use Rattle.segwrite.specs.Words.{IsEarlier, IsInChain}
 
--- the item of the slot comes to name this row
+-- the item of the slot names this row from then on
 abbrev pub relinked : Slot → ℕ → ℕ → ℕ → ℕ → Event
 relinked named into to position pass =
     Relinked pass named.key named.segment named.row into to position
 
--- the item may come to name the row now, and the word is one that the item had
+-- the item may name the row from now on, and the word is one that the item had
 pub record Relinks (b : Board) (named : Slot) (into to : ℕ) (place : Place) (word : ℕ) (p : Pass)
     : Type 0 where
   pub bit : HasBit b.shape (trace p) (number p) (bucket_of b.shape named.key)

@@ -19,7 +19,7 @@ use Rattle.segload.specs.Counting.{no_tallies, with_one_more}
 
 -- ---- from one command to the next
 
--- what the next commands of a pass depend on: its segments, which it gives up in turn,
+-- what the next commands of a pass depend on: its segments, which it clears in turn,
 -- and the version that its last gets found
 pub record ClientState : Type 0 where
   pub segments : Cycle

@@ -19,7 +19,7 @@ pub(crate) struct Worker {
     pub(crate) is_stopped: bool,
 }
 
-/// What a worker comes to: its totals, and its pass.
+/// What a worker returns: its totals, and its pass.
 #[derive(Drop)]
 pub(crate) struct Ended {
     pub(crate) totals: PassTotals,

@@ -184,7 +184,7 @@ StoresKey key (Wrote pass request Stored segment) = key_of request ≡ key
 StoresKey key _ = ⊥
 
 -- A key that reads nothing at a moment reads nothing at that or a later one,
--- until it is stored anew.
+-- until it is stored again.
 -- What expired or was taken out never comes back by itself.
 abbrev pub NothingUntilStored : Type 0
 NothingUntilStored = (shape : Shape) (old new : List Entry) (now later : ℕ) (key : List ℕ)

@@ -51,7 +51,7 @@ pub fn reads_change_by_entries()
     ensures changed { ChangedIsStored }
 {}
 
-/// From the deadline of its segment on, a key reads nothing until it is stored anew.
+/// From the deadline of its segment on, a key reads nothing until it is stored again.
 pub fn expired_keys_read_nothing()
     ensures expired { ExpiredReadsNothing }
     ensures until { NothingUntilStored }

@@ -1,4 +1,4 @@
-//! Numbers in turn, as those of the segments that a pass gives up one after another.
+//! Numbers in turn, as those of the segments that a pass clears one after another.
 ghost use Rattle.std.specs.Prelude.{◌≡◌, ℕ, ◌+◌, ◌%◌, ◌^◌, ◌<◌, ◌≤◌, ◌==◌, slice_index, count_by};
 ghost use Rattle.segpolicy.specs.Cycle.{next_of, turned, answers};
 

@@ -126,7 +126,7 @@ pub record Strides (from to left : ℕ) (p q : Pass) : Type 0 where
   pub visits : PaysForGlances p q
 
 -- The steps that are left where the key's item was found: the loads of its value, and to leave its
--- segment. At the end one exchange comes to them, for the frequency.
+-- segment. At the end there is one exchange more, for the frequency.
 abbrev pub left_of_version : Versioned → ℕ
 left_of_version (versioned.Found hit version) = 2 + value_width
 left_of_version versioned.Miss = 0

@@ -1,5 +1,5 @@
 -- Laws of traces: what a caller needs of how a trace is read, in place of the words of its lines.
--- What else a line can state, and which line is bad, stands in `EndsTrace` alone.
+-- What else a line can state, and which line is bad, stands only in `EndsTrace`.
 -- Here its `Ends` is always true, so the laws cover every reader.
 -- Each is proved as the contract of a function in src/laws.rt.
 use Rattle.std.specs.Prelude.{◌≡◌, ◌≢◌, ℕ, ◌<◌, ◌≤◌, ◌-◌, ◌^◌, List, [], ◌∷◌, ◌++◌, false, length, slice_index, slice_index_or, Option, Some, None, Ok, Err, codes, decimal}

@@ -88,7 +88,7 @@ with_frequencies frequencies state = record state {
   filling = λ segment. record (state.filling segment) { frequencies = frequencies segment };
 }
 
--- The two states differ in the frequencies of items alone.
+-- The two states differ in only the frequencies of items.
 abbrev pub IsSameButFrequencies : State → State → Type 0
 IsSameButFrequencies old new =
     (frequencies : ℕ → List ℕ) × (new ≡ with_frequencies frequencies old)

@@ -22,7 +22,7 @@ abbrev pub FillsRow : Board → ℕ → ℕ → List ℕ → List ℕ → Pass �
 FillsRow b segment row key value p q = StoresRow b segment row (row_of key value) p q
 
 -- The second row holds each pair that the first one holds.
--- Where items take several rows, this is said of keys and values alone.
+-- Where items take several rows, this is said of only keys and values.
 abbrev pub HoldsAlso : Row → Row → Type 0
 HoldsAlso row other =
     MatchBool (most_span == 1)

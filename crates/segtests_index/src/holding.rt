@@ -1,4 +1,4 @@
-//! Values that are held while their key is set anew, or their segment is evicted.
+//! Values that are held while their key is set again, or their segment is evicted.
 use crate::calls::MOMENT;
 use crate::holds::{hold, release};
 use crate::passes::SHAPE;

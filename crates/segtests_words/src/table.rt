@@ -97,7 +97,7 @@ const CHANGES: [(u32, usize, u64); 69] = [
     (12, 100, 0x0000_0000_0000_6261),
     (12, 103, 0x0000_0000_007a_7978),
     (12, 2, 0x0890_2000_0010_0000),
-    // The key `ab` is stored again: its item begins anew.
+    // The key `ab` is stored again: its item has frequency 1.
     (13, 107, 0x0000_0000_0000_0202),
     (13, 108, 0x0000_0000_0000_6261),
     (13, 111, 0x0000_0000_0000_7978),
