@@ -1,7 +1,6 @@
 //! Makes a test run out of memory. The test has a process of its own.
 //! All memory that the process could get is taken, and from run to run a little more of it is left.
 use std::alloc::{AllocError, Global};
-use std::process::Abort;
 
 /// How many bytes more are left from run to run. The C library allocates no fewer.
 pub const STEP: usize = 16;
@@ -51,11 +50,6 @@ pub fn leave(alloc: Global, bytes: usize) -> Result<Vec<Vec<u8>>, AllocError> {
 pub fn is_none_left(alloc: Global) -> bool {
     let least: Result<Vec<u8>, AllocError> = Vec::with_capacity(alloc, 1);
     least.is_err()
-}
-
-/// Checks that some runs were refused memory, and not all.
-pub fn check_refused(rt: &impl Abort, refused: usize) {
-    assert!(rt; 0 < refused && refused < RUNS, "{refused} refusals");
 }
 
 // Takes all memory that can be had, in blocks of at most so many bytes: half as many each time.

@@ -16,8 +16,7 @@ mod digits;
 mod eviction_answers;
 #[cfg(test)]
 mod expiring;
-#[cfg(test)]
-mod hoard;
+pub mod hoard;
 #[cfg(test)]
 mod holding;
 #[cfg(test)]
@@ -28,8 +27,6 @@ mod memory_index;
 mod memory_loads;
 #[cfg(test)]
 mod memory_plain;
-#[cfg(test)]
-mod memory_program;
 #[cfg(test)]
 mod memory_scripts;
 #[cfg(test)]
@@ -44,6 +41,8 @@ mod owner;
 mod passes;
 #[cfg(test)]
 mod probing;
+#[cfg(test)]
+mod refusals;
 #[cfg(test)]
 mod rows;
 #[cfg(test)]

@@ -1,9 +1,10 @@
 //! The index out of memory: each request of creating it and of closing it is refused in turn.
 //! The other calls ask for none.
 use crate::calls::{lists, lists_all};
-use crate::hoard::{RUNS, STEP, check_refused, hoard, is_none_left, leave};
+use crate::hoard::{RUNS, STEP, hoard, is_none_left, leave};
 use crate::memory_tables::{LONGEST_CHAIN, MOVED_ITEMS, TWO_SEGMENTS};
 use crate::passes::{SHAPE, two_passes};
+use crate::refusals::check_refused;
 use crate::rows::{Row, first_wrong};
 use crate::same::{check_that, same};
 use segbase::Board;

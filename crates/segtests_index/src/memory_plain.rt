@@ -2,8 +2,9 @@
 //! and the answers before it are kept.
 use crate::calls::MOMENT;
 use crate::commands::{command_of, is_reply};
-use crate::hoard::{RUNS, STEP, check_refused, hoard, leave};
+use crate::hoard::{RUNS, STEP, hoard, leave};
 use crate::memory_tables::{LONGEST_CHAIN, MOVED_ITEMS, TWO_SEGMENTS, Table};
+use crate::refusals::check_refused;
 use crate::rows::Row;
 use crate::same::{check_that, same};
 use segmodel::{Answer, Command, Plain, PlainFault, Shelf, run};

@@ -2,10 +2,11 @@
 ghost use Rattle.std.specs.Prelude.{◌≡◌, ◌++◌, [], false, refl};
 ghost use Rattle.segscript.specs.Words.{hands_more};
 
-use crate::hoard::{RUNS, STEP, check_refused, hoard, is_none_left, leave};
+use crate::hoard::{RUNS, STEP, hoard, is_none_left, leave};
 use crate::memory_tables::{
     HELD_OVER_EVICTION, LOCKED_AND_HELD, LONGEST_CHAIN, TWO_SEGMENTS, Table,
 };
+use crate::refusals::check_refused;
 use crate::same::{check_that, same};
 use segindex::MakeFault;
 use segscript::{Failed, MemSink, MemSource, RunFault, Sink, Source, run_script};

@@ -2,7 +2,8 @@
 //! is refused in turn.
 ghost use Rattle.segshards.specs.Clients.{AreAllClients};
 
-use crate::hoard::{RUNS, STEP, check_refused, hoard, leave};
+use crate::hoard::{RUNS, STEP, hoard, leave};
+use crate::refusals::check_refused;
 use crate::same::same;
 use segshards::{Cache, Client, Shape, clients_stay};
 use std::alloc::{AllocError, Global};

@@ -1,4 +1,4 @@
-//! Tests of what the program runs: the plain cache, scripts, loads and the command line.
+//! Tests of the program: its command line, and what it does without memory.
 #![tactic(auto)]
 
 #[cfg(test)]
@@ -32,50 +32,6 @@ mod cli_stats;
 #[cfg(test)]
 mod cli_words;
 #[cfg(test)]
-mod load_alone;
-#[cfg(test)]
-mod load_crowds;
-#[cfg(test)]
-mod load_gates;
-#[cfg(test)]
-mod load_runs;
-#[cfg(test)]
-mod model_answers;
-#[cfg(test)]
-mod model_cases;
-#[cfg(test)]
-mod model_keeps;
+mod memory_program;
 #[cfg(test)]
 mod same;
-#[cfg(test)]
-mod script_bad_lines;
-#[cfg(test)]
-mod script_evicting;
-#[cfg(test)]
-mod script_expiring;
-#[cfg(test)]
-mod script_growing;
-#[cfg(test)]
-mod script_holding;
-#[cfg(test)]
-mod script_hostile;
-#[cfg(test)]
-mod script_keeping;
-#[cfg(test)]
-mod script_lines;
-#[cfg(test)]
-mod script_locking;
-#[cfg(test)]
-mod script_making;
-#[cfg(test)]
-mod script_moments;
-#[cfg(test)]
-mod script_order;
-#[cfg(test)]
-mod script_runs;
-#[cfg(test)]
-mod script_serving;
-#[cfg(test)]
-mod script_standard;
-#[cfg(test)]
-mod script_writing;

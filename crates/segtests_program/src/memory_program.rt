@@ -1,7 +1,7 @@
 //! The program out of memory: each request is refused in turn, those of its command line among them.
-use crate::hoard::{RUNS, STEP, hoard, leave};
 use segcli::run_program;
 use segscript::{MemSink, MemSource};
+use segtests_index::hoard::{RUNS, STEP, hoard, leave};
 use std::alloc::{AllocError, AllocGlobal, Global};
 use std::process::Abort;
 use std::sync::Wait;
