@@ -250,10 +250,13 @@ def planned_sizes(ours, keys, threads):
     return output(ours, "--print-shape", "--shape", "planned", "--keys", str(keys), "--threads", str(threads)).split()
 
 
-# The index where it has room for less than all keys: segments of all threads, and what its clients take for each row and
-# each segment beside the 64 and the 8 bytes of the index.
+# The index where it has room for less than all keys: so many segments of all threads.
 SEGMENTS = 128
-ROW_BYTES, SEGMENT_BYTES = 3, 16
+
+
+def queue_bytes(rows):
+    """What a client takes for a segment of so many rows, beside the 8 bytes of the index for it and 64 for each row."""
+    return 44 + 3 * rows + (rows + 7) // 8
 
 
 def index_sizes(room, threads):
@@ -265,7 +268,7 @@ def index_sizes(room, threads):
 
 def index_bytes(sizes, threads):
     buckets, overflow, segments, rows = sizes
-    return 8 + 64 * (buckets + overflow) + threads * segments * (8 + SEGMENT_BYTES + rows * (64 + ROW_BYTES))
+    return 8 + 64 * (buckets + overflow) + threads * segments * (8 + 64 * rows + queue_bytes(rows))
 
 
 def has_room(low, high, fits):

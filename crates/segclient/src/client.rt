@@ -44,8 +44,8 @@ impl<'i> Client<'i> {
     }
 
     /// A client of this pass as `new` makes it, but its puts keep what was read, by two queues of
-    /// its segments. For these it takes 3 bytes for each row of its own and 44 for each segment,
-    /// and no more later.
+    /// its segments. For these it takes 44 bytes for each segment of its own, 3 for each row there
+    /// and one for each eight, and no more later.
     pub fn with_queues(
         alloc: Global,
         index: &'i Index,

@@ -25,15 +25,20 @@ pub(crate) fn is_of_update(need: u8) -> bool {
 pub(crate) struct Needs {
     rows: u32,
     needs: Vec<u8>,
+    // A bit for each row, and eight rows in a byte: whether its need is an update's. A write asks
+    // this of the row that it replaces, wherever that row lies, so the answers lie close together.
+    updates: Vec<u8>,
     marks: Vec<u16>,
 }
 
 impl Needs {
     pub(crate) fn new(alloc: Global, segments: u32, rows: u32) -> Result<Needs, AllocError> {
         let all = segments.saturating_mul(rows) as usize;
+        let bytes = segments.saturating_mul(rows.div_ceil(8)) as usize;
         Ok(Needs {
             rows,
             needs: vec![in alloc; NEED_OF_NEW; all]?,
+            updates: vec![in alloc; 0u8; bytes]?,
             marks: vec![in alloc; 0u16; all]?,
         })
     }
@@ -43,6 +48,15 @@ impl Needs {
         (segment as usize)
             .wrapping_mul(self.rows as usize)
             .wrapping_add(row as usize)
+    }
+
+    // The byte that has a row's bit, and this bit.
+    fn bit_at(&self, segment: u32, row: u32) -> (usize, u8) {
+        let bytes = self.rows.div_ceil(8) as usize;
+        let byte = (segment as usize)
+            .wrapping_mul(bytes)
+            .wrapping_add((row >> 3) as usize);
+        (byte, 1u8 << (row & 7))
     }
 
     // What the item of the row needs.
@@ -55,7 +69,11 @@ impl Needs {
 
     // Whether the item of the row was stored in place of another, and seldom moved since.
     pub(crate) fn is_update(&self, segment: u32, row: u32) -> bool {
-        is_of_update(self.of(segment, row))
+        let (byte, bit) = self.bit_at(segment, row);
+        match self.updates.get(byte) {
+            Some(updates) => *updates & bit != 0,
+            None => false,
+        }
     }
 
     // The last row of the item that has this one first.
@@ -72,6 +90,15 @@ impl Needs {
         let at = self.row_at(segment, row);
         if let Some(place) = self.needs.get_mut(at) {
             *place = need;
+        }
+        let (byte, bit) = self.bit_at(segment, row);
+        if let Some(updates) = self.updates.get_mut(byte) {
+            let others = *updates & !bit;
+            *updates = if is_of_update(need) {
+                others | bit
+            } else {
+                others
+            };
         }
     }
 

@@ -1,5 +1,6 @@
 -- The caches that a trace is sent through, and their clients before the first command.
 use Rattle.std.specs.Prelude.{◌≡◌, ◌+◌, ◌*◌, ◌/◌, ⊤, ℕ, zero, suc, max, List, [], ◌∷◌, ◌++◌, map, Some, None, if◌then◌else◌, ◌==◌}
+use Rattle.std.specs.Int.{div_ceil}
 use Rattle.std.specs.List.{AllZip, Contains, flat_map}
 use Rattle.segword.specs.Words.{IsValid, Shape, word_count}
 use Rattle.segbase.specs.Words.{IsMakeFault, number, Pass}
@@ -41,9 +42,11 @@ SetsPolicy policy.Default old new = new ≡ old
 SetsPolicy policy.Nothing old new = MakesCall (λ board. SetsCutoff None) old new
 SetsPolicy (policy.Cutoff least) old new = MakesCall (λ board. SetsCutoff (Some least)) old new
 
--- how many bytes the queues of clients have: 44 for each segment, and 3 for each of its rows
+-- how many bytes the queues of clients have: for each segment 44, 3 for each of its rows,
+-- and one for each eight rows
 abbrev pub queue_bytes : Retention → Shape → ℕ
-queue_bytes policy.Default shape = shape.passes * shape.segments_each * (44 + 3 * shape.rows)
+queue_bytes policy.Default shape =
+    shape.passes * shape.segments_each * (44 + 3 * shape.rows + div_ceil shape.rows 8)
 queue_bytes _ shape = 0
 
 -- how many bytes a cache has: those of its table and of its clients' queues

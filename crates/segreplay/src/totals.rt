@@ -20,7 +20,8 @@ pub struct CacheTotals {
     pub lives: usize,
 }
 
-// How many bytes the clients' queues have: 44 for each segment, and 3 for each of its rows.
+// How many bytes the clients' queues have: 44 for each segment, 3 for each of its rows,
+// and one for each eight.
 fn queue_bytes(cache: CacheConfig) -> u64
     requires { HasValidShape cache }
     ensures value { result ≡ queue_bytes cache.policy cache.shape }
@@ -29,7 +30,8 @@ fn queue_bytes(cache: CacheConfig) -> u64
     let shape = cache.shape;
     match cache.policy {
         Retention::Default => {
-            u64::from(shape.passes * shape.segments_each) * u64::from(44 + 3 * shape.rows)
+            let of_segment = 44 + 3 * shape.rows + shape.rows.div_ceil(8);
+            u64::from(shape.passes * shape.segments_each) * u64::from(of_segment)
         }
         Retention::Nothing | Retention::Cutoff(_) => 0,
     }

@@ -1,10 +1,12 @@
 -- A plan by a budget has as many shards as the budget needs.
 use Rattle.std.proofs.Common.{◌≡◌, ℕ, ◌+◌, ◌*◌, ◌<◌, ◌≤◌, ◌⊎◌, Option, Result, Ok, Err, IfOk, IfSome, arith, inl, inr, subst, ◌∙◌}
+use Rattle.std.specs.Int.{div_ceil}
 use Rattle.std.specs.Result.{result_ok}
 use Rattle.std.proofs.Math.Nat.{mul-le-mul_left}
+use Rattle.std.proofs.lemmas.Grind.{div_ceil_times}
 use Rattle.segword.specs.declared.row.TheConstants.{ROW_WORDS}
 use Rattle.segword.specs.declared.shape.ShapeFault.{ShapeFault}
-use Rattle.segword.specs.Shape.{word_count}
+use Rattle.segword.specs.Shape.{IsValid, word_count}
 use Rattle.segword.specs.Words.{Shape}
 use Rattle.segshards.specs.Budget.{bytes_of, clients_bytes, IsPlanOf, IsPlanWithin, IsShapeFor, TakesOver}
 use Rattle.segshards.specs.declared.budget.TheConstants.{MOST_ITEMS}
@@ -27,6 +29,12 @@ large_bytes threads count shape is =
     mul-le-mul_left (count + 1) (omega (arith, words)) in
     omega (arith, more)
 
+-- a bit for each row is no more than a byte
+few_bits : (segments rows : ℕ) → 1 ≤ rows → segments * div_ceil rows 8 ≤ segments * rows
+few_bits segments rows some =
+    let times = div_ceil_times rows 8 (omega arith) in
+    mul-le-mul_left segments (omega (arith, times.1, some))
+
 -- one without a key takes few
 small_words : (threads : ℕ) (shape : Shape) → IsShapeFor 0 threads shape → word_count shape ≤ 38036
 small_words threads shape is =
@@ -34,7 +42,7 @@ small_words threads shape is =
     let passes = is.valid.0.0.0.1 in
     omega (arith, few, passes.1)
 
-small_clients : (threads : ℕ) (shape : Shape) → IsShapeFor 0 threads shape → clients_bytes shape ≤ 546873
+small_clients : (threads : ℕ) (shape : Shape) → IsShapeFor 0 threads shape → clients_bytes shape ≤ 551099
 small_clients threads shape is =
     let words = small_words threads shape is in
     let passes = is.valid.0.0.0.1 in
@@ -44,18 +52,35 @@ small_clients threads shape is =
     omega arith in
     let one : shape.passes * shape.segments_each * 1 ≤ shape.passes * shape.segments_each * shape.rows =
     mul-le-mul_left (shape.passes * shape.segments_each) some.0 in
+    let bits = few_bits (shape.passes * shape.segments_each) shape.rows some.0 in
     let parts : clients_bytes shape ≡ 3 * (shape.passes * shape.segments_each * shape.rows)
+    + shape.passes * shape.segments_each * div_ceil shape.rows 8
     + 64 * (shape.passes * shape.segments_each) + 4096 * shape.passes = omega arith in
-    omega (arith, words, passes.1, spread, one, parts)
+    omega (arith, words, passes.1, spread, one, bits, parts)
+
+-- clients keep less than a number of 31 bits says
+pub clients_fit : (shape : Shape) → IsValid shape → clients_bytes shape ≤ 2147483647
+clients_fit shape valid =
+    let segments = shape.passes * shape.segments_each in
+    let words = valid.1 in
+    let some = valid.0.1 in
+    let passes = valid.0.0.0.1 in
+    let bits = few_bits segments shape.rows some.0 in
+    let one : segments * 1 ≤ segments * shape.rows = mul-le-mul_left segments some.0 in
+    let spread : segments * (1 + ROW_WORDS * shape.rows) ≡ segments + ROW_WORDS * (segments * shape.rows) =
+    omega arith in
+    let parts : clients_bytes shape ≡ 3 * (segments * shape.rows) + segments * div_ceil shape.rows 8
+    + 64 * segments + 4096 * shape.passes = omega arith in
+    omega (arith, words, passes.1, one, bits, spread, parts)
 
 small_bytes : (threads count : ℕ) (shape : Shape) → IsShapeFor 0 threads shape
-    → bytes_of shape count ≤ 851161 * count + 304288
+    → bytes_of shape count ≤ 855387 * count + 304288
 small_bytes threads count shape is =
     let words = small_words threads shape is in
     let clients = small_clients threads shape is in
     let tables : (count + 1) * (8 * word_count shape) ≤ (count + 1) * 304288 =
     mul-le-mul_left (count + 1) (omega (arith, words)) in
-    let kept : count * clients_bytes shape ≤ count * 546873 = mul-le-mul_left count clients in
+    let kept : count * clients_bytes shape ≤ count * 551099 = mul-le-mul_left count clients in
     omega (arith, tables, kept)
 
 module _ (bytes threads count : ℕ) (some : 1 ≤ count) (few : count ≤ 16384)

@@ -1,6 +1,6 @@
 -- How many bytes a cache takes, and how large one is that may take a number of bytes.
 use Rattle.std.specs.Prelude.{◌≡◌, ℕ, ◌+◌, ◌*◌, ◌<◌, ◌≤◌, ◌⊎◌, List, All, length}
-use Rattle.std.specs.Int.{IsInRange}
+use Rattle.std.specs.Int.{div_ceil, IsInRange}
 use Rattle.segword.specs.declared.shape.ShapeFault.{ShapeFault}
 use Rattle.segword.specs.declared.shape.ShapeFault.TheVariants.{BadPasses, TooLarge}
 use Rattle.segword.specs.Shape.{word_count}
@@ -12,11 +12,11 @@ use Rattle.segshards.specs.declared.plan.ShardPlan.{ShardPlan}
 use Rattle.segshards.specs.declared.shard.TheConstants.{MOST_SHARDS}
 use Rattle.segshards.specs.Items.{IsShapeForItems}
 
--- what the clients of a shard keep beside its table: 3 bytes for each row, 64 for each segment,
--- and 4,096 each
+-- what the clients of a shard keep beside its table: for each segment 64 bytes, 3 for each row
+-- and one for each eight rows, and 4,096 each
 abbrev pub clients_bytes : Shape → ℕ
 clients_bytes shape =
-    shape.passes * (shape.segments_each * (3 * shape.rows + 64) + 4096)
+    shape.passes * (shape.segments_each * (3 * shape.rows + div_ceil shape.rows 8 + 64) + 4096)
 
 -- So many shards of a shape take so many bytes, from their opening on: a table each and one more,
 -- and what their clients keep.

@@ -19,8 +19,10 @@ const SMALL_SHARDS: u64 = 8;
 // Beyond that, there is a shard for so many bytes: those of about 190,000 keys.
 const BYTES_OF_SHARD: u64 = 1 << 25;
 
-// What the client of a shard keeps beside the table: so many bytes for each row, for each segment,
-// and once.
+// What the client of a shard keeps beside the table: a byte for so many rows, and so many bytes
+// for each row, for each segment, and once.
+const ROWS_OF_BYTE: u32 = 8;
+
 const ROW_BYTES: u64 = 3;
 
 const SEGMENT_BYTES: u64 = 64;
@@ -57,7 +59,8 @@ fn bytes_of(shape: &Shape, count: u32) -> u64
     requires few { count ≤ MOST_SHARDS }
     ensures { result ≡ bytes_of shape.now count }
 {
-    let segment = ROW_BYTES * u64::from(shape.rows) + SEGMENT_BYTES;
+    let bits = u64::from(shape.rows.div_ceil(ROWS_OF_BYTE));
+    let segment = ROW_BYTES * u64::from(shape.rows) + bits + SEGMENT_BYTES;
     let client = u64::from(shape.segments_each) * segment + CLIENT_BYTES;
     let clients = u64::from(shape.passes) * client;
     let count = u64::from(count);

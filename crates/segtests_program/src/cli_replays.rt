@@ -34,7 +34,7 @@ fn each_line_is_a_command(rt: HostRuntime) {
         &rt,
         &[],
         TRACE,
-        "default rows=32 bytes=3384 gets=4 hits=1 rate=25.00 sets=1 deletes=1 evicted=0 kept=0 refused=0 busy=0 items=2 lives=1 given=100.00\n",
+        "default rows=32 bytes=3388 gets=4 hits=1 rate=25.00 sets=1 deletes=1 evicted=0 kept=0 refused=0 busy=0 items=2 lives=1 given=100.00\n",
     );
     check_totals(
         &rt,
@@ -60,13 +60,13 @@ fn the_first_commands_are_not_counted(rt: HostRuntime) {
         &rt,
         &["--warm=2"],
         TRACE,
-        "default rows=32 bytes=3384 gets=2 hits=0 rate=0.00 sets=1 deletes=1 evicted=0 kept=0 refused=0 busy=0 items=2 lives=1 given=100.00\n",
+        "default rows=32 bytes=3388 gets=2 hits=0 rate=0.00 sets=1 deletes=1 evicted=0 kept=0 refused=0 busy=0 items=2 lives=1 given=100.00\n",
     );
     check_totals(
         &rt,
         &["--warm=6"],
         TRACE,
-        "default rows=32 bytes=3384 gets=0 hits=0 rate=0.00 sets=0 deletes=0 evicted=0 kept=0 refused=0 busy=0 items=2 lives=1 given=0.00\n",
+        "default rows=32 bytes=3388 gets=0 hits=0 rate=0.00 sets=0 deletes=0 evicted=0 kept=0 refused=0 busy=0 items=2 lives=1 given=0.00\n",
     );
 }
 
@@ -76,7 +76,7 @@ fn clients_share_the_keys(rt: HostRuntime) {
         &rt,
         &["--threads=2"],
         TRACE,
-        "default rows=64 bytes=5736 gets=4 hits=1 rate=25.00 sets=1 deletes=1 evicted=0 kept=0 refused=0 busy=0 items=2 lives=1 given=100.00\n",
+        "default rows=64 bytes=5744 gets=4 hits=1 rate=25.00 sets=1 deletes=1 evicted=0 kept=0 refused=0 busy=0 items=2 lives=1 given=100.00\n",
     );
 }
 
@@ -98,7 +98,7 @@ fn a_long_key_goes_by_its_hash(rt: HostRuntime) {
         &rt,
         &[],
         b"abcdefghijklmnopqrstuvwxy\nabcdefghijklmnopqrstuvwxy\nabcdefghijklmnopqrstuvwxz\n",
-        "default rows=32 bytes=3384 gets=3 hits=1 rate=33.33 sets=0 deletes=0 evicted=0 kept=0 refused=0 busy=0 items=2 lives=1 given=100.00\n",
+        "default rows=32 bytes=3388 gets=3 hits=1 rate=33.33 sets=0 deletes=0 evicted=0 kept=0 refused=0 busy=0 items=2 lives=1 given=100.00\n",
     );
 }
 
@@ -126,7 +126,7 @@ fn a_long_trace_is_read_to_its_end(rt: HostRuntime) {
         &rt,
         &[],
         trace.as_slice(),
-        "default rows=32 bytes=3384 gets=5000 hits=4999 rate=99.98 sets=0 deletes=0 evicted=0 kept=0 refused=0 busy=0 items=1 lives=1 given=100.00\n",
+        "default rows=32 bytes=3388 gets=5000 hits=4999 rate=99.98 sets=0 deletes=0 evicted=0 kept=0 refused=0 busy=0 items=1 lives=1 given=100.00\n",
     );
 }
 
@@ -192,7 +192,7 @@ nothing rows=4 bytes=360 gets=30 hits=2 rate=6.66 sets=0 deletes=0 evicted=24 ke
 // Checks that the third line is told as bad, behind the totals of the first.
 fn check_bad<R: Threads + Wait + AllocGlobal + Abort + Sync>(rt: &R, words: &[&str], trace: &[u8]) {
     let totals =
-        b"default rows=8 bytes=660 gets=1 hits=0 rate=0.00 sets=0 deletes=0 evicted=0 kept=0 refused=0 busy=0 items=1 lives=1 given=100.00\n";
+        b"default rows=8 bytes=661 gets=1 hits=0 rate=0.00 sets=0 deletes=0 evicted=0 kept=0 refused=0 busy=0 items=1 lives=1 given=100.00\n";
     let ended = run(rt, words, trace);
     check_ended(
         rt,
@@ -313,7 +313,7 @@ fn check_explained<R: Threads + Wait + AllocGlobal + Abort + Sync>(
 ) {
     let ended = run(rt, words, trace);
     let written =
-        b"default rows=8 bytes=660 gets=1 hits=0 rate=0.00 sets=0 deletes=0 evicted=0 kept=0 refused=0 busy=0 items=1 lives=1 given=100.00\n";
+        b"default rows=8 bytes=661 gets=1 hits=0 rate=0.00 sets=0 deletes=0 evicted=0 kept=0 refused=0 busy=0 items=1 lives=1 given=100.00\n";
     check_ended(
         rt,
         words,
@@ -379,7 +379,7 @@ fn a_failed_reader_loses_nothing(rt: HostRuntime) {
     devices.good = Some(4);
     let ended = run_with(&rt, &words, TRACE, devices);
     let totals =
-        b"default rows=8 bytes=660 gets=2 hits=1 rate=50.00 sets=0 deletes=0 evicted=0 kept=0 refused=0 busy=0 items=1 lives=1 given=100.00\n";
+        b"default rows=8 bytes=661 gets=2 hits=1 rate=50.00 sets=0 deletes=0 evicted=0 kept=0 refused=0 busy=0 items=1 lives=1 given=100.00\n";
     check_ended(
         &rt,
         &words,
