@@ -24,7 +24,7 @@ const SHAPE: Shape = Shape {
 const COUNT: usize = 1 + 8 + 8 + 2 * 81;
 
 /// How many calls there are.
-const CALLS: u32 = 16;
+const CALLS: u32 = 19;
 
 /// The longest key, whose hash is cfc57122610faddd, and the longest value.
 const LONGEST_KEY: &[u8] = b"abcdefghijklmnopqrstuvwx";
@@ -33,7 +33,7 @@ const LONGEST_VALUE: &[u8] = b"0123456789abcdef0123456789abcdef";
 
 /// The word at the start that isn't 0, and the words that each call changes:
 /// the call, the place and the word.
-const CHANGES: [(u32, usize, u64); 69] = [
+const CHANGES: [(u32, usize, u64); 72] = [
     (0, 1, 0x0000_0005_0000_0000),
     // Segment 0 gets a deadline.
     (1, 17, 0x0000_0009_0000_0000),
@@ -114,6 +114,10 @@ const CHANGES: [(u32, usize, u64); 69] = [
     (15, 11, 0),
     // Segment 0 gets the last deadline.
     (16, 17, 0xffff_ffff_0000_0000),
+    // Three hits raise the frequency of `ab` from 1 to 4.
+    (17, 2, 0x0890_2000_0010_0001),
+    (18, 2, 0x0890_3000_0010_0001),
+    (19, 2, 0x0890_4000_0010_0001),
 ];
 
 // Stores a pair.
@@ -126,13 +130,13 @@ fn store(rt: &impl Abort, board: &Board, pass: &mut Pass, key: &[u8], value: &[u
     same(rt, &set(board, pass, &key, &value), &WriteAnswer::Stored);
 }
 
-// Reads the value `xyz` under the key `ab`.
-fn read(rt: &impl Abort, board: &Board, pass: &mut Pass)
+// Reads this value under the key `ab`.
+fn read(rt: &impl Abort, board: &Board, pass: &mut Pass, value: &[u8])
     requires { IsQuiet board.now pass.old }
     ensures { IsQuiet board.now pass.new }
 {
     let key = Key::new(b"ab").expect(rt, "a key");
-    let value = Value::new(b"xyz").expect(rt, "a value");
+    let value = Value::new(value).expect(rt, "a value");
     same(rt, &get(board, pass, &key, 0), &GetAnswer::Found(value));
 }
 
@@ -153,7 +157,7 @@ fn make(rt: &impl Abort, board: &Board, pass: &mut Pass, call: u32)
     match call {
         1 => same(rt, &refill(board, pass, 0, 9), &RefillAnswer::Refilled),
         2 => store(rt, board, pass, b"ab", b"xyz"),
-        3 => read(rt, board, pass),
+        3 => read(rt, board, pass, b"xyz"),
         4 => store(rt, board, pass, b"a", b"1"),
         5 => store(rt, board, pass, b"b", b"2"),
         6 => store(rt, board, pass, b"c", b"3"),
@@ -166,11 +170,12 @@ fn make(rt: &impl Abort, board: &Board, pass: &mut Pass, call: u32)
         13 => store(rt, board, pass, b"ab", b"xy"),
         14 => take_out(rt, board, pass),
         15 => same(rt, &evict(board, pass, 0), &EvictAnswer::Evicted(6)),
-        _ => same(
+        16 => same(
             rt,
             &refill(board, pass, 0, u32::MAX),
             &RefillAnswer::Refilled,
         ),
+        _ => read(rt, board, pass, b"xy"),
     }
 }
 
