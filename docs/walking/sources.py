@@ -2,10 +2,10 @@
 """What the sources of the crates declare, import and hand on, for docs/walk."""
 
 import re
-from pathlib import Path
 from typing import NamedTuple
 
-ROOT = Path(__file__).resolve().parent.parent.parent
+from crates import ROOT, read_crates
+
 TOKEN = re.compile(
     r"""\s+|//[^\n]*|/\*.*?\*/
     |(?P<text>b?r?"(?:[^"\\]|\\.)*"|b?'(?:\\[^']+|[^'\\\n])'|'\w+(?!'))
@@ -312,12 +312,8 @@ class World:
     """All crates: where names lead, and which methods types have."""
 
     def __init__(self):
-        self.below, self.order = {}, []
-        for line in (ROOT / "crates.txt").read_text().splitlines():
-            if line and not line.startswith("#"):
-                name, _, used = line.partition(":")
-                self.order.append(name.split()[0])
-                self.below[name.split()[0]] = set(used.split())
+        self.below = {name: set(crate.uses) for name, crate in read_crates().items()}
+        self.order = list(self.below)
         self.modules = {}
         for crate in self.order:
             for file in sorted((ROOT / "crates" / crate / "src").glob("*.rt")):
