@@ -143,4 +143,5 @@ fault_read words k (Ok (command.Replay replay)) why refused = absurd refused
 fault_read words k (Ok (command.Word word)) why refused = absurd refused
 fault_read words k (Err (refusal.Usage text)) (inl memory) refused = absurd (refused.1 memory)
 fault_read words k (Err (refusal.Usage text)) (inr among) refused = inl (among_any (λ x. not (is_request x)) k (fault_of command_line words) (ap not refused.0) among)
+fault_read words k (Err refusal.BadArguments) why refused = absurd refused
 fault_read words k (Err refusal.OutOfMemory) why refused = tt

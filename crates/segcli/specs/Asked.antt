@@ -191,6 +191,7 @@ abbrev pub IsRefused : ErrorKind → Result Task Refusal → Type 0
 IsRefused k (Ok (command.Show text)) = is_request k ≡ true
 IsRefused k (Ok asked) = ⊥
 IsRefused k (Err (refusal.Usage text)) = (is_request k ≡ false) × (k ≢ kind.OutOfMemory)
+IsRefused k (Err refusal.BadArguments) = ⊥
 IsRefused k (Err refusal.OutOfMemory) = ⊤
 
 -- What is read from one word or more. In a command that is read `clap` finds no fault.
@@ -211,6 +212,7 @@ IsReadByClap words (Err (refusal.Usage text)) =
     (list_any (λ k. not (is_request k)) (fault_of command_line words) ≡ true)
     ⊎ ((fault_of command_line words ≡ [])
     × IsSomeAnd (subcommand_of command_line words) IsMisnamed)
+IsReadByClap words (Err refusal.BadArguments) = ⊥
 IsReadByClap words (Err refusal.OutOfMemory) = ⊤
 
 -- whether help is asked for of the command `help`

@@ -1,4 +1,4 @@
--- What the program does with the words that it is given.
+-- What the program does with what is read from its words.
 use Rattle.std.specs.Prelude.{◌≡◌, ℕ, List, Result, Ok, Err, string_bytes}
 use Rattle.segcli.specs.Streams.{Input, output, Output}
 use Rattle.segcli.specs.Commands.{CommandOutcome, Concludes}
@@ -13,10 +13,12 @@ use Rattle.segcli.specs.declared.fault.ProgramFault.TheVariants as fault
 -- the status if no command was read, and the text that says why
 abbrev pub refusal_status : Refusal → ℕ
 refusal_status (refusal.Usage text) = 2
+refusal_status refusal.BadArguments = fault_status fault.BadArguments
 refusal_status refusal.OutOfMemory = fault_status fault.OutOfMemory
 
 abbrev pub refusal_text : Refusal → List ℕ
 refusal_text (refusal.Usage text) = string_bytes text
+refusal_text refusal.BadArguments = fault_line fault.BadArguments
 refusal_text refusal.OutOfMemory = fault_line fault.OutOfMemory
 
 -- A command that was read is carried out.

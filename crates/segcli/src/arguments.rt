@@ -49,6 +49,8 @@ const VALUE_BYTES: u32 = 32;
 pub enum Refusal {
     /// The words are no command; the text has the reason.
     Usage(String),
+    /// The words aren't text.
+    BadArguments,
     OutOfMemory,
 }
 

@@ -1,4 +1,4 @@
-//! The program, over the words after its name.
+//! The program, over the words after its name, or over what was read from them.
 ghost use Rattle.std.specs.Prelude.{◌≡◌, false, map, string_bytes, Result};
 ghost use Rattle.segcli.specs.Streams.{input, output};
 ghost use Rattle.segcli.specs.declared.arguments.Refusal.{Refusal};
@@ -8,7 +8,7 @@ ghost use Rattle.segcli.specs.Asked.{IsReadAsCommand};
 ghost use Rattle.segcli.specs.Program.{refusal_status, refusal_text, ProgramOutcome};
 
 use crate::arguments::{Refusal, read_command};
-use crate::command::{Host, carry_out};
+use crate::command::{Host, Task, carry_out};
 use crate::fault::{ProgramFault, print_after, report};
 use crate::progress::{NoWatch, Watch};
 use crate::status::ExitStatus;
@@ -48,29 +48,27 @@ pub fn run_program<R: Threads + Wait + AllocGlobal + Sync, S: Source, W: Sink, E
         alloc,
         watch: &NoWatch,
     };
-    run_words(&host, words, source, writer, errors)
+    run_read(&host, &read_command(alloc, words), source, writer, errors)
 }
 
-/// Does what `run_program` does. If the words ask for it, the watch looks on at a load.
+/// Carries out the command that was read from the words, or prints why none was.
+/// It returns the exit status, as `run_program` does.
+/// If the command asks for it, the watch looks on at a load or a replay.
 ///
 /// A load waits for its threads. The contract holds if this returns.
-pub fn run_watched<R: Threads + Wait + AllocGlobal + Sync, S: Source, W: Sink, E: Sink, V: Watch>(
+pub fn run_given<R: Threads + Wait + AllocGlobal + Sync, S: Source, W: Sink, E: Sink, V: Watch>(
     rt: &R,
     alloc: Global,
-    words: &[String],
+    read: &Result<Task<'_>, Refusal>,
     streams: &mut Streams<S, W, E>,
     watch: &V,
 ) -> u8
     requires source_works { S.has_failed streams.old.source ≡ false }
     requires writer_works { W.has_failed streams.old.writer ≡ false }
     requires errors_work { E.has_failed streams.old.errors ≡ false }
-
-    // The command that is read from the words is carried out, or the words are refused.
-    ensures outcome { (read : Result Asked Refusal)
-        × IsReadAsCommand (map (λ word. string_bytes word) words.now) read
-        × ProgramOutcome (input S.Source streams.old.source streams.new.source)
+    ensures outcome { ProgramOutcome (input S.Source streams.old.source streams.new.source)
         (output W.Sink streams.old.writer streams.new.writer)
-        (output E.Sink streams.old.errors streams.new.errors) read result }
+        (output E.Sink streams.old.errors streams.new.errors) read.now result }
 {
     let host = Host { rt, alloc, watch };
     let Streams {
@@ -78,13 +76,13 @@ pub fn run_watched<R: Threads + Wait + AllocGlobal + Sync, S: Source, W: Sink, E
         writer,
         errors,
     } = streams;
-    run_words(&host, words, source, writer, errors)
+    run_read(&host, read, source, writer, errors)
 }
 
-// Does what the words ask for, over these devices.
-fn run_words<R: Threads + Wait + AllocGlobal + Sync, S: Source, W: Sink, E: Sink, V: Watch>(
+// Does what was read from the words, over these devices.
+fn run_read<R: Threads + Wait + AllocGlobal + Sync, S: Source, W: Sink, E: Sink, V: Watch>(
     host: &Host<'_, R, V>,
-    words: &[String],
+    read: &Result<Task<'_>, Refusal>,
     source: &mut S,
     writer: &mut W,
     errors: &mut E,
@@ -92,15 +90,13 @@ fn run_words<R: Threads + Wait + AllocGlobal + Sync, S: Source, W: Sink, E: Sink
     requires source_works { S.has_failed source.old ≡ false }
     requires writer_works { W.has_failed writer.old ≡ false }
     requires errors_work { E.has_failed errors.old ≡ false }
-    ensures outcome { (read : Result Asked Refusal)
-        × IsReadAsCommand (map (λ word. string_bytes word) words.now) read
-        × ProgramOutcome (input S.Source source.old source.new)
+    ensures outcome { ProgramOutcome (input S.Source source.old source.new)
         (output W.Sink writer.old writer.new)
-        (output E.Sink errors.old errors.new) read result }
+        (output E.Sink errors.old errors.new) read.now result }
 {
-    match read_command(host.alloc, words) {
-        Ok(command) => carry_out(host, &command, source, writer, errors),
-        Err(refusal) => refuse(&refusal, writer, errors),
+    match read {
+        Ok(command) => carry_out(host, command, source, writer, errors),
+        Err(refusal) => refuse(refusal, writer, errors),
     }
 }
 
@@ -117,6 +113,7 @@ fn refuse<W: Sink, E: Sink>(refusal: &Refusal, writer: &mut W, errors: &mut E) -
             print_after(writer, errors, text.as_str().as_bytes());
             ExitStatus::BadInput.code()
         }
+        Refusal::BadArguments => report(ProgramFault::BadArguments, writer, errors),
         Refusal::OutOfMemory => report(ProgramFault::OutOfMemory, writer, errors),
     }
 }

@@ -2,7 +2,7 @@
 use crate::cli_runs::{
     End, Ended, REPLIES, SCRIPT, SOUND, check_ended, end_of, fails, streams_of, words_of,
 };
-use segcli::{NoWatch, run_given};
+use segcli::{NoWatch, read_command, run_given, words_given};
 use std::alloc::AllocGlobal;
 use std::env::Args;
 use std::io;
@@ -14,7 +14,13 @@ use std::thread::Threads;
 // Runs the program over what std gives: its status, and what it writes and prints.
 fn run<R: Threads + Wait + AllocGlobal + Abort + Sync>(rt: &R, given: io::Result<Args>) -> Ended {
     let mut streams = streams_of(rt, SCRIPT, SOUND);
-    let status = run_given(rt, rt.alloc(), given, &mut streams, &NoWatch);
+    let status = match words_given(rt.alloc(), given) {
+        Ok(words) => {
+            let read = read_command(rt.alloc(), words.as_slice());
+            run_given(rt, rt.alloc(), &read, &mut streams, &NoWatch)
+        }
+        Err(refusal) => run_given(rt, rt.alloc(), &Err(refusal), &mut streams, &NoWatch),
+    };
     end_of(status, streams)
 }
 

@@ -1,7 +1,7 @@
 //! Runs of the program over memory: its words, and what it writes, prints and returns.
 ghost use Rattle.std.specs.Prelude.{◌≡◌, false, IfOk};
 
-use segcli::{Streams, Watch, run_program, run_watched as run_program_watched};
+use segcli::{Streams, Watch, read_command, run_given, run_program};
 use segscript::{MemSink, MemSource, Sink, Source, WhenFull};
 use std::alloc::{AllocError, AllocGlobal, Global};
 use std::fmt::Debug;
@@ -165,7 +165,8 @@ pub fn run_watched<R: Threads + Wait + AllocGlobal + Abort + Sync, V: Watch>(
 ) -> Ended {
     let words = words_of(rt.alloc(), words).expect(rt, "memory for words");
     let mut streams = streams_of(rt, given, SOUND);
-    let status = run_program_watched(rt, rt.alloc(), words.as_slice(), &mut streams, watch);
+    let read = read_command(rt.alloc(), words.as_slice());
+    let status = run_given(rt, rt.alloc(), &read, &mut streams, watch);
     end_of(status, streams)
 }
 
