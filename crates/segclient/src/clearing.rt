@@ -458,7 +458,7 @@ pub(crate) fn is_due(segments: &Segments, moment: u32) -> bool
     }
 }
 
-// Clears some rows of a segment of the pass, by the queues: at most 16 calls of the index,
+// Clears some rows of segments of the pass, by the queues: at most 16 calls of the index,
 // and where items take several rows, eight looks at how many. What has the cutoff's frequency
 // or a higher one can be kept.
 pub(crate) fn clear_some(

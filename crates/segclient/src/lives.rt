@@ -7,7 +7,7 @@ use crate::segments::Window;
 // A time to live has so many parts. An item lives for all of them but one at least.
 pub(crate) const PARTS: u32 = 8;
 
-// While many segments are free, deadlines are as fine as this.
+// While many segments are free, or full ones expire, deadlines are as fine as this.
 pub(crate) const FINE_PARTS: u32 = 64;
 
 // The last multiple of a step that comes in this time, or the largest moment if that comes first.

@@ -51,7 +51,7 @@ impl PutAnswer {
     }
 }
 
-// How often a set is made again while it is busy.
+// How often a set is made at most while it is busy.
 const TRIES: u32 = 16;
 
 // A set. It stores in `replaced` which row the key had before.

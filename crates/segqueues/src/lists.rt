@@ -158,11 +158,6 @@ impl Lists {
         Some(first)
     }
 
-    // The segment that came into the queue last.
-    pub(crate) fn newest(&self, queue: Queue) -> Option<u32> {
-        self.as_segment(self.before(self.end_of(queue)))
-    }
-
     // The segment, which is in no queue, comes last in this one.
     fn append(&mut self, at: u32, queue: Queue) {
         let end = self.end_of(queue);

@@ -48,7 +48,7 @@ pub struct SegmentRow {
     pub row: u32,
 }
 
-/// The segments of a pass in three queues, what each item needs to move on,
+/// The segments of a pass in three queues (free, on probation, main), what each item needs to move on,
 /// and marks of keys that were put lately.
 #[derive(Drop)]
 pub struct Queues {

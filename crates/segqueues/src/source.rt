@@ -391,7 +391,7 @@ impl Queues {
 
     // The last segment by number that has expired at this moment, the current one left out.
     // One that was refused at this moment isn't tried again, so that it hides no other.
-    fn first_expired(&mut self, current: Option<u32>, moment: u32) -> Option<u32> {
+    fn last_expired(&mut self, current: Option<u32>, moment: u32) -> Option<u32> {
         if !self.may_expire(moment) {
             return None;
         }
@@ -417,7 +417,7 @@ impl Queues {
     /// A segment that has expired at this moment, the current one left out. It is the source from
     /// now on, also if the caller gives it up at once.
     pub fn next_expired(&mut self, current: Option<u32>, moment: u32) -> Option<u32> {
-        let segment = self.first_expired(current, moment)?;
+        let segment = self.last_expired(current, moment)?;
         let is_full = self.live.used(segment) >= self.rows_in(segment);
         self.live.is_given_up(segment, self.rows, is_full);
         self.begin(segment, false)

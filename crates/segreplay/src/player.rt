@@ -103,7 +103,7 @@ impl<'i> Player<'i> {
         }
     }
 
-    // Which share of its time to live a command is given that was stored now.
+    // Which share of its time to live a command is given, if it stores now.
     fn given_to(&self, request: &TraceCommand) -> u64
         ensures { result ≡ given_to request.now self.now.client }
     {

@@ -51,7 +51,7 @@ impl TracePosition {
         }
     }
 
-    /// Hands on the commands that were read.
+    /// Forgets the commands that were read, which have been handed on.
     pub(crate) fn clear(&mut self)
         ensures { HandsOn self.old.turns.items self.old self.new }
     {

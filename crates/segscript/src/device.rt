@@ -7,7 +7,7 @@ ghost use Rattle.segscript.specs.Device.{ends_after, took_nothing, TakesPart};
 #[derive(Clone, Copy, Debug, PartialEq, Eq)]
 pub struct Failed;
 
-/// Where the bytes of a script come from.
+/// Where the bytes of a script or a trace come from.
 pub trait Source {
     /// From one state to the other the reader handed out these bytes.
     ghost hands: { Self → List ℕ → Self → Type 0 };
