@@ -1,6 +1,6 @@
 -- The eviction of a segment, item by item: the rows behind an item's first are gone over by no step.
-use Rattle.std.proofs.Common.{◌≡◌, ℕ, zero, suc, ◌+◌, ◌-◌, ◌<◌, ◌≤◌, false, eqb, List, [], refl, sym, ap, ◌∙◌, subst, inr, ⊎_elim, Some, arith}
-use Rattle.std.proofs.lemmas.Bool.{cases_lt, cond-false}
+use Rattle.std.proofs.Common.{◌≡◌, ℕ, zero, suc, ◌+◌, ◌-◌, ◌<◌, ◌≤◌, eqb, List, [], refl, sym, ap, ◌∙◌, subst, inr, ⊎_elim, Some, arith}
+use Rattle.std.proofs.lemmas.Bool.{cases_lt}
 use Rattle.std.proofs.lemmas.Option.{same_Some}
 use Rattle.segword.specs.Words.{most_span, Shape}
 use Rattle.segmodel.specs.declared.answer.SegState.TheVariants.{InUse}
@@ -205,7 +205,7 @@ module _ (b : Board) (segment from row taken used rows : ℕ) (p q : Pass) (in_u
           first = λ _. (suc first_then.0, ap (λ m. m + span_in (trace t) segment m) first_then.1 ∙ ap (λ m. row + m) (sym span));
         }
 
-  module _ (r t : Pass) (several : eqb most_span 1 ≡ false) (i : Idles b r t) (load : TakesAtMost 1 r t) (span : rows ≡ span_in (trace t) segment row) where
+  module _ (r t : Pass) (i : Idles b r t) (load : TakesAtMost (loads_of_span 1) r t) (span : rows ≡ span_in (trace t) segment row) where
     own : owner b.shape segment ≡ number q
     own = owns_used b q segment used e.evicting.on.quiet.pass used_now
 
@@ -215,11 +215,11 @@ module _ (b : Board) (segment from row taken used rows : ℕ) (p q : Pass) (in_u
     pub items_evicted : EvictsRow b segment row evict_row.Evicted q r → TakesAtMost (most_steps_of_evict_row evict_row.Evicted - loads_of_span 1) q r
         → EvictingItems b segment from (row + rows) (taken + 1) p t
     items_evicted one steps =
-        let x = evicted_looked b segment row q r t own i one in let spare = cond-false {A = ℕ} (eqb most_span 1) 0 1 several in
-        items_on t x.answer.0 x.on x.plain span (taken + 1) (evicting_one b segment from row taken p q t e.evicting has x (omega (arith, steps, load, spare)))
+        let x = evicted_looked b segment row q r t own i one in
+        items_on t x.answer.0 x.on x.plain span (taken + 1) (evicting_one b segment from row taken p q t e.evicting has x (omega (arith, steps, load)))
 
     pub items_left : EvictsRow b segment row evict_row.Left q r → TakesAtMost (most_steps_of_evict_row evict_row.Left - loads_of_span 1) q r
         → EvictingItems b segment from (row + rows) taken p t
     items_left one steps =
-        let x = left_looked b segment row q r t own i one in let spare = cond-false {A = ℕ} (eqb most_span 1) 0 1 several in
-        items_on t x.answer.0 x.on x.plain span taken (evicting_none b segment from row taken p q t e.evicting has x (omega (arith, steps, load, spare)))
+        let x = left_looked b segment row q r t own i one in
+        items_on t x.answer.0 x.on x.plain span taken (evicting_none b segment from row taken p q t e.evicting has x (omega (arith, steps, load)))

@@ -17,7 +17,6 @@ use Rattle.segbase.specs.declared.pass.PlainPart.{PlainPart}
 use Rattle.segbase.specs.Words.{Board, count, current_of, IsPassOf, mine, number, own_segment, Pass, seen}
 use Rattle.segbase.specs.Words.{state_in, state_of, trace, used_of, with_current, with_state}
 use Rattle.segbase.proofs.Known.{state_set, state_apart, used_kept, owner_stated, deadline_stated}
-use Rattle.segbase.proofs.Moves.{stays}
 use Rattle.segbase.proofs.Owned.{owner_of, state_there, still_pass}
 use Rattle.segstore.specs.Words.{DrawsNothing, GoesOn, Idles, IsQuiet, KeepsSegments, memo, ReadsNothing, TakesAtMost}
 use Rattle.segevict.specs.Steps.{most_steps_of_evict_row}
@@ -35,8 +34,7 @@ use Rattle.segevict.specs.Unlinking.{EvictsRow}
 use Rattle.segstore.proofs.Draws.{draws_none_then}
 use Rattle.segevict.proofs.EvictedRow.{row_out}
 use Rattle.segevict.proofs.IfNamed.{each_way}
-use Rattle.segevict.proofs.Naming.{gone_unless_named}
-use Rattle.segevict.proofs.KeyTries.{no_tries, of_row, rows_tried_then, stood_before}
+use Rattle.segevict.proofs.KeyTries.{of_row, rows_tried_then, stood_before}
 use Rattle.segevict.proofs.RowsOut.{goes_then, keeps_gone_then}
 
 -- ---- a change of the plain part alone
@@ -92,27 +90,6 @@ pub record Evicting (b : Board) (segment from row taken : ℕ) (p q : Pass) : Ty
 -- the pass looks for no item's first row
 pub looks_for_none : (b : Board) (from : ℕ) (p : Pass) → IsPassOf b p → LooksForFirst b from p p
 looks_for_none b from p is = each_way (eqb most_span 1) (p ≡ p) (Idles b p p × TakesAtMost from p p) (λ one. refl) (λ several. (idles b p is, omega arith))
-
--- before the first row
-pub evicting_first : (b : Board) (segment from : ℕ) (p : Pass) → IsQuiet b p → AreUnnamed b.shape segment from p → Evicting b segment from from 0 p p
-evicting_first b segment from p quiet none = record {
-  on = record { quiet = quiet; same = refl; marked = ([], refl); seen = ([], refl); steps = inr (refl, refl) };
-  keeps = record { grew = ([], refl); linked = λ row. refl; spans = λ row on. refl; lasts = λ row gone. gone };
-  plain = refl;
-  memo = refl;
-  draws_nothing = λ bucket. refl;
-  reads_nothing = refl;
-  evictions = [];
-  counted = refl;
-  all = tt;
-  entries = refl;
-  below = λ r lt. gone_unless_named b.shape (trace p) segment r quiet.pass.lawful (none r lt).1;
-  few = omega arith;
-  rows = 0;
-  at = omega arith;
-  tries = no_tries b (λ key. StoodIn b.shape segment key p p) 0 p p (stays b p quiet.pass);
-  order = (refl, looks_for_none b from p quiet.pass);
-}
 
 -- the rows that no item names are used ones
 pub unnamed_few : (shape : Shape) (segment from used : ℕ) (p : Pass) → AreUnnamed shape segment from p → used_of p segment ≡ Some used → from ≤ used

@@ -1,8 +1,6 @@
 -- The keep of a segment, item by item: the rows behind an item's first are gone over by no step.
-use Rattle.std.proofs.Common.{◌≡◌, ℕ, zero, suc, ◌+◌, ◌-◌, ◌<◌, ◌≤◌, false, eqb, [], refl, sym, ap, ◌∙◌, subst, inl, inr, ⊎_elim, Some, arith}
-use Rattle.std.proofs.lemmas.Bool.{cond-false}
+use Rattle.std.proofs.Common.{◌≡◌, ℕ, zero, suc, ◌+◌, ◌-◌, ◌<◌, ◌≤◌, [], refl, sym, ap, ◌∙◌, subst, inl, inr, ⊎_elim, Some, arith}
 use Rattle.std.proofs.lemmas.Option.{same_Some}
-use Rattle.segword.specs.Words.{most_span}
 use Rattle.segmodel.specs.declared.answer.SegState.TheVariants.{InUse}
 use Rattle.segmodel.specs.Words.{bucket_of, owner}
 use Rattle.segcore.specs.Words.{bounced, row_after, RowGone, span_in, taken}
@@ -217,22 +215,19 @@ module _ (b : Board) (segment into cutoff row count used rows : ℕ) (p q : Pass
     pub used_left : KeepsRow b segment row into cutoff kept.Left q r → IsUsedRow segment row r
     used_left k = (used, same_used q r segment (left_changes b segment row into cutoff q r e.keeping.on.quiet k).plain ∙ used_q, lt)
 
-  module _ (r t : Pass) (several : eqb most_span 1 ≡ false) (i : Idles b r t) (load : TakesAtMost 1 r t) (span : rows ≡ span_in (trace t) segment row) where
-    spare : loads_of_span 1 ≡ 1
-    spare = cond-false (eqb most_span 1) 0 1 several
-
+  module _ (r t : Pass) (i : Idles b r t) (load : TakesAtMost (loads_of_span 1) r t) (span : rows ≡ span_in (trace t) segment row) where
     pub items_moved : KeepsRow b segment row into cutoff kept.Moved q r → TakesAtMost (most_steps_of_keep_row kept.Moved - loads_of_span 1) q r
         → KeepingItems b segment into cutoff (row + rows) (count + 1) p t
     items_moved one steps =
-        let k = moved_looked b segment row into cutoff q r t own_q i one in let s = spare in
+        let k = moved_looked b segment row into cutoff q r t own_q i one in
         items_on t (moved_gone b segment row into cutoff q t own_q target.other k) span (count + 1)
         (keeping_moved b segment into cutoff row count p q t own_p e.keeping target.other k
-        (item_of b segment into cutoff row count p q quiet in_use target e.keeping used is t lt kept.Moved k (omega (arith, steps, load, s))))
+        (item_of b segment into cutoff row count p q quiet in_use target e.keeping used is t lt kept.Moved k (omega (arith, steps, load))))
 
     pub items_left : KeepsRow b segment row into cutoff kept.Left q r → TakesAtMost (most_steps_of_keep_row kept.Left - loads_of_span 1) q r
         → KeepingItems b segment into cutoff (row + rows) count p t
     items_left one steps =
-        let k = left_looked b segment row into cutoff q r t own_q i one in let s = spare in
+        let k = left_looked b segment row into cutoff q r t own_q i one in
         items_on t (left_gone b segment row into cutoff q t own_q k) span count
         (keeping_left b segment into cutoff row count p q t own_p e.keeping k
-        (item_of b segment into cutoff row count p q quiet in_use target e.keeping used is t lt kept.Left k (omega (arith, steps, load, s))))
+        (item_of b segment into cutoff row count p q quiet in_use target e.keeping used is t lt kept.Left k (omega (arith, steps, load))))

@@ -1,21 +1,21 @@
 //! Evictions: the keys that stand in a segment of the pass's own are taken out of it,
 //! one after the other, all of them or those of some rows.
-ghost use Rattle.std.specs.Prelude.{◌≡◌, ◌≢◌, Some};
+ghost use Rattle.std.specs.Prelude.{◌≡◌, ◌≢◌, ◌-◌, Some};
 ghost use Rattle.segmodel.specs.declared.answer.SegState.TheVariants.{InUse};
 ghost use Rattle.segmodel.specs.declared.answer.EvictAnswer.TheVariants.{NotYours};
-ghost use Rattle.segcore.specs.Words.{row_after};
-ghost use Rattle.segbase.specs.Words.{current_of, IsPassOf, state_of, trace};
-ghost use Rattle.segstore.specs.Words.{GoesOn, HasCleanBit, HoldsPair, IsQuiet, memo, TakesAtMost};
+ghost use Rattle.segbase.specs.Words.{current_of, IsPassOf, state_of};
+ghost use Rattle.segstore.specs.Words.{GoesOn, HasCleanBit, IsQuiet, memo, TakesAtMost};
 ghost use Rattle.segevict.specs.EvictedRow.{EvictsItem};
 ghost use Rattle.segevict.specs.Evicting.{CostsOfEvict, ended, EvictsRest, EvictsSegment};
 ghost use Rattle.segevict.specs.Evicting.{IsEvictAnswer};
 ghost use Rattle.segevict.specs.Naming.{AreUnnamed};
-ghost use Rattle.segevict.specs.Rows.{IfSeveral, IsUsedRow, IsStoredIn};
-ghost use Rattle.segevict.specs.Steps.{most_steps_of_evict_row, most_steps_to_clear};
+ghost use Rattle.segevict.specs.Rows.{IsUsedRow, IsStoredIn};
+ghost use Rattle.segevict.specs.Steps.{loads_of_span, most_steps_of_evict_row};
+ghost use Rattle.segevict.specs.Steps.{most_steps_to_clear};
 ghost use Rattle.segevict.specs.Unlinking.{TakesRow, EvictsRow};
 
-use crate::row::{find_row, has_row, item_of_row};
-use crate::spans::{evict_rows, evict_used_row};
+use crate::row::{find_row, has_row};
+use crate::spans::{first_from, item_at, rows_from};
 use segbase::{Board, Pass};
 use segmodel::{EvictAnswer, SegState};
 use segstore::take_to_write;
@@ -73,9 +73,9 @@ pub fn evict_rest(board: &Board, pass: &mut Pass, segment: u32, from: u32) -> Ev
     evict_rows(board, pass, segment, from)
 }
 
-// Takes out the keys of the rows from this one on, each of which has an item of its own.
+// Takes out the keys of the rows from this one on.
 // Nothing is stored in the segment any more.
-pub(crate) fn evict_each_row(board: &Board, pass: &mut Pass, segment: u32, from: u32) -> EvictAnswer
+fn evict_rows(board: &Board, pass: &mut Pass, segment: u32, from: u32) -> EvictAnswer
     requires quiet { IsQuiet board.now pass.old }
     requires in_use { state_of pass.old segment ≡ Some InUse }
     requires ended { current_of pass.old ≢ Some segment }
@@ -87,13 +87,15 @@ pub(crate) fn evict_each_row(board: &Board, pass: &mut Pass, segment: u32, from:
 {
     let used = pass.used(segment).unwrap();
     let mut evicted = 0;
-    for row in from..used {
+    let mut row = first_from(board, pass, segment, from);
+    while row < used {
         match evict_used_row(board, pass, segment, row) {
             EvictRowAnswer::Evicted => evicted += 1,
             EvictRowAnswer::Left => {}
             EvictRowAnswer::Busy => return EvictAnswer::Busy(evicted),
             EvictRowAnswer::NotYours | EvictRowAnswer::NotUsed => unreachable!(),
         }
+        row += rows_from(board, pass, segment, row);
     }
     pass.set_state(segment, SegState::Evicted);
     EvictAnswer::Evicted(evicted)
@@ -114,21 +116,18 @@ pub fn evict_row(board: &Board, pass: &mut Pass, segment: u32, row: u32) -> Evic
     evict_used_row(board, pass, segment, row)
 }
 
-// Takes out the key of a used row that has an item of its own, if it stands there.
+// Takes out the key of a used row, if it stands there.
 // The bit of the key's bucket is taken only then.
-pub(crate) fn evict_first_row(
-    board: &Board,
-    pass: &mut Pass,
-    segment: u32,
-    row: u32,
-) -> EvictRowAnswer
+fn evict_used_row(board: &Board, pass: &mut Pass, segment: u32, row: u32) -> EvictRowAnswer
     requires quiet { IsQuiet board.now pass.old }
     requires used { IsUsedRow segment row pass.old }
-    requires pair { IfSeveral (HoldsPair (row_after (trace pass.old) segment row)) }
     ensures evicts { EvictsRow board.now segment row result pass.old pass.new }
-    ensures steps { TakesAtMost (most_steps_of_evict_row result) pass.old pass.new }
+    ensures steps { TakesAtMost (most_steps_of_evict_row result - loads_of_span 1)
+        pass.old pass.new }
 {
-    let (bucket, item) = item_of_row(board, pass, segment, row);
+    let Some((bucket, item)) = item_at(board, pass, segment, row) else {
+        return EvictRowAnswer::Left;
+    };
     if find_row(board, pass, bucket, item).is_none() {
         return EvictRowAnswer::Left;
     }
@@ -146,7 +145,7 @@ pub(crate) fn evict_first_row(
 
 // Clears the word that names the row of an item, under the bit of its bucket.
 // Returns false if no word names the row.
-pub(crate) fn clear_row(board: &Board, pass: &mut Pass, bucket: u32, item: Item) -> bool
+fn clear_row(board: &Board, pass: &mut Pass, bucket: u32, item: Item) -> bool
     requires pass { IsPassOf board.now pass.old }
     requires stored { IsStoredIn board.now bucket item pass.old }
     requires bit { HasCleanBit board.now pass.old bucket }

@@ -1,15 +1,13 @@
-use Rattle.std.proofs.Common.{◌≡◌, ◌+◌, false, eqb, Some, sym, ap, ◌∙◌, subst, arith}
-use Rattle.std.proofs.lemmas.Bool.{ne_eqb}
-use Rattle.segword.specs.Words.{most_span}
+use Rattle.std.proofs.Common.{◌≡◌, ◌+◌, Some, sym, ap, ◌∙◌, subst, arith}
 use Rattle.segmodel.specs.declared.answer.EvictAnswer.TheVariants as evict
 use Rattle.segbase.specs.Words.{used_of}
-use Rattle.segstore.specs.Words.{GoesOn, TakesAtMost}
+use Rattle.segstore.specs.Words.{GoesOn}
 use Rattle.segstore.proofs.Keeping.{same_used}
 use Rattle.segevict.specs.Evicting.{CostsOfEvict, IsEvictAnswer}
 use Rattle.segevict.proofs.EvictedItems.{EvictingItems, items_evicted, items_first, items_left}
 use Rattle.segevict.proofs.Evictions.{barred_on, barred_answer, barred_costs, emptied_on, emptied_answer, emptied_costs}
-use Rattle.segevict.proofs.spans.evict_rows.Goals as goal
-use Rattle.segevict.proofs.spans.evict_rows.Goals.{in-Evicted, in-Left}
+use Rattle.segevict.proofs.eviction.evict_rows.Goals as goal
+use Rattle.segevict.proofs.eviction.evict_rows.Goals.{in-Evicted, in-Left}
 
 pub loop-row-init : goal.loop-row-init
 loop-row-init c = let r = c.requires in let f = c.first_from-row in let s = c.args.segment in
@@ -44,15 +42,13 @@ rows_from-row-requires-clause-used c = let l = c.loop-row in let s = c.args.segm
 pub loop-row-preserved : goal.loop-row-preserved
 loop-row-preserved c = let b = c.args.board.now in let s = c.args.segment in let from = c.args.from in let p = c.args.pass.now in let l = c.loop-row in
     let used : used_of p s ≡ Some c.unwrap-used.result = sym c.used.ensures ∙ c.unwrap-used.ensures in
-    let several : eqb most_span 1 ≡ false = ne_eqb most_span 1 c.if-this-eq-MOST_SPAN.false in
-    let r = c.evict_used_row.new.pass in let t = c.rows_from-row in
-    let few : TakesAtMost 1 r t.new.pass = let steps = t.ensures.steps in omega (arith, steps) in elim c.match-evict_used_row.branch [
+    let r = c.evict_used_row.new.pass in let t = c.rows_from-row in elim c.match-evict_used_row.branch [
       | in-Evicted w ↦ subst (λ n. EvictingItems b s from (l.row + t.result) n p t.new.pass) (sym w.evicted-is)
-          (items_evicted b s from l.row l.evicted c.unwrap-used.result t.result p l.pass c.requires.in_use used c.loop-row-test.true l.invariant r t.new.pass several
-          t.ensures.idles few t.ensures.rows w.in-Evicted.ensures.evicts w.in-Evicted.ensures.steps)
+          (items_evicted b s from l.row l.evicted c.unwrap-used.result t.result p l.pass c.requires.in_use used c.loop-row-test.true l.invariant r t.new.pass
+          t.ensures.idles t.ensures.steps t.ensures.rows w.in-Evicted.ensures.evicts w.in-Evicted.ensures.steps)
       | in-Left w ↦ subst (λ n. EvictingItems b s from (l.row + t.result) n p t.new.pass) (sym w.evicted-is)
-          (items_left b s from l.row l.evicted c.unwrap-used.result t.result p l.pass c.requires.in_use used c.loop-row-test.true l.invariant r t.new.pass several
-          t.ensures.idles few t.ensures.rows w.in-Left.ensures.evicts w.in-Left.ensures.steps)
+          (items_left b s from l.row l.evicted c.unwrap-used.result t.result p l.pass c.requires.in_use used c.loop-row-test.true l.invariant r t.new.pass
+          t.ensures.idles t.ensures.steps t.ensures.rows w.in-Left.ensures.evicts w.in-Left.ensures.steps)
     ]
 
 pub returns-clause-on : goal.returns-clause-on

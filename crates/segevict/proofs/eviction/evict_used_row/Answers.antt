@@ -4,7 +4,7 @@ use Rattle.segstore.proofs.Keeping.{owns_used}
 use Rattle.segwrite.proofs.Places.{idles_then}
 use Rattle.segevict.proofs.Seeking.{stored_over}
 use Rattle.segevict.proofs.RowsOut.{quiet_looking, stored_taken, row_is_none, row_is_gone, row_is_barred, row_is_evicted, row_went, found_none, found_some, of_place}
-use Rattle.segevict.proofs.spans.evict_used_row.Goals as goal
+use Rattle.segevict.proofs.eviction.evict_used_row.Goals as goal
 
 pub returns-in_default-clause-evicts : goal.returns-in_default-clause-evicts
 returns-in_default-clause-evicts c = let b = c.args.board.now in let p = c.args.pass.now in let used = c.requires.used in let r = c.in_default.ensures in

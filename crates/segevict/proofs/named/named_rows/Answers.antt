@@ -3,8 +3,8 @@ use Rattle.segwrite.proofs.Places.{idles_then}
 use Rattle.segevict.specs.Naming.{ReturnsNamed}
 use Rattle.segevict.proofs.NamedItems.{CountingItems, has_pair, items_counted, items_counted_first, items_passed}
 use Rattle.segevict.proofs.Naming.{quiet_still, used_still}
-use Rattle.segevict.proofs.spans.named_rows.Goals as goal
-use Rattle.segevict.proofs.spans.named_rows.Goals.{then-is_named, else-is_named}
+use Rattle.segevict.proofs.named.named_rows.Goals as goal
+use Rattle.segevict.proofs.named.named_rows.Goals.{then-is_named, else-is_named}
 
 pub loop-row-init : goal.loop-row-init
 loop-row-init c = items_counted_first c.args.board.now c.args.segment c.args.pass.now c.requires.quiet

@@ -1,6 +1,6 @@
 use Rattle.std.specs.Prelude.{◌-◌}
 use Rattle.segevict.proofs.NamedItems.{CountingItems}
-use Rattle.segevict.proofs.spans.named_rows.Given as goal
+use Rattle.segevict.proofs.named.named_rows.Given as goal
 
 abbrev pub decreases-loop-row : goal.decreases-loop-row
 decreases-loop-row l = l.board.shape.rows - l.row

@@ -1,6 +1,6 @@
 use Rattle.std.specs.Prelude.{◌-◌}
 use Rattle.segevict.proofs.KeptItems.{KeepingItems}
-use Rattle.segevict.proofs.spans.keep_rows.Given as goal
+use Rattle.segevict.proofs.retention.keep_rows.Given as goal
 
 abbrev pub invariant-loop-row : goal.invariant-loop-row
 invariant-loop-row l = KeepingItems l.board l.segment l.into l.cutoff l.row l.kept l.fn.pass l.pass

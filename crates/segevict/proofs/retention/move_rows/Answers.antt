@@ -6,7 +6,7 @@ use Rattle.segbase.specs.Words.{trace}
 use Rattle.segevict.specs.Moving.{MovesRow}
 use Rattle.segevict.specs.Relinking.{HasRelinked, Relinks}
 use Rattle.segevict.proofs.Moving.{copy_loaded, holds_loaded, may_move, moves_none, moves_one, own_loaded, own_rows, readable, readable_there, slot_is}
-use Rattle.segevict.proofs.spans.move_rows.Goals as goal
+use Rattle.segevict.proofs.retention.move_rows.Goals as goal
 
 pub returns-in_default-clause-moves : goal.returns-in_default-clause-moves
 returns-in_default-clause-moves c = let r = c.requires in let f = c.find_row in

@@ -1,14 +1,11 @@
-use Rattle.std.proofs.Common.{◌≡◌, ◌+◌, false, eqb, Some, sym, ap, ◌∙◌, subst, arith}
-use Rattle.std.proofs.lemmas.Bool.{ne_eqb}
-use Rattle.segword.specs.Words.{most_span}
+use Rattle.std.proofs.Common.{◌≡◌, ◌+◌, Some, sym, ap, ◌∙◌, subst, arith}
 use Rattle.segcore.specs.Words.{row_after}
 use Rattle.segcore.proofs.Spans.{header_some}
 use Rattle.segbase.specs.Words.{trace, used_of}
-use Rattle.segstore.specs.Words.{TakesAtMost}
 use Rattle.segevict.proofs.KeptItems.{items_left, items_moved, kept_items_first, KeepingItems, used_left, used_moved}
 use Rattle.segevict.proofs.Keeping.{keep_barred, keep_done, keep_stopped}
-use Rattle.segevict.proofs.spans.keep_rows.Goals as goal
-use Rattle.segevict.proofs.spans.keep_rows.Goals.{in-Moved, in-Left}
+use Rattle.segevict.proofs.retention.keep_rows.Goals as goal
+use Rattle.segevict.proofs.retention.keep_rows.Goals.{in-Moved, in-Left}
 
 pub loop-row-init : goal.loop-row-init
 loop-row-init c = kept_items_first c.args.board.now c.args.segment c.args.into c.args.cutoff c.args.pass.now c.requires.quiet
@@ -37,15 +34,13 @@ rows_from-row-requires-clause-used c = let b = c.args.board.now in let s = c.arg
 pub loop-row-preserved : goal.loop-row-preserved
 loop-row-preserved c = let b = c.args.board.now in let s = c.args.segment in let i = c.args.into in let p = c.args.pass.now in let l = c.loop-row in let q = c.requires in
     let used : used_of p s ≡ Some c.unwrap-used.result = sym c.used.ensures ∙ c.unwrap-used.ensures in
-    let several : eqb most_span 1 ≡ false = ne_eqb most_span 1 c.if-this-eq-MOST_SPAN.false in
-    let r = c.keep_used_row.new.pass in let t = c.rows_from-row in
-    let few : TakesAtMost 1 r t.new.pass = let steps = t.ensures.steps in omega (arith, steps) in elim c.match-keep_used_row.branch [
+    let r = c.keep_used_row.new.pass in let t = c.rows_from-row in elim c.match-keep_used_row.branch [
       | in-Moved w ↦ subst (λ n. KeepingItems b s i c.args.cutoff (l.row + t.result) n p t.new.pass) (sym w.kept-is)
-          (items_moved b s i c.args.cutoff l.row l.kept c.unwrap-used.result t.result p l.pass q.quiet q.in_use q.target used c.loop-row-test.true l.invariant r t.new.pass several
-          t.ensures.idles few t.ensures.rows w.in-Moved.ensures.keeps w.in-Moved.ensures.steps)
+          (items_moved b s i c.args.cutoff l.row l.kept c.unwrap-used.result t.result p l.pass q.quiet q.in_use q.target used c.loop-row-test.true l.invariant r t.new.pass
+          t.ensures.idles t.ensures.steps t.ensures.rows w.in-Moved.ensures.keeps w.in-Moved.ensures.steps)
       | in-Left w ↦ subst (λ n. KeepingItems b s i c.args.cutoff (l.row + t.result) n p t.new.pass) (sym w.kept-is)
-          (items_left b s i c.args.cutoff l.row l.kept c.unwrap-used.result t.result p l.pass q.quiet q.in_use q.target used c.loop-row-test.true l.invariant r t.new.pass several
-          t.ensures.idles few t.ensures.rows w.in-Left.ensures.keeps w.in-Left.ensures.steps)
+          (items_left b s i c.args.cutoff l.row l.kept c.unwrap-used.result t.result p l.pass q.quiet q.in_use q.target used c.loop-row-test.true l.invariant r t.new.pass
+          t.ensures.idles t.ensures.steps t.ensures.rows w.in-Left.ensures.keeps w.in-Left.ensures.steps)
     ]
 
 pub overflow_add-row : goal.overflow_add-row

@@ -1,5 +1,0 @@
-use Rattle.std.specs.Prelude.{None}
-use Rattle.segevict.proofs.spans.keep_used_row.Given as goal
-
-abbrev pub ghost-release : goal.ghost-release
-ghost-release a = None
