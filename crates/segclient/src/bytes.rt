@@ -164,6 +164,7 @@ impl<'i> Client<'i> {
     ghost use Rattle.segclient.specs.Puts.{Puts, PutsFor};
 
     /// Stores the value under the key as `set` does, from where its bytes stand.
+    #[inline(always)]
     pub fn set_bytes(&mut self, key: &Key, value: &ValueBytes<'_>) -> WriteAnswer
         ensures writes { MakesCall (MakesWrite (Set key.now value.now) result) self.old self.new }
         ensures set { IsSetAnswer result }
@@ -172,6 +173,7 @@ impl<'i> Client<'i> {
     }
 
     /// Stores the value as `add` does, from where its bytes stand.
+    #[inline(always)]
     pub fn add_bytes(&mut self, key: &Key, value: &ValueBytes<'_>) -> WriteAnswer
         ensures writes { MakesCall (MakesWrite (Add key.now value.now) result) self.old self.new }
     {
@@ -179,6 +181,7 @@ impl<'i> Client<'i> {
     }
 
     /// Stores the value as `replace` does, from where its bytes stand.
+    #[inline(always)]
     pub fn replace_bytes(&mut self, key: &Key, value: &ValueBytes<'_>) -> WriteAnswer
         ensures writes { MakesCall (MakesWrite (Replace key.now value.now) result)
             self.old self.new }
@@ -187,6 +190,7 @@ impl<'i> Client<'i> {
     }
 
     /// Stores the value as `cas` does, from where its bytes stand.
+    #[inline(always)]
     pub fn cas_bytes(&mut self, key: &Key, value: &ValueBytes<'_>, expected: u32) -> WriteAnswer
         ensures writes { MakesCall (MakesWrite (Cas key.now value.now expected) result)
             self.old self.new }

@@ -8,7 +8,7 @@ use crate::put::PutAnswer;
 use crate::stats::Stats;
 use segindex::{Index, IndexStats, Pass};
 use segmodel::{DeleteAnswer, GetAnswer, GetsAnswer, WriteAnswer};
-use segword::{Key, Value};
+use segword::{Key, Value, ValueBytes};
 use std::alloc::{AllocError, Global};
 
 /// A pass of an index, for one thread at a time.
@@ -112,14 +112,14 @@ impl<'i> Client<'i> {
         ensures writes { MakesCall (MakesWrite (Set key.now value.now) result) self.old self.new }
         ensures set { IsSetAnswer result }
     {
-        self.member.set(self.index, key, value)
+        self.set_bytes(key, &ValueBytes::of(value))
     }
 
     /// Stores the value if the key is absent. Otherwise it returns NotStored.
     pub fn add(&mut self, key: &Key, value: &Value) -> WriteAnswer
         ensures writes { MakesCall (MakesWrite (Add key.now value.now) result) self.old self.new }
     {
-        self.member.add(self.index, key, value)
+        self.add_bytes(key, &ValueBytes::of(value))
     }
 
     /// Stores the value if the key is present. Otherwise it returns NotStored.
@@ -127,7 +127,7 @@ impl<'i> Client<'i> {
         ensures writes { MakesCall (MakesWrite (Replace key.now value.now) result)
             self.old self.new }
     {
-        self.member.replace(self.index, key, value)
+        self.replace_bytes(key, &ValueBytes::of(value))
     }
 
     /// Stores the value if the key is present and its bucket has the expected version.
@@ -136,7 +136,7 @@ impl<'i> Client<'i> {
         ensures writes { MakesCall (MakesWrite (Cas key.now value.now expected) result)
             self.old self.new }
     {
-        self.member.cas(self.index, key, value, expected)
+        self.cas_bytes(key, &ValueBytes::of(value), expected)
     }
 
     /// Takes the key out.
@@ -206,7 +206,7 @@ impl<'i> Client<'i> {
     pub fn put(&mut self, key: &Key, value: &Value) -> PutAnswer
         ensures puts { MakesCall (Puts key.now value.now result) self.old self.new }
     {
-        self.member.put(self.index, key, value)
+        self.put_bytes(key, &ValueBytes::of(value))
     }
 
     /// Stores the value under the key as `put` does, but for this time to live in place
@@ -221,6 +221,6 @@ impl<'i> Client<'i> {
         ensures puts { MakesCall (PutsFor time_to_live key.now value.now result)
             self.old self.new }
     {
-        self.member.put_for(self.index, key, value, time_to_live)
+        self.put_bytes_for(key, &ValueBytes::of(value), time_to_live)
     }
 }

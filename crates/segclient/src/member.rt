@@ -9,14 +9,13 @@ use crate::clearing::{clear_some, is_due};
 use crate::effort::Effort;
 use crate::lives::{FINE_PARTS, PARTS, deadline_by, window_for};
 use crate::making::make_room_by;
-use crate::put::PutAnswer;
 use crate::queues::{queues_of, tell_deleted, tell_stored};
 use crate::segments::{Policy, Segments, Window};
 use crate::stats::Stats;
 use segindex::{Index, IndexStats, Pass, RowRef};
 use segmodel::{DeleteAnswer, GetAnswer, GetsAnswer, WriteAnswer};
 use segtally::{Tally, own_ring};
-use segword::{Key, Value, ValueBytes, hash};
+use segword::{Key, hash};
 use std::alloc::{AllocError, Global};
 
 /// What a client has beside its index: a pass of it, the segments of the pass, its draws,
@@ -45,13 +44,11 @@ pub(crate) fn drawn(draws: u32) -> u32
 impl Member {
     ghost use Rattle.segbase.specs.Words.{number_of};
     ghost use Rattle.segmodel.specs.declared.answer.WriteAnswer.TheVariants.{NoRoom};
-    ghost use Rattle.segmodel.specs.declared.request.Request.TheVariants.{Set, Add, Replace, Cas};
-    ghost use Rattle.segwrite.specs.Words.{IsSetAnswer};
     ghost use Rattle.segclient.specs.Made.{BeginsWrite, ClearsThen, DeletesKey, EndsWrite, Gets};
-    ghost use Rattle.segclient.specs.Made.{GetsVersion, MakesWrite, ReturnsTable};
+    ghost use Rattle.segclient.specs.Made.{GetsVersion, ReturnsTable};
     ghost use Rattle.segclient.specs.Member.{Begins, IsMember, SetsCutoff, SetsNow, SetsTimeToLive};
     ghost use Rattle.segclient.specs.Policies.{IsPolicyFor, policy_of};
-    ghost use Rattle.segclient.specs.Puts.{MakesRoomFor, Puts, PutsFor};
+    ghost use Rattle.segclient.specs.Puts.{MakesRoomFor};
 
     /// As `Client::new`.
     pub fn new(index: &Index, pass: Pass) -> Member
@@ -255,51 +252,6 @@ impl Member {
         WriteAnswer::NoRoom
     }
 
-    /// As `Client::set`.
-    #[inline(always)]
-    pub fn set(&mut self, index: &Index, key: &Key, value: &Value) -> WriteAnswer
-        requires member { IsMember index.now self.old }
-        ensures member { IsMember index.now self.new }
-        ensures writes { MakesWrite (Set key.now value.now) result
-            (board_of index.now) self.old self.new }
-        ensures set { IsSetAnswer result }
-    {
-        self.set_bytes(index, key, &ValueBytes::of(value))
-    }
-
-    /// As `Client::add`.
-    #[inline(always)]
-    pub fn add(&mut self, index: &Index, key: &Key, value: &Value) -> WriteAnswer
-        requires member { IsMember index.now self.old }
-        ensures member { IsMember index.now self.new }
-        ensures writes { MakesWrite (Add key.now value.now) result
-            (board_of index.now) self.old self.new }
-    {
-        self.add_bytes(index, key, &ValueBytes::of(value))
-    }
-
-    /// As `Client::replace`.
-    #[inline(always)]
-    pub fn replace(&mut self, index: &Index, key: &Key, value: &Value) -> WriteAnswer
-        requires member { IsMember index.now self.old }
-        ensures member { IsMember index.now self.new }
-        ensures writes { MakesWrite (Replace key.now value.now) result
-            (board_of index.now) self.old self.new }
-    {
-        self.replace_bytes(index, key, &ValueBytes::of(value))
-    }
-
-    /// As `Client::cas`.
-    #[inline(always)]
-    pub fn cas(&mut self, index: &Index, key: &Key, value: &Value, expected: u32) -> WriteAnswer
-        requires member { IsMember index.now self.old }
-        ensures member { IsMember index.now self.new }
-        ensures writes { MakesWrite (Cas key.now value.now expected) result
-            (board_of index.now) self.old self.new }
-    {
-        self.cas_bytes(index, key, &ValueBytes::of(value), expected)
-    }
-
     /// As `Client::delete`.
     pub fn delete(&mut self, index: &Index, key: &Key) -> DeleteAnswer
         requires member { IsMember index.now self.old }
@@ -375,32 +327,5 @@ impl Member {
         let (is_made, effort) = make_room_by(index, &mut self.pass, &mut self.segments, policy);
         self.stats.count_effort(effort);
         is_made
-    }
-
-    /// As `Client::put`.
-    #[inline(always)]
-    pub fn put(&mut self, index: &Index, key: &Key, value: &Value) -> PutAnswer
-        requires member { IsMember index.now self.old }
-        ensures member { IsMember index.now self.new }
-        ensures puts { Puts key.now value.now result (board_of index.now) self.old self.new }
-    {
-        self.put_for(index, key, value, self.time_to_live)
-    }
-
-    /// As `Client::put_for`.
-    #[inline(always)]
-    pub fn put_for(
-        &mut self,
-        index: &Index,
-        key: &Key,
-        value: &Value,
-        time_to_live: u32,
-    ) -> PutAnswer
-        requires member { IsMember index.now self.old }
-        ensures member { IsMember index.now self.new }
-        ensures puts { PutsFor time_to_live key.now value.now result
-            (board_of index.now) self.old self.new }
-    {
-        self.put_bytes_for(index, key, &ValueBytes::of(value), time_to_live)
     }
 }

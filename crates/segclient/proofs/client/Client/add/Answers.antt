@@ -1,0 +1,11 @@
+use Rattle.std.proofs.Common.{subst}
+use Rattle.segmodel.specs.declared.request.Request.TheVariants.{Add}
+use Rattle.segclient.specs.Made.{MakesWrite}
+use Rattle.segclient.specs.Client.{MakesCall}
+use Rattle.segclient.proofs.client.Client.add.Goals as goal
+
+pub returns : goal.returns
+returns c = record {
+  writes = subst (λ v. MakesCall (MakesWrite (Add c.args.key.now v) c.add_bytes.result) c.args.self.now c.add_bytes.new.self)
+      c.of.ensures.value c.add_bytes.ensures.writes;
+}
