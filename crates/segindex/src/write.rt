@@ -38,25 +38,8 @@ impl Index {
         segwrite::set_bytes(&self.board, pass, key, value, now)
     }
 
-    /// Stores the value under the key, and tells which row the key had before.
+    /// Stores the value under the key as `set_bytes` does, and tells which row the key had before.
     /// No contract says what the second part is.
-    #[inline(always)]
-    pub fn set_and_tell(
-        &self,
-        pass: &mut Pass,
-        key: &Key,
-        value: &Value,
-        now: u32,
-    ) -> (WriteAnswer, Option<RowRef>)
-        requires quiet { IsQuiet (board_of self.now) pass.old }
-        ensures writes { Writes (board_of self.now) (Set key.now value.now now) result.0
-            pass.old pass.new }
-        ensures set { IsSetAnswer result.0 }
-    {
-        segwrite::set_and_tell(&self.board, pass, key, value, now)
-    }
-
-    /// The same, from where the value's bytes stand.
     #[inline(always)]
     pub fn set_bytes_and_tell(
         &self,

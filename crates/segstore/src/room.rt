@@ -9,7 +9,7 @@ use crate::row::RowRef;
 use segbase::{Board, Pass};
 use segword::{KeyWords, ValueBytes};
 
-/// No segment is current, or all rows of the current one are used.
+/// No segment is current, or the current one has fewer rows left than an item takes.
 #[derive(Clone, Copy, Debug, PartialEq, Eq)]
 pub struct NoRoom;
 

@@ -10,6 +10,5 @@ mod write;
 pub use find::Target;
 pub use removal::{clear, delete};
 pub use write::{
-    add, add_bytes, cas, cas_bytes, replace, replace_bytes, set, set_and_tell, set_bytes,
-    set_bytes_and_tell,
+    add, add_bytes, cas, cas_bytes, replace, replace_bytes, set, set_bytes, set_bytes_and_tell,
 };

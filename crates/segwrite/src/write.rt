@@ -73,23 +73,6 @@ pub fn set_bytes(
     set_bytes_and_tell(board, pass, key, value, now).0
 }
 
-/// Stores the value under the key as `set` does, and tells which row the key had before.
-/// No contract says what the second part is.
-#[inline(always)]
-pub fn set_and_tell(
-    board: &Board,
-    pass: &mut Pass,
-    key: &Key,
-    value: &Value,
-    now: u32,
-) -> (WriteAnswer, Option<RowRef>)
-    requires quiet { IsQuiet board.now pass.old }
-    ensures writes { Writes board.now (Set key.now value.now now) result.0 pass.old pass.new }
-    ensures set { IsSetAnswer result.0 }
-{
-    set_bytes_and_tell(board, pass, key, &ValueBytes::of(value), now)
-}
-
 /// Stores the value under the key as `set_bytes` does, and tells which row the key had before.
 /// No contract says what the second part is.
 #[inline(always)]
