@@ -20,6 +20,11 @@ pub(crate) fn is_of_update(need: u8) -> bool {
     need < NEED_OF_RECENT
 }
 
+// The byte that has the bit of a row with this number, and this bit.
+fn bit_of(at: usize) -> (usize, u8) {
+    (at >> 3, 1u8 << (at & 7) as u32)
+}
+
 // The needs of the rows of a pass's segments, and as many marks of keys.
 #[derive(Drop)]
 pub(crate) struct Needs {
@@ -50,15 +55,6 @@ impl Needs {
             .wrapping_add(row as usize)
     }
 
-    // The byte that has a row's bit, and this bit.
-    fn bit_at(&self, segment: u32, row: u32) -> (usize, u8) {
-        let bytes = self.rows.div_ceil(8) as usize;
-        let byte = (segment as usize)
-            .wrapping_mul(bytes)
-            .wrapping_add((row >> 3) as usize);
-        (byte, 1u8 << (row & 7))
-    }
-
     // What the item of the row needs.
     pub(crate) fn of(&self, segment: u32, row: u32) -> u8 {
         match self.needs.get(self.row_at(segment, row)) {
@@ -69,7 +65,7 @@ impl Needs {
 
     // Whether the item of the row was stored in place of another, and seldom moved since.
     pub(crate) fn is_update(&self, segment: u32, row: u32) -> bool {
-        let (byte, bit) = self.bit_at(segment, row);
+        let (byte, bit) = bit_of(self.row_at(segment, row));
         match self.updates.get(byte) {
             Some(updates) => *updates & bit != 0,
             None => false,
@@ -91,13 +87,12 @@ impl Needs {
         if let Some(place) = self.needs.get_mut(at) {
             *place = need;
         }
-        let (byte, bit) = self.bit_at(segment, row);
+        let (byte, bit) = bit_of(at);
         if let Some(updates) = self.updates.get_mut(byte) {
-            let others = *updates & !bit;
             *updates = if is_of_update(need) {
-                others | bit
+                *updates | bit
             } else {
-                others
+                *updates & !bit
             };
         }
     }
