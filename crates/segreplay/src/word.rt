@@ -3,7 +3,6 @@ ghost use Rattle.std.specs.Prelude.{◌≡◌, [], ◌∷◌, ◌++◌, ◌==◌
 ghost use Rattle.std.specs.Prelude.{slice_index_or};
 ghost use Rattle.std.specs.List.{list_all};
 ghost use Rattle.std.specs.Char.{is_ascii_digit};
-ghost use Rattle.segword.specs.Fnv.{hash_of};
 ghost use Rattle.segreplay.specs.Lines.{field_at, fields_of};
 ghost use Rattle.segreplay.specs.Words.{is_change, is_get, is_name, is_set, key_named, lasting};
 ghost use Rattle.segreplay.specs.Words.{moment_named, moment_of, number_named, seconds_of, shown};
@@ -11,7 +10,7 @@ ghost use Rattle.segreplay.specs.Words.{trimmed, verb_named, whole_named, withou
 
 use crate::line::Operation;
 use segscript::number_below;
-use segword::{KEY_BYTES, Key};
+use segword::{KEY_BYTES, Key, hash_of};
 
 /// From this number on a moment is one of milliseconds.
 const MILLISECONDS: u64 = 1_000_000_000_000;
@@ -133,15 +132,6 @@ pub(crate) fn verb_of(text: &[u8]) -> Option<Operation>
 }
 
 // ---- keys
-
-// The hash of bytes, as `segword` hashes keys.
-fn hash_of(text: &[u8]) -> u64
-    ensures { result ≡ hash_of text.now }
-{
-    text.iter().fold(0xcbf2_9ce4_8422_2325, |hash, byte| {
-        (hash ^ u64::from(*byte)).wrapping_mul(0x100_0000_01b3)
-    })
-}
 
 /// The key of a text: its bytes, or those of their hash if they are too many.
 pub(crate) fn key_of(text: &[u8]) -> Option<Key>
