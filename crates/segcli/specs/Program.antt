@@ -23,7 +23,7 @@ refusal_text refusal.OutOfMemory = fault_line fault.OutOfMemory
 
 -- A command that was read is carried out.
 -- It ends with the writer at `there`, and that end is concluded.
--- If none was read, the reader is left alone, the writer is flushed, and the text that says why is printed
+-- If none was read, no input is read, the writer is flushed, and the text that says why is printed
 -- to the error writer.
 abbrev pub ProgramOutcome : {R W E : Type 0} → Input R → Output W → Output E
     → Result Task Refusal → ℕ → Type 0
