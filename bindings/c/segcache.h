@@ -9,10 +9,12 @@
  *
  * SHAPES. A key has 1 to 24 bytes, a value 0 to 32: SEGCACHE_MAX_KEY and SEGCACHE_MAX_VALUE. -DSEGCACHE_WIDE makes them
  * 250 and 4,064, for the library's wide build, libsegcachewide.a. A key is its bytes: a final NUL counts only if the
- * length counts it. `now` is the caller's clock, a number that grows, in units of the caller's choice (seconds since
- * the start, say). Times to live have the unit of `now`. At 4294967295 all keys are absent, which milliseconds come to
- * in 49 days. With no time to live set, any smaller number will do. A thread whose `now` lags behind others' can find
- * what has expired for them: read the clock right before each call.
+ * length counts it.
+ *
+ * CLOCK. `now` is the caller's clock, in units of the caller's choice (seconds since the start, say). Times to live have
+ * the unit of `now`. When it is 4294967295 every key is absent; a clock in milliseconds is there after 49 days. With no
+ * time to live set, any smaller number will do. Clocks of threads can differ and go back: a call with an earlier `now`
+ * can find what has expired for others. So read the clock right before each call.
  *
  * ROWS. The room of a cache is rows of 64 bytes. In the default build each item takes one row. In the wide build an
  * item takes as many as hold 8 bytes, its key and its value, where key and value are rounded up to a multiple of 8, and
@@ -23,7 +25,7 @@
  *
  * ANSWERS. Each call on a handle returns a status, SEGCACHE_OK or another of the list below. A null or freed
  * handle and a key or value of a bad length are answers, and the call did nothing. A pointer that a call writes
- * through must not be null, nor the shape of an open. Only the buffer of a value may be null, if its size is 0.
+ * through must not be null, nor the shape of an open. Of these only a value's buffer may be null, if its size is 0.
  * With a short buffer the read was made, a get or gets counted, and the length is written.
  *
  * WHAT IS PROVED, and under which conditions. The functions behind these (segcache_raw_..) are proved
@@ -69,7 +71,7 @@ enum {
   SEGCACHE_OK = 0,
   SEGCACHE_MISS = 1,          /* the key was absent at a moment of the call */
   SEGCACHE_BUSY = 2,          /* others worked on the key's bucket all the while: call again */
-  SEGCACHE_NO_ROOM = 3,       /* no row is left in a segment whose deadline does: make_room, or put again later */
+  SEGCACHE_NO_ROOM = 3,       /* no segment that expires in time has a row left: make_room, or put again later */
   SEGCACHE_BUCKET_FULL = 4,   /* the key's bucket has no free word: go on without */
   SEGCACHE_NOT_STORED = 5,    /* an add of a key that is present, a replace of one that is not */
   SEGCACHE_EXISTS = 6,        /* a cas: the bucket was written since the gets */
@@ -141,8 +143,9 @@ typedef struct segcache_note_t {
 
 /* The size of a cache with one table. segcache_open makes shapes up from a number of keys. Each bucket, overflow bucket
    and row takes 64 bytes, and each segment 8: 512 MiB at most, and twice that for a moment while it is opened. Clients
-   take 3 bytes more for each row, and 56 for each segment. Of several segments a client that keeps by queues holds two
-   free, or three if they have one row; one that keeps from a frequency holds one, and one that keeps nothing none. */
+   take 3 bytes more for each row, one for each eight rows of a segment, and 56 for each segment. Of several segments a
+   client that keeps by queues holds two free, or three if they have one row; one that keeps from a frequency holds one,
+   and one that keeps nothing none. */
 typedef struct segcache_shape {
   uint32_t buckets;       /* a power of two, 65536 at most; a bucket has words for 7 keys */
   uint32_t overflow;      /* overflow buckets, 65536 at most, each for 6 keys more of one bucket */
@@ -616,8 +619,8 @@ static inline uint32_t segcache_release(segcache_client *client) {
 
 /* Makes a note of all that the client has seen, its own puts among it. Send it to another thread beside what you
    tell that one; a client there learns it, and its gets then read what this client has put, or what was stored
-   since, or are Busy; or miss it, if it was deleted, evicted or expired since. That is proved. Without notes gets
-   read the same, as tests show; so a program needs none.
+   since, or are Busy; or miss it, if it was deleted, evicted or expired since. That is proved. A get reads the same
+   without a note of each put that had returned when the get began; so a program needs none.
    The note is zeroed before, and is learned or freed once. It may outlive its cache.
    Answers: OK; OUT_OF_MEMORY; NO_HANDLE, also if the note is in use. Unless OK, the note is as it was. */
 static inline uint32_t segcache_note(segcache_client *client, segcache_note_t *note) {
@@ -652,7 +655,8 @@ static inline uint32_t segcache_note_free(segcache_note_t *note) {
 /* --- Settings, room and counts ---------------------------------------------------------------------- */
 
 /* What a put, set, add, replace or cas stores from now on lives for this time at most, and for seven eighths of it at
-   least, unless it is evicted, replaced or deleted before. segcache_put_for has a time of its own. All but a put are
+   least, if `now` doesn't go back, unless it is evicted, replaced or deleted before. segcache_put_for has a time of
+   its own. All but a put are
    NO_ROOM where the client finds no segment with such a deadline: segcache_make_room then begins one. At the start the
    time is 4294967295, and nothing expires before. A time of 0 isn't without end: what is stored is absent at once.
    A time that goes past the moment 4294967295 ends there.

@@ -8,8 +8,8 @@ use std::sync::{Arc, Mutex, PoisonError};
 
 /// The size of a cache of one table. [`Builder::keys`] makes shapes up from a number of keys. Each bucket,
 /// overflow bucket and row takes 64 bytes, and each segment 8; all of them together have 512 MiB at most, and twice that for a
-/// moment while the cache is made. The clients take 3 bytes more for each row, and 56 for each segment, to
-/// know what was read and when it expires.
+/// moment while the cache is made. The clients take 3 bytes more for each row, one for each eight rows of a
+/// segment, and 56 for each segment, to know what was read and when it expires.
 #[repr(C)]
 #[derive(Clone, Copy, Debug, PartialEq, Eq)]
 pub struct Shape {

@@ -97,8 +97,9 @@ impl Client {
         self.handle.get()
     }
 
-    /// Sets the client's clock, a number in units of your choice. It stands still until it is set again. At
-    /// `u32::MAX` all keys are absent, which milliseconds come to in 49 days.
+    /// Sets the client's clock, a number in units of your choice. It stands still until it is set again. It may go
+    /// back: then the client can find what had expired. At `u32::MAX` every key is absent; a clock in milliseconds is
+    /// there after 49 days.
     pub fn set_now(&self, now: u32) {
         self.now.set(now);
     }
@@ -321,7 +322,7 @@ impl Client {
 
     /// This client has then seen what the note has. Its gets read what the note's client has put, or what was
     /// stored since, or are Busy; or miss it, if it was deleted, evicted or expired since. That is proved.
-    /// Without notes gets read the same, as tests show.
+    /// A get reads the same without a note of each put that had returned when the get began.
     ///
     /// # Errors
     /// [`Error::Foreign`], if the note is of another cache.

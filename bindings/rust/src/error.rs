@@ -9,7 +9,7 @@ use std::fmt;
 pub enum Error {
     /// Others worked on the key's bucket all the while: call again, or treat a get as a miss.
     Busy,
-    /// No row is left in a segment whose deadline does. Of a put: no segment can be had, since somebody reads or holds there,
+    /// No segment that expires in time has a row left. Of a put: no segment can be had, since somebody reads or holds there,
     /// or a bucket of its keys is busy; with the feature `wide` also if the item has more rows than a segment.
     NoRoom,
     /// The key's bucket has no free word.

@@ -1,10 +1,13 @@
 // SPDX-License-Identifier: MIT
 //! A cache for the threads of one program, over a proved index: safe Rust over `libsegcache.a`.
 //!
-//! Each thread has a [`Client`] of its own, and reads what all of them put. No call of a client waits; a
-//! client that is dropped waits while another is. A key has 1 to 24 bytes, a value at most 32: [`MAX_KEY`] and
-//! [`MAX_VALUE`]. The cache takes its memory when it is made; notes, a close, [`Client::get_many`] and
+//! Each thread has a [`Client`] of its own, and reads what all of them put. No call of a client waits. Dropping a
+//! client waits while another thread drops one of the same cache. A key has 1 to 24 bytes, a value at most 32:
+//! [`MAX_KEY`] and [`MAX_VALUE`]. The cache takes its memory when it is made; notes, a close, [`Client::get_many`] and
 //! [`Client::gets_many`] take more. With the feature `wide` each value that a get returns takes some, too.
+//!
+//! A client's clock stands at 0 until [`Client::set_now`] moves it, and times to live have its unit. What is put
+//! expires only after [`Client::set_time_to_live`], or by [`Client::put_for`].
 //!
 //! ```
 //! let (_cache, mut clients) = segcache::Cache::builder().keys(1_000).threads(2).build()?;
@@ -39,7 +42,8 @@
 //! ```
 //!
 //! A number is raised by [`Client::gets`] and [`Client::cas`]. A call that is [`Error::Busy`] was disturbed by others:
-//! make it again. Of the calls that store only [`Client::put`], [`Client::put_for`] and [`Client::fill`] make room by
+//! make it again. Where more threads run than the machine has processors, sleep for 100 µs after each try from the
+//! 50th on, since the thread that works there may wait for one. Of the calls that store only [`Client::put`], [`Client::put_for`] and [`Client::fill`] make room by
 //! themselves; for the others there is [`Client::make_room`], which may evict keys that this client stored. Any call that
 //! stores may then evict some keys ahead, so that the next ones find room:
 //!
