@@ -1,12 +1,14 @@
 // SPDX-License-Identifier: MIT
 #include "actions.h"
 #include "clock.h"
+#include <ctype.h>
 #include <string.h>
 
 /* A wish with the caller whose unique versions its editor takes, and what the editor found. */
 struct write_wish {
   const struct caller *caller;
   struct write *write;
+  size_t most; /* data that the item may have */
   enum answer answer;
 };
 struct sum_wish {
@@ -32,7 +34,8 @@ static enum answer answer_of(struct worker *worker, enum edited edited, enum ans
 }
 
 /* Why the write isn't made, or DID. */
-static enum answer check(const struct write *write, const struct found *found, bool present) {
+static enum answer check(const struct write_wish *wish, const struct found *found, bool present) {
+  const struct write *write = wish->write;
   bool same = present && unique_of(&found->item) == write->unique;
   bool stale = write->may_be_stale && present && write->unique < unique_of(&found->item);
   switch (write->kind) {
@@ -43,7 +46,7 @@ static enum answer check(const struct write *write, const struct found *found, b
   case PREPEND:
     if (!present) return NOT_STORED;
     if (write->has_unique && !same) return EXISTS;
-    return found->length + write->length > MOST_DATA ? DATA_TOO_LARGE : DID;
+    return found->length + write->length > wish->most ? DATA_TOO_LARGE : DID;
   case CAS: return !present ? NOT_FOUND : same || stale ? DID : EXISTS;
   }
   return NOT_STORED;
@@ -66,7 +69,7 @@ static void apply(const struct caller *caller, const struct write *write, struct
 
 static bool edit_write(struct found *found, bool present, void *argument) {
   struct write_wish *wish = argument;
-  wish->answer = check(wish->write, found, present);
+  wish->answer = check(wish, found, present);
   if (wish->answer != DID) return false;
   apply(wish->caller, wish->write, found);
   wish->write->stored_unique = unique_of(&found->item);
@@ -87,7 +90,8 @@ static enum answer set_item(struct worker *worker, struct word key, struct write
 
 enum answer write_item(struct worker *worker, struct word key, struct write *write) {
   struct caller caller = caller_of(worker);
-  struct write_wish wish = {&caller, write, DID};
+  size_t most = options_most_data(&worker->server->options, (uint32_t)key.length);
+  struct write_wish wish = {&caller, write, most, DID};
   struct counts *counts = &worker->counts;
   enum finding finding;
   enum answer answer = write->kind == SET
@@ -110,10 +114,14 @@ void write_too_large(struct worker *worker, struct word key, bool takes_away) {
   if (takes_away) items_delete(&caller, key);
 }
 
-/* The number that an item's data is, also with spaces behind it, as memcached leaves them. */
+/* The number that an item's data begins with. White space may stand before it, and anything behind white space after
+ * it, as memcached has it. */
 static bool number_of(const struct found *found, uint64_t *number) {
-  struct word line = {found->item.data, found->length}, word = next_word(&line);
-  return word.at == found->item.data && next_word(&line).length == 0 && read_number(word, UINT64_MAX, number);
+  const char *at = found->item.data, *end = at + found->length;
+  while (at < end && isspace((unsigned char)*at)) at++;
+  const char *stop = at;
+  while (stop < end && !isspace((unsigned char)*stop)) stop++;
+  return read_number((struct word){at, (size_t)(stop - at)}, UINT64_MAX, number);
 }
 
 static void make_number(struct sum *sum, struct found *found, bool present) {

@@ -38,6 +38,11 @@ void uniques_flush(struct uniques *uniques, uint32_t at, uint32_t now, bool whol
 
 uint64_t unique_of(const struct item *item) { return item->mark & UNIQUES; }
 uint32_t second_of(const struct item *item) { return (uint32_t)(unique_of(item) >> SECOND_AT); }
+
+uint32_t age_of(const struct item *item, uint32_t now) {
+  uint32_t second = second_of(item);
+  return now > second ? now - second : 0;
+}
 bool has_mark(const struct item *item, uint64_t mark) { return (item->mark >> UNIQUE_BITS & mark) != 0; }
 
 void set_mark(struct item *item, uint64_t mark) { item->mark |= mark << UNIQUE_BITS; }

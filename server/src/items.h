@@ -59,6 +59,9 @@ void uniques_flush(struct uniques *uniques, uint32_t at, uint32_t now, bool whol
 
 uint64_t unique_of(const struct item *item);
 uint32_t second_of(const struct item *item);
+
+/* For how many seconds it has been there at a moment. Another worker may have stored it after that. */
+uint32_t age_of(const struct item *item, uint32_t now);
 bool has_mark(const struct item *item, uint64_t mark);
 void set_mark(struct item *item, uint64_t mark);
 

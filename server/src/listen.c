@@ -91,7 +91,8 @@ static bool listen_file(struct server *server) {
   int made = socket(AF_UNIX, SOCK_STREAM | SOCK_NONBLOCK | SOCK_CLOEXEC, 0);
   if (made < 0) return fault(path, strerror(errno));
   if (lstat(path, &file) == 0) {
-    bool in_use = !S_ISSOCK(file.st_mode) || connect(made, (struct sockaddr *)&address, sizeof address) == 0;
+    bool in_use = !S_ISSOCK(file.st_mode) || connect(made, (struct sockaddr *)&address, sizeof address) == 0 ||
+                  errno != ECONNREFUSED; /* as where a living server is behind with its connections */
     if (in_use || unlink(path) != 0) return close(made), fault(path, "the file is there and isn't a socket left over");
   }
   mode_t before = umask((mode_t)~server->options.socket_mode & 0777);

@@ -68,6 +68,13 @@ static bool serves_now(int told) {
   return close(told) == 0;
 }
 
+/* Input and outputs that were closed are /dev/null, so that no socket gets their numbers. */
+static void keep_outputs(void) {
+  int null;
+  while ((null = open("/dev/null", O_RDWR)) >= 0 && null <= 2) continue;
+  if (null > 2) close(null);
+}
+
 static bool write_pid(const char *path) {
   if (path == NULL) return true;
   FILE *file = fopen(path, "we");
@@ -88,6 +95,13 @@ static int catch_signals(void) {
   signal(SIGHUP, SIG_IGN);
   pthread_sigmask(SIG_BLOCK, &ends, NULL);
   return signalfd(-1, &ends, SFD_CLOEXEC);
+}
+
+/* A file is made by the user, who can take it away again. A port below 1024 takes root. */
+static bool listen_and_become_user(struct server *server) {
+  const char *user = server->options.user;
+  if (server->options.socket_path != NULL) return become_user(user) && listen_open(server);
+  return listen_open(server) && become_user(user);
 }
 
 static bool open_store(struct server *server) {
@@ -117,13 +131,14 @@ static bool run(struct server *server, int signals, int told) {
 int main(int count, char **words) {
   static struct server server;
   static struct worker workers[STORE_MOST_CLIENTS];
+  keep_outputs();
   enum reading reading = options_read(&server.options, count, words);
   if (reading != RUN) return reading == SHOWN ? 0 : 64;
   server.workers = workers;
   server.verbosity = server.options.verbosity;
   clock_begin();
   raise_descriptors(&server.options);
-  bool ran = listen_open(&server) && become_user(server.options.user) && open_store(&server);
+  bool ran = listen_and_become_user(&server) && open_store(&server);
   if (!ran) return listen_close(&server), 71;
   int signals = -1, told = -1;
   ran = (!server.options.daemon || become_daemon(&told)) && write_pid(server.options.pid_file) &&

@@ -207,7 +207,7 @@ static void put_item(struct head *head, const struct mget *mget, uint32_t now) {
     case 't': put_expiry(head, expires, now); break;
     case 'c': put_number(head, 'c', unique_of(item)); break;
     case 'f': put_number(head, 'f', item->flags); break;
-    case 'l': put_number(head, 'l', now - second_of(item)); break;
+    case 'l': put_number(head, 'l', age_of(item, now)); break;
     case 'h': put_number(head, 'h', has_mark(item, WAS_READ)); break;
     default: put_echo(head, meta, meta->flags[i]);
     }
@@ -334,7 +334,7 @@ static bool serve_mdebug(struct connection *connection, const struct meta *meta)
   if (items_find(&caller, meta->key, &found) != FOUND) return say(connection, false, "EN");
   const struct item *item = &found.item;
   long long left = item->expires == NEVER ? -1 : (long long)item->expires - caller.now;
-  snprintf(text, sizeof text, " exp=%lld la=%u cas=%llu fetch=%s cls=1 size=%zu", left, caller.now - second_of(item),
+  snprintf(text, sizeof text, " exp=%lld la=%u cas=%llu fetch=%s cls=1 size=%zu", left, age_of(item, caller.now),
            (unsigned long long)unique_of(item), has_mark(item, WAS_READ) ? "yes" : "no",
            meta->key.length + HEADER + found.length);
   reply_bytes(connection, "ME ", 3);

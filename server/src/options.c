@@ -128,13 +128,23 @@ static bool mode(const char *text, uint32_t *to) {
   return true;
 }
 
+/* -l, which may come several times. */
+static bool also_listen(struct options *options, const char *argument) {
+  static char all[4096];
+  size_t used = strlen(all), room = sizeof all - used;
+  int more = snprintf(all + used, room, used > 0 ? ",%s" : "%s", argument);
+  if (more < 0 || (size_t)more >= room) return bad("-l", "too many addresses"), false;
+  options->addresses = all;
+  return true;
+}
+
 /* One option with an argument, or a flag. */
 static bool take(struct options *options, int option, char *argument) {
   switch (option) {
   case 'p': return port(argument, &options->port);
   case 's': return options->socket_path = argument, true;
   case 'a': return mode(argument, &options->socket_mode);
-  case 'l': return options->addresses = argument, true;
+  case 'l': return also_listen(options, argument);
   case 'd': return options->daemon = true;
   case 'P': return options->pid_file = argument, true;
   case 'u': return options->user = argument, true;

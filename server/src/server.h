@@ -22,7 +22,8 @@ struct connection;
 
 struct worker {
   struct server *server;
-  pthread_mutex_t lock; /* of the counts. The worker has it in each round of events */
+  pthread_mutex_t lock;    /* of the counts. The worker has it in each round of events */
+  _Atomic uint32_t wanted; /* how many others wait for the lock. The worker begins no round before they have had it */
   struct store_client *client;
   struct counts counts;
   uint64_t evicted_before; /* what the client had evicted at the last reset of the counts */

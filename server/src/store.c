@@ -4,7 +4,8 @@
 #include <time.h>
 
 enum {
-  TRIES = 64,       /* of a call that is Busy, or for which room was made */
+  TRIES = 64,       /* of a call that is Busy */
+  ROOMS = 4,        /* that are made for a call: one will do, but for an item that is longer than a segment */
   PAUSE_NS = 50000, /* after a Busy one, so that a preempted thread goes on */
   DOUBLINGS = 4,    /* of the pause, so that 64 tries take some 50 ms */
 };
@@ -33,8 +34,8 @@ static bool was_busy(uint32_t status, int *tries) {
 }
 
 /* The same, since there was no room for it, which is made now. The client's lock is held. */
-static bool made_room(struct store_client *client, uint32_t status, int *tries, uint32_t now) {
-  return status == SEGCACHE_NO_ROOM && ++*tries < TRIES && segcache_make_room(&client->client, now) == SEGCACHE_OK;
+static bool made_room(struct store_client *client, uint32_t status, int *rooms, uint32_t now) {
+  return status == SEGCACHE_NO_ROOM && ++*rooms <= ROOMS && segcache_make_room(&client->client, now) == SEGCACHE_OK;
 }
 
 static enum store_status status_of(uint32_t status) {
@@ -169,14 +170,14 @@ static enum store_status write_if(struct store_client *client, struct word key, 
   struct store_client *writer = writer_of(client, key);
   segcache_client *by = &writer->client;
   uint32_t status;
-  int tries = 0;
+  int tries = 0, rooms = 0;
   do {
     pthread_mutex_lock(&writer->lock);
     live_for(writer, time_for(writer, value.seconds));
     do
       status = version == NULL ? segcache_add(by, key.at, key.length, value.at, value.length, now)
                                : segcache_cas(by, key.at, key.length, value.at, value.length, *version, now);
-    while (made_room(writer, status, &tries, now));
+    while (made_room(writer, status, &rooms, now));
     pthread_mutex_unlock(&writer->lock);
   } while (was_busy(status, &tries));
   return status_of(status);

@@ -4,6 +4,7 @@
 #include <errno.h>
 #include <netinet/in.h>
 #include <netinet/tcp.h>
+#include <sched.h>
 #include <stdlib.h>
 #include <string.h>
 #include <sys/epoll.h>
@@ -106,6 +107,7 @@ static void *work(void *argument) {
   for (bool stop = false; !stop;) {
     int wait = worker->waiting_first != NULL ? 0 : worker->server->options.idle_seconds > 0 ? 1000 : -1;
     int count = epoll_wait(worker->epoll, events, EVENTS, wait);
+    while (atomic_load(&worker->wanted) > 0) sched_yield();
     pthread_mutex_lock(&worker->lock);
     worker->now = clock_now();
     uniques_pass(&worker->server->uniques, worker->now);
@@ -138,8 +140,7 @@ void worker_stop(struct worker *worker) {
   buffer_free(&worker->spare_reply);
   close(worker->epoll);
   close(worker->wake);
-  pthread_mutex_destroy(&worker->lock);
-  pthread_mutex_destroy(&worker->handed_lock);
+  pthread_mutex_destroy(&worker->handed_lock); /* another worker may still count by the lock, which stays */
 }
 
 void worker_hand_over(struct worker *worker, int socket) {
@@ -150,6 +151,7 @@ void worker_hand_over(struct worker *worker, int socket) {
   }
   atomic_fetch_add(&worker->server->connections, 1);
   setsockopt(socket, IPPROTO_TCP, TCP_NODELAY, &(int){1}, sizeof(int));
+  setsockopt(socket, SOL_SOCKET, SO_KEEPALIVE, &(int){1}, sizeof(int)); /* else a client that vanished stays */
   pthread_mutex_lock(&worker->handed_lock);
   connection->handed_after = worker->handed;
   worker->handed = connection;
@@ -175,12 +177,20 @@ static void add_counts(struct totals *totals, struct worker *worker) {
   totals->store.overflow = store.overflow;
 }
 
+/* Takes the lock of a worker before its next round. A worker that always has commands waiting would take it again
+ * at once. */
+static void lock_between_rounds(struct worker *worker) {
+  atomic_fetch_add(&worker->wanted, 1);
+  pthread_mutex_lock(&worker->lock);
+  atomic_fetch_sub(&worker->wanted, 1);
+}
+
 struct totals count_all(struct worker *caller) {
   struct totals totals = {0};
   struct server *server = caller->server;
   pthread_mutex_unlock(&caller->lock); /* two workers that count would wait for each other */
   for (uint32_t i = 0; i < server->options.threads; i++) {
-    pthread_mutex_lock(&server->workers[i].lock);
+    lock_between_rounds(&server->workers[i]);
     add_counts(&totals, &server->workers[i]);
     pthread_mutex_unlock(&server->workers[i].lock);
   }
@@ -194,7 +204,7 @@ void reset_all(struct worker *caller) {
   pthread_mutex_unlock(&caller->lock);
   for (uint32_t i = 0; i < server->options.threads; i++) {
     struct worker *worker = &server->workers[i];
-    pthread_mutex_lock(&worker->lock);
+    lock_between_rounds(worker);
     store_count(worker->client, &store);
     worker->evicted_before = store.evicted;
     worker->counts = (struct counts){0};

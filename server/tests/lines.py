@@ -74,6 +74,10 @@ CONVERSATIONS = {
         ("decr n 18446744073709551615\r\n", "0\r\n"),
         ("set t 0 0 3\r\nabc\r\n", "STORED\r\n"),
         ("incr t 1\r\n", NOT_A_NUMBER),
+        ("set s 0 0 4\r\n 10 \r\nincr s 5\r\n", "STORED\r\n15\r\n"),
+        ("set s 0 0 5\r\n10 ab\r\ndecr s 1\r\n", "STORED\r\n9\r\n"),
+        ("set s 0 0 4\r\n10ab\r\nincr s 1\r\n", "STORED\r\n" + NOT_A_NUMBER),
+        ("set s 0 0 1\r\n \r\nincr s 1\r\n", "STORED\r\n" + NOT_A_NUMBER),
     ],
     "times to live": [
         ("set past 0 -1 1\r\nx\r\n", "STORED\r\n"),

@@ -149,8 +149,24 @@ def files(command):
                               f"to listen, {path}: the file is there and isn't a socket left over")
                     say(connection, "mn\r\n", "MN\r\n")
                     check(path.is_socket(), "who finds the file in use leaves it")
+                    if killed:
+                        behind(command, server, path)
                 server.send_signal(signal.SIGKILL if killed else signal.SIGTERM)
             check(path.exists() == killed, f"the socket's file is taken away: {words}")
+
+
+def behind(command, server, path):
+    """A server that is behind with its connections keeps its file, too."""
+    server.send_signal(signal.SIGSTOP)
+    waiting = []
+    while True:
+        waiting.append(socket.socket(socket.AF_UNIX, socket.SOCK_STREAM | socket.SOCK_NONBLOCK))
+        if waiting[-1].connect_ex(str(path)) != 0:
+            break
+    ends_with(command, ["-s", str(path)], 71, f"to listen, {path}: the file is there and isn't a socket left over")
+    for connection in waiting:
+        connection.close()
+    server.send_signal(signal.SIGCONT)
 
 
 def background(command, names=("-d", "-P")):
@@ -212,7 +228,46 @@ def user(command):
         status = Path(f"/proc/{stats_of(connection)['pid']}/status").read_text()
         wanted = ((f"Uid:{f'{chr(9)}{nobody.pw_uid}' * 4}\n"), f"Gid:{f'{chr(9)}{nobody.pw_gid}' * 4}\n")
         check(all(line in status for line in wanted) and re.search(r"^Groups:\s*$", status, re.M), f"-u: {status}")
+    with tempfile.TemporaryDirectory() as folder:
+        os.chown(folder, nobody.pw_uid, nobody.pw_gid)
+        path = Path(folder, "s")
+        with start([*command, "-s", str(path), "-u", "nobody"]) as server:
+            for _ in range(200):
+                if path.exists():
+                    break
+                time.sleep(0.05)
+            check(path.stat().st_uid == nobody.pw_uid, f"a socket's file is the user's: {path.stat()}")
+            server.send_signal(signal.SIGTERM)
+            check(server.wait(timeout=60) == 0 and not path.exists(), "who takes it away in the end")
     return None
+
+
+def addresses(command):
+    """-l may come several times, and dead connections are noticed."""
+    with running(command, "-l", "127.0.0.2,127.0.0.3", "-l", "127.0.0.4") as port:
+        for last in range(1, 5):
+            with socket.create_connection((f"127.0.0.{last}", port), timeout=60) as connection:
+                say(connection, "mn\r\n", "MN\r\n")
+                wanted = rf" 0{last}00007F:{socket.htons(port) >> 8 | (socket.htons(port) & 255) << 8:04X} \w+:\w+ 01 \S+ 02:"
+                check(re.search(wanted, Path("/proc/net/tcp").read_text()), "the kernel asks whether a client is there")
+
+
+def closed_outputs(command):
+    """With input and outputs closed, it serves in the background as else."""
+    with tempfile.TemporaryDirectory() as folder:
+        pid_file = Path(folder, "pid")
+        words = [*command, "-l", "127.0.0.1", "-p", str(port := free_port()), "-d", "-P", str(pid_file)]
+        ran = subprocess.run(["sh", "-c", 'exec "$@" <&- >&- 2>&-', "sh", *words], timeout=60)
+        check(ran.returncode == 0, f"-d ends with {ran.returncode}")
+        with connect(port) as connection:
+            say(connection, "mn\r\n", "MN\r\n")
+            os.kill(int(pid_file.read_text()), signal.SIGTERM)
+            check(connection.recv(1) == b"", "it ends")
+        for _ in range(200):
+            if not pid_file.exists():
+                break
+            time.sleep(0.05)
+        check(not pid_file.exists(), "and takes its file away")
 
 
 def shutdown(command):
@@ -241,6 +296,18 @@ def ends(command):
                 say(connection, "mn\r\n", "MN\r\n")
                 server.send_signal(end)
                 check(server.wait(timeout=60) == 0 and connection.recv(1) == b"", f"{end} ends server and connections")
+
+
+def ends_amid_stats(command):
+    """It ends also while workers take each other's counts."""
+    for _ in range(3):
+        with running(command, "-t", "4") as port:
+            connections = [connect(port) for _ in range(8)]
+            for connection in connections:
+                connection.sendall(b"stats\r\n" * 200)
+            read_to(connections[0], b"END\r\n")
+        for connection in connections:
+            connection.close()
 
 
 def defaults(command):
