@@ -10,6 +10,7 @@ import signal
 import socket
 import subprocess
 import tempfile
+import threading
 import time
 from pathlib import Path
 
@@ -298,15 +299,28 @@ def ends(command):
                 check(server.wait(timeout=60) == 0 and connection.recv(1) == b"", f"{end} ends server and connections")
 
 
+def ask_for_stats(connection):
+    """Asks for them again and again, until the server ends."""
+    try:
+        while connection.recv(1 << 18):
+            connection.sendall(b"stats\r\n" * 20)
+    except OSError:
+        pass
+
+
 def ends_amid_stats(command):
     """It ends also while workers take each other's counts."""
-    for _ in range(3):
+    for _ in range(10):
         with running(command, "-t", "4") as port:
             connections = [connect(port) for _ in range(8)]
             for connection in connections:
-                connection.sendall(b"stats\r\n" * 200)
-            read_to(connections[0], b"END\r\n")
-        for connection in connections:
+                connection.sendall(b"stats\r\n" * 20)
+            askers = [threading.Thread(target=ask_for_stats, args=[connection]) for connection in connections]
+            for asker in askers:
+                asker.start()
+            time.sleep(0.3)
+        for asker, connection in zip(askers, connections, strict=True):
+            asker.join()
             connection.close()
 
 
