@@ -129,6 +129,16 @@ def bad_places(command):
             say(connection, "mn\r\n", "MN\r\n")
 
 
+def serving_at(path):
+    """A connection by a UNIX socket, once there is one."""
+    connection = socket.socket(socket.AF_UNIX)
+    for _ in range(200):
+        if connection.connect_ex(str(path)) == 0:
+            break
+        time.sleep(0.05)
+    return connection
+
+
 def files(command):
     """A UNIX socket, its access bits, and what a server that was killed leaves."""
     with tempfile.TemporaryDirectory() as folder:
@@ -137,11 +147,7 @@ def files(command):
                             (["--unix-socket", str(path), "--unix-mask", "777"], 0o777)):
             killed = "-p" not in words
             with start([*command, *words]) as server:
-                with socket.socket(socket.AF_UNIX) as connection:
-                    for _ in range(200):
-                        if connection.connect_ex(str(path)) == 0:
-                            break
-                        time.sleep(0.05)
+                with serving_at(path) as connection:
                     check(path.stat().st_mode & 0o777 == bits, f"{words}: {path.stat().st_mode:o}")
                     say(connection, "mn\r\n", "MN\r\n")
                     settings = stats_of(connection, "settings")
@@ -233,10 +239,8 @@ def user(command):
         os.chown(folder, nobody.pw_uid, nobody.pw_gid)
         path = Path(folder, "s")
         with start([*command, "-s", str(path), "-u", "nobody"]) as server:
-            for _ in range(200):
-                if path.exists():
-                    break
-                time.sleep(0.05)
+            with serving_at(path) as connection:
+                say(connection, "mn\r\n", "MN\r\n")
             check(path.stat().st_uid == nobody.pw_uid, f"a socket's file is the user's: {path.stat()}")
             server.send_signal(signal.SIGTERM)
             check(server.wait(timeout=60) == 0 and not path.exists(), "who takes it away in the end")
@@ -314,6 +318,7 @@ def ends_amid_stats(command):
         with running(command, "-t", "4") as port:
             connections = [connect(port) for _ in range(8)]
             for connection in connections:
+                say(connection, "mn\r\n", "MN\r\n")
                 connection.sendall(b"stats\r\n" * 20)
             askers = [threading.Thread(target=ask_for_stats, args=[connection]) for connection in connections]
             for asker in askers:
