@@ -313,6 +313,29 @@ def busy_keys(command):
             "TOUCHED\r\nVA 1\r\n1\r\nVALUE late-a 0 1\r\n1\r\nEND\r\n")
 
 
+def slow_rounds(command):
+    """Only over the stand-in, whose busy keys make a worker's rounds long. A stats of another worker waits for one of
+    them, and not for many. What was stored after a round began has the age 0 in it."""
+    for _ in range(3):
+        with running(command, "-t", "2", "-R", "1") as port:
+            connections = [connect(port) for _ in range(32)]
+            for slow in connections[1::2]:
+                slow.sendall(b"get busy-a\r\n" * 200)
+            time.sleep(0.5)
+            began = time.monotonic()
+            stats_of(connections[0])
+            took = time.monotonic() - began
+            check(took < 4, f"a stats took {took:.1f} s")
+            for connection in connections:
+                connection.close()
+    with running(command, "-t", "2") as port, connect(port) as slow, connect(port) as other:
+        slow.sendall(b"get busy-a\r\n" * 40 + b"mg k l\r\nme k\r\nmn\r\n")
+        time.sleep(1.2)
+        say(other, "set k 0 0 1\r\nx\r\n", "STORED\r\n")
+        got = read_to(slow, b"MN\r\n").decode()
+        check(re.fullmatch(r"(END\r\n){40}HD l0\r\nME k exp=-1 la=0 .*\r\nMN\r\n", got), f"the ages are {got[200:]}")
+
+
 def full_keys(command):
     """Only over the stand-in: without room an edit leaves the old value, and a set none."""
     with running(command, "-t", "1") as port, connect(port) as connection:
