@@ -325,7 +325,7 @@ def slow_rounds(command):
             began = time.monotonic()
             stats_of(connections[0])
             took = time.monotonic() - began
-            check(took < 4, f"a stats took {took:.1f} s")
+            check(took < 6, f"a stats took {took:.1f} s")
             for connection in connections:
                 connection.close()
     with running(command, "-t", "2") as port, connect(port) as slow, connect(port) as other:

@@ -143,8 +143,8 @@ def files(command):
     """A UNIX socket, its access bits, and what a server that was killed leaves."""
     with tempfile.TemporaryDirectory() as folder:
         path = Path(folder, "s")
-        for words, bits in ((["-s", str(path), "-a", "666"], 0o666), (["-p", "0", "-s", str(path)], 0o700),
-                            (["--unix-socket", str(path), "--unix-mask", "777"], 0o777)):
+        for words, bits in ((["-s", str(path), "-a", "666", "-b", "1"], 0o666), (["-p", "0", "-s", str(path)], 0o700),
+                            (["--unix-socket", str(path), "--unix-mask", "777", "-b", "1"], 0o777)):
             killed = "-p" not in words
             with start([*command, *words]) as server:
                 with serving_at(path) as connection:
@@ -253,8 +253,13 @@ def addresses(command):
         for last in range(1, 5):
             with socket.create_connection((f"127.0.0.{last}", port), timeout=60) as connection:
                 say(connection, "mn\r\n", "MN\r\n")
-                wanted = rf" 0{last}00007F:{socket.htons(port) >> 8 | (socket.htons(port) & 255) << 8:04X} \w+:\w+ 01 \S+ 02:"
-                check(re.search(wanted, Path("/proc/net/tcp").read_text()), "the kernel asks whether a client is there")
+                local = f"0{last}00007F:{port:04X}"
+                for _ in range(100):
+                    rows = [row.split() for row in Path("/proc/net/tcp").read_text().splitlines()]
+                    if is_asked := any(row[1] == local and row[3] == "01" and row[5].startswith("02:") for row in rows):
+                        break
+                    time.sleep(0.05)
+                check(is_asked, "the kernel asks whether a client is there")
 
 
 def closed_outputs(command):
