@@ -29,6 +29,17 @@ impl Board {
     ghost use Rattle.segbase.specs.Steps.{AsksReaders, MayTake, TakesStep, AddsOne};
 
     /// Stores a word of a row of the pass's own that isn't linked in this filling.
+    pub fn row_store(&self, pass: &mut Pass, segment: u32, row: u32, word: u8, value: u64)
+        requires pass { IsPassOf self.now pass.old }
+        requires may { MayTake self.now pass.old (row_store segment row word value) }
+        ensures step { TakesStep self.now (row_store segment row word value) pass.old pass.new }
+        ensures did { AddsOne self.now (λ n. Filled n segment row word value) pass.old pass.new }
+    {
+        let spot = Spot::Row { segment, row, word };
+        self.store_at(pass, spot, value);
+    }
+
+    /// As `row_store`, for a row whose place is known.
     pub fn row_store_at(&self, pass: &mut Pass, row: RowPlace, word: u8, value: u64)
         requires pass { IsPassOf self.now pass.old }
         requires start { IsRowAt self.now.shape row }

@@ -9,6 +9,8 @@ use Rattle.segcore.specs.Word as core
 use Rattle.segbase.specs.Words.{Board, cell_at, home_bucket, IsPlace, number, Pass, Place, position}
 use Rattle.segbase.specs.Words.{trace}
 use Rattle.segstore.specs.Reading.{IsReadable}
+use Rattle.segstore.specs.declared.read.Linked.{Linked}
+use Rattle.segstore.specs.declared.read.Linked.TheVariants as linked
 use Rattle.segstore.specs.declared.read.Keyed.{Keyed}
 use Rattle.segstore.specs.declared.read.Keyed.TheVariants as keyed
 
@@ -86,6 +88,13 @@ pub record SeesAgain (b : Board) (place : Place) (word : ℕ) (item : Item) (q :
   pub was : WasLinked b.shape place (item_word item) key value (trace q)
   pub entered : 0 < inside (trace q) (number q) item.seg
   pub readable : IsReadable b q item.seg item.row
+
+-- what a second look at an item word found
+abbrev pub IsLinked : Shape → Place → ℕ → Linked → List Event → List Event → Type 0
+IsLinked shape place word (linked.Same key value) old new =
+    (same : ℕ) × IsSameItem word same × FoundItem shape place same key value old new
+IsLinked shape place word (linked.Changed other) old new =
+    SawWord shape place other old new × ¬ (IsSameItem word other)
 
 -- what a second look for a key found
 abbrev pub IsKeyed : Shape → Place → ℕ → List ℕ → Keyed → List Event → List Event → Type 0

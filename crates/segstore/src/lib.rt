@@ -17,7 +17,7 @@ pub use bucket::{LockAnswer, TRIES, lock_bucket, take_bucket, take_to_write, unl
 pub use chain::{Sought, next_place};
 pub use copy::value_into;
 pub use enter::{enter_segment, leave_segment};
-pub use read::{Keyed, read_keyed};
+pub use read::{Keyed, Linked, read_keyed, read_linked};
 pub use refilling::{refill, refill_aside};
 pub use room::{NoRoom, has_room, next_row};
 pub use row::{RowRef, key_of_row, pair_of_row, row_of_key, value_of_pair, value_of_row};

@@ -5,12 +5,21 @@ ghost use Rattle.segcore.specs.Words.{inside};
 ghost use Rattle.segbase.specs.Words.{IsPassOf, number, trace};
 ghost use Rattle.segstore.specs.Calls.{TakesAtMost};
 ghost use Rattle.segstore.specs.Reading.{OnlyLooks};
-ghost use Rattle.segstore.specs.Linked.{segment_part, IsChained, SawWord, SeesAgain};
+ghost use Rattle.segstore.specs.Linked.{segment_part, IsChained, SawWord, SeesAgain, IsLinked};
 ghost use Rattle.segstore.specs.Linked.{IsKeyed};
 
-use crate::row::row_of_key;
+use crate::row::{pair_of_row, row_of_key};
 use segbase::{Board, Pass, Place};
-use segword::{Item, KeyWords, same_item};
+use segword::{Item, Key, KeyWords, Value, same_item};
+
+/// What a second look found.
+#[derive(Clone, Debug, Drop, PartialEq, Eq)]
+pub enum Linked {
+    /// The same item, its frequency aside: the pair of its row.
+    Same(Key, Value),
+    /// Another word.
+    Changed(u64),
+}
 
 /// What a second look for a key found.
 #[derive(Clone, Debug, Drop, PartialEq, Eq)]
@@ -24,8 +33,26 @@ pub enum Keyed {
     Changed(u64),
 }
 
-/// Looks again at a word of a chain that had this item, whose segment the pass is in.
-/// A key in hand is compared with the row word by word, and the value isn't read.
+/// Looks again at a word of a chain that had this item, whose segment the pass is in,
+/// and reads the item's row.
+pub fn read_linked(board: &Board, pass: &mut Pass, place: Place, word: u64) -> Linked
+    requires pass { IsPassOf board.now pass.old }
+    requires place { IsChained board.now.shape (trace pass.old) place }
+    requires inside { 0 < inside (trace pass.old) (number pass.old) (segment_part word) }
+    ensures looked { OnlyLooks board.now pass.old pass.new }
+    ensures linked { IsLinked board.now.shape place word result (trace pass.old) (trace pass.new) }
+{
+    match look_again(board, pass, place, word) {
+        Ok(item) => {
+            let (key, value) = pair_of_row(board, pass, item.seg, item.row).unwrap();
+            Linked::Same(key, value)
+        }
+        Err(now) => Linked::Changed(now),
+    }
+}
+
+/// Looks again as `read_linked` does, for a key in hand.
+/// The key is compared with the row word by word, and the value isn't read.
 #[inline(always)]
 pub fn read_keyed(
     board: &Board,
