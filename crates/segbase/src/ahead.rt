@@ -108,20 +108,6 @@ impl Board {
         }
     }
 
-    /// The item of a word with the hash's tag in the chain of the hash's bucket. As of a look
-    /// ahead, nothing follows from it.
-    pub fn item_like(&self, hash: u64) -> Option<Item> {
-        let mut seeker = self.seeker(hash);
-        for _ in 0..CHAIN_BUCKETS {
-            match self.follow_one(seeker) {
-                Lead::Item(item) => return Some(item),
-                Lead::Bucket(next) => seeker = next,
-                Lead::Nothing => return None,
-            }
-        }
-        None
-    }
-
     /// A key of this hash, at the first bucket of its chain.
     #[inline(always)]
     pub fn seeker(&self, hash: u64) -> Seeker {

@@ -48,8 +48,7 @@ impl Member {
         if !self.begin_write(index) {
             return self.refuse_write(index, key);
         }
-        let replaced = self.row_of(index, key);
-        let told = index.add_bytes(&mut self.pass, key, value, self.clock);
+        let (told, replaced) = index.add_bytes_and_tell(&mut self.pass, key, value, self.clock);
         self.end_write(index, key, told, replaced);
         told
     }
@@ -64,8 +63,7 @@ impl Member {
         if !self.begin_write(index) {
             return self.refuse_write(index, key);
         }
-        let replaced = self.row_of(index, key);
-        let told = index.replace_bytes(&mut self.pass, key, value, self.clock);
+        let (told, replaced) = index.replace_bytes_and_tell(&mut self.pass, key, value, self.clock);
         self.end_write(index, key, told, replaced);
         told
     }
@@ -86,8 +84,13 @@ impl Member {
         if !self.begin_write(index) {
             return self.refuse_write(index, key);
         }
-        let replaced = self.row_of(index, key);
-        let told = index.cas_bytes(&mut self.pass, key, value, expected, self.clock);
+        let (told, replaced) = index.cas_bytes_and_tell(
+            &mut self.pass,
+            key,
+            value,
+            expected,
+            self.clock,
+        );
         self.end_write(index, key, told, replaced);
         told
     }

@@ -15,7 +15,7 @@ use crate::stats::Stats;
 use segindex::{Index, IndexStats, Pass, RowRef};
 use segmodel::{DeleteAnswer, GetAnswer, GetsAnswer, WriteAnswer};
 use segtally::{Tally, own_ring};
-use segword::{Key, hash};
+use segword::Key;
 use std::alloc::{AllocError, Global};
 
 /// What a client has beside its index: a pass of it, the segments of the pass, its draws,
@@ -165,15 +165,6 @@ impl Member {
         told
     }
 
-    // The row that the key has, as it seems. Only queues need to know.
-    #[inline(always)]
-    pub(crate) fn row_of(&self, index: &Index, key: &Key) -> Option<RowRef> {
-        if self.segments.queues.is_none() {
-            return None;
-        }
-        index.row_of(hash(key))
-    }
-
     // Before a write: the pass stores into an open segment with a deadline that is asked, if it has
     // one. The write can be made unless what it stores into then has another deadline.
     #[inline(always)]
@@ -258,8 +249,7 @@ impl Member {
         ensures member { IsMember index.now self.new }
         ensures deletes { DeletesKey key.now result (board_of index.now) self.old self.new }
     {
-        let row = self.row_of(index, key);
-        let told = index.delete(&mut self.pass, key, self.clock);
+        let (told, row) = index.delete_and_tell(&mut self.pass, key, self.clock);
         self.stats.count(Tally::of_delete(told));
         tell_deleted(index, &self.pass, &mut self.segments, row, told);
         told

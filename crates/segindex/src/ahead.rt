@@ -1,7 +1,6 @@
 //! A look ahead, for those who have several commands at hand.
 use crate::index::Index;
 use segbase::{Lead, Seeker};
-use segstore::RowRef;
 use segword::{Item, Key, hash};
 
 impl Index {
@@ -9,17 +8,6 @@ impl Index {
     /// overlap. It takes no pass: no answer depends on it, and it changes nothing.
     pub fn look_ahead(&self, keys: &[Key]) {
         self.board.look_ahead(keys);
-    }
-
-    /// The row of a key with this hash, as it seems: some key of its bucket has the same tag.
-    /// It takes no pass: no answer depends on it, and it can be wrong at once.
-    #[inline(always)]
-    pub fn row_of(&self, hash: u64) -> Option<RowRef> {
-        let item = self.board.item_like(hash)?;
-        Some(RowRef {
-            segment: item.seg,
-            row: item.row,
-        })
     }
 
     /// A look ahead for a key, step by step, for those who look into several indexes at a time:

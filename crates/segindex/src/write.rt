@@ -80,6 +80,22 @@ impl Index {
         segwrite::add_bytes(&self.board, pass, key, value, now)
     }
 
+    /// The same, and it tells which row the key had before, as `set_bytes_and_tell` does.
+    #[inline(always)]
+    pub fn add_bytes_and_tell(
+        &self,
+        pass: &mut Pass,
+        key: &Key,
+        value: &ValueBytes<'_>,
+        now: u32,
+    ) -> (WriteAnswer, Option<RowRef>)
+        requires quiet { IsQuiet (board_of self.now) pass.old }
+        ensures writes { Writes (board_of self.now) (Add key.now value.now now) result.0
+            pass.old pass.new }
+    {
+        segwrite::add_bytes_and_tell(&self.board, pass, key, value, now)
+    }
+
     /// Stores the value if the key is present. Otherwise it returns NotStored.
     pub fn replace(&self, pass: &mut Pass, key: &Key, value: &Value, now: u32) -> WriteAnswer
         requires quiet { IsQuiet (board_of self.now) pass.old }
@@ -102,6 +118,22 @@ impl Index {
             pass.old pass.new }
     {
         segwrite::replace_bytes(&self.board, pass, key, value, now)
+    }
+
+    /// The same, and it tells which row the key had before, as `set_bytes_and_tell` does.
+    #[inline(always)]
+    pub fn replace_bytes_and_tell(
+        &self,
+        pass: &mut Pass,
+        key: &Key,
+        value: &ValueBytes<'_>,
+        now: u32,
+    ) -> (WriteAnswer, Option<RowRef>)
+        requires quiet { IsQuiet (board_of self.now) pass.old }
+        ensures writes { Writes (board_of self.now) (Replace key.now value.now now) result.0
+            pass.old pass.new }
+    {
+        segwrite::replace_bytes_and_tell(&self.board, pass, key, value, now)
     }
 
     /// Stores the value if the key is present and its bucket has the expected version.
@@ -137,11 +169,43 @@ impl Index {
         segwrite::cas_bytes(&self.board, pass, key, value, expected, now)
     }
 
+    /// The same, and it tells which row the key had before, as `set_bytes_and_tell` does.
+    #[inline(always)]
+    pub fn cas_bytes_and_tell(
+        &self,
+        pass: &mut Pass,
+        key: &Key,
+        value: &ValueBytes<'_>,
+        expected: u32,
+        now: u32,
+    ) -> (WriteAnswer, Option<RowRef>)
+        requires quiet { IsQuiet (board_of self.now) pass.old }
+        ensures writes { Writes (board_of self.now) (Cas key.now value.now expected now) result.0
+            pass.old pass.new }
+    {
+        segwrite::cas_bytes_and_tell(&self.board, pass, key, value, expected, now)
+    }
+
     /// Takes the key out. A delete needs no row.
     pub fn delete(&self, pass: &mut Pass, key: &Key, now: u32) -> DeleteAnswer
         requires quiet { IsQuiet (board_of self.now) pass.old }
         ensures deletes { Deletes (board_of self.now) key.now now result pass.old pass.new }
     {
         segwrite::delete(&self.board, pass, key, now)
+    }
+
+    /// Takes the key out as `delete` does, and tells which row the key had before.
+    /// No contract says what the second part is.
+    #[inline(always)]
+    pub fn delete_and_tell(
+        &self,
+        pass: &mut Pass,
+        key: &Key,
+        now: u32,
+    ) -> (DeleteAnswer, Option<RowRef>)
+        requires quiet { IsQuiet (board_of self.now) pass.old }
+        ensures deletes { Deletes (board_of self.now) key.now now result.0 pass.old pass.new }
+    {
+        segwrite::delete_and_tell(&self.board, pass, key, now)
     }
 }

@@ -13,7 +13,7 @@ ghost use Rattle.segwrite.specs.Growing.{Searches};
 ghost use Rattle.segwrite.specs.Steps.{most_steps_of_search};
 
 use segbase::{Board, Pass, Place};
-use segstore::{Sought, enter_segment, leave_segment, next_place, row_of_key};
+use segstore::{RowRef, Sought, enter_segment, leave_segment, next_place, row_of_key};
 use segword::{Item, LAST_WORD};
 
 /// A word of a chain, and what stood there: the item of a key,
@@ -52,6 +52,16 @@ impl Target {
         } else {
             earlier
         }
+    }
+
+    // The row that the item of the word has, if the word isn't empty.
+    #[inline(always)]
+    pub(crate) fn row(self) -> Option<RowRef> {
+        let item = Item::unpack(self.word)?;
+        Some(RowRef {
+            segment: item.seg,
+            row: item.row,
+        })
     }
 }
 

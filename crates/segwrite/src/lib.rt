@@ -8,7 +8,8 @@ mod spans;
 mod write;
 
 pub use find::Target;
-pub use removal::{clear, delete};
+pub use removal::{clear, delete, delete_and_tell};
 pub use write::{
-    add, add_bytes, cas, cas_bytes, replace, replace_bytes, set, set_bytes, set_bytes_and_tell,
+    add, add_bytes, add_bytes_and_tell, cas, cas_bytes, cas_bytes_and_tell, replace, replace_bytes,
+    replace_bytes_and_tell, set, set_bytes, set_bytes_and_tell,
 };

@@ -17,41 +17,61 @@ use crate::find::{Target, find, present_word};
 use crate::write::refuse;
 use segbase::{Board, Pass};
 use segmodel::DeleteAnswer;
-use segstore::{Sought, take_to_write};
+use segstore::{RowRef, Sought, take_to_write};
 use segword::Key;
 
 /// Takes the key out. A delete needs no row.
+#[inline(always)]
 pub fn delete(board: &Board, pass: &mut Pass, key: &Key, now: u32) -> DeleteAnswer
     requires quiet { IsQuiet board.now pass.old }
     ensures deletes { Deletes board.now key.now now result pass.old pass.new }
 {
+    delete_and_tell(board, pass, key, now).0
+}
+
+/// Takes the key out as `delete` does, and tells which row the key had before.
+/// No contract says what the second part is.
+pub fn delete_and_tell(
+    board: &Board,
+    pass: &mut Pass,
+    key: &Key,
+    now: u32,
+) -> (DeleteAnswer, Option<RowRef>)
+    requires quiet { IsQuiet board.now pass.old }
+    ensures deletes { Deletes board.now key.now now result.0 pass.old pass.new }
+{
     let sought = Sought::of(key, board);
     if !take_to_write(board, pass, sought.bucket) {
-        return DeleteAnswer::Busy;
+        return (DeleteAnswer::Busy, None);
     }
     remove(board, pass, &sought, now)
 }
 
 // Takes the key out of its bucket, if the key is present, under the bit that the pass has,
-// and gives the bit back.
-fn remove(board: &Board, pass: &mut Pass, sought: &Sought<'_>, now: u32) -> DeleteAnswer
+// gives the bit back, and tells which row the key had.
+fn remove(
+    board: &Board,
+    pass: &mut Pass,
+    sought: &Sought<'_>,
+    now: u32,
+) -> (DeleteAnswer, Option<RowRef>)
     ghost request: { Request }
     requires pass { IsPassOf board.now pass.old }
     requires clean { HasCleanBit board.now pass.old sought.now.bucket }
     requires sought { IsSought board.now.shape sought.now }
     requires enter { MayEnterAny pass.old }
     requires request { request ≡ Delete sought.now.key now }
-    ensures removes { Removes board.now request result pass.old pass.new }
-    ensures steps { TakesAtMost (most_steps_to_remove result) pass.old pass.new }
+    ensures removes { Removes board.now request result.0 pass.old pass.new }
+    ensures steps { TakesAtMost (most_steps_to_remove result.0) pass.old pass.new }
 {
     let found = find(board, pass, sought);
     let Some(target) = present_word(board, pass, found, now) else {
         refuse(board, pass, sought.bucket);
-        return DeleteAnswer::NotFound;
+        return (DeleteAnswer::NotFound, None);
     };
     clear(board, pass, target);
     board.release(pass, sought.bucket, true);
-    DeleteAnswer::Deleted
+    (DeleteAnswer::Deleted, target.row())
 }
 
 /// Lets the item of a key leave its word, under the bit of its bucket.

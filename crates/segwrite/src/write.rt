@@ -117,13 +117,28 @@ pub fn add_bytes(
     requires quiet { IsQuiet board.now pass.old }
     ensures writes { Writes board.now (Add key.now value.now now) result pass.old pass.new }
 {
+    add_bytes_and_tell(board, pass, key, value, now).0
+}
+
+/// The same, and it tells which row the key had before, as `set_bytes_and_tell` does.
+#[inline(always)]
+pub fn add_bytes_and_tell(
+    board: &Board,
+    pass: &mut Pass,
+    key: &Key,
+    value: &ValueBytes<'_>,
+    now: u32,
+) -> (WriteAnswer, Option<RowRef>)
+    requires quiet { IsQuiet board.now pass.old }
+    ensures writes { Writes board.now (Add key.now value.now now) result.0 pass.old pass.new }
+{
     let add = WriteCall {
         sought: Sought::of(key, board),
         value,
         when: When::Absent,
         clock: now,
     };
-    write(board, pass, &add).0
+    write(board, pass, &add)
 }
 
 /// Stores the value under the key if the key is present. Else it returns NotStored.
@@ -147,13 +162,28 @@ pub fn replace_bytes(
     requires quiet { IsQuiet board.now pass.old }
     ensures writes { Writes board.now (Replace key.now value.now now) result pass.old pass.new }
 {
+    replace_bytes_and_tell(board, pass, key, value, now).0
+}
+
+/// The same, and it tells which row the key had before, as `set_bytes_and_tell` does.
+#[inline(always)]
+pub fn replace_bytes_and_tell(
+    board: &Board,
+    pass: &mut Pass,
+    key: &Key,
+    value: &ValueBytes<'_>,
+    now: u32,
+) -> (WriteAnswer, Option<RowRef>)
+    requires quiet { IsQuiet board.now pass.old }
+    ensures writes { Writes board.now (Replace key.now value.now now) result.0 pass.old pass.new }
+{
     let replace = WriteCall {
         sought: Sought::of(key, board),
         value,
         when: When::Present,
         clock: now,
     };
-    write(board, pass, &replace).0
+    write(board, pass, &replace)
 }
 
 /// Stores the value under the key if the key's bucket has the expected version. Else it returns
@@ -188,13 +218,30 @@ pub fn cas_bytes(
     ensures writes { Writes board.now (Cas key.now value.now expected now) result
         pass.old pass.new }
 {
+    cas_bytes_and_tell(board, pass, key, value, expected, now).0
+}
+
+/// The same, and it tells which row the key had before, as `set_bytes_and_tell` does.
+#[inline(always)]
+pub fn cas_bytes_and_tell(
+    board: &Board,
+    pass: &mut Pass,
+    key: &Key,
+    value: &ValueBytes<'_>,
+    expected: u32,
+    now: u32,
+) -> (WriteAnswer, Option<RowRef>)
+    requires quiet { IsQuiet board.now pass.old }
+    ensures writes { Writes board.now (Cas key.now value.now expected now) result.0
+        pass.old pass.new }
+{
     let cas = WriteCall {
         sought: Sought::of(key, board),
         value,
         when: When::Unchanged(expected),
         clock: now,
     };
-    write(board, pass, &cas).0
+    write(board, pass, &cas)
 }
 
 // Stores the value under the key if the cache doesn't refuse it,
@@ -228,17 +275,7 @@ fn write(board: &Board, pass: &mut Pass, write: &WriteCall<'_>) -> (WriteAnswer,
     };
     store(board, pass, target, row, write);
     board.release(pass, bucket, true);
-    (WriteAnswer::Stored, row_of(target))
-}
-
-// The row that the item of a word has, if the word isn't empty.
-#[inline(always)]
-fn row_of(target: Target) -> Option<RowRef> {
-    let item = Item::unpack(target.word)?;
-    Some(RowRef {
-        segment: item.seg,
-        row: item.row,
-    })
+    (WriteAnswer::Stored, target.row())
 }
 
 // What the cache answers in place of storing.

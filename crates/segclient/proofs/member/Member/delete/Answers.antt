@@ -11,15 +11,15 @@ pub returns-clause-member : goal.returns-clause-member
 returns-clause-member c =
     let b = board_of c.args.index.now in
     let old = c.args.self.now in
-    let call = c.delete-told in
+    let call = c.delete_and_tell-told in
     let queues = c.tell_deleted.ensures in
     let goes = member_goes c.args.index.now old call.new.pass c.requires.member call.ensures.deletes.on
-    (delete_stays b old.pass call.new.pass c.requires.member.0 _ _ call.result call.ensures.deletes) in
+    (delete_stays b old.pass call.new.pass c.requires.member.0 _ _ call.result.0 call.ensures.deletes) in
     (goes.0, subst (IsOwnRing b.shape (number call.new.pass)) (sym queues.ring) goes.1, subst (λ source. IsCleared b.shape source call.new.pass) (sym queues.source) goes.2)
 
 pub returns-clause-deletes : goal.returns-clause-deletes
 returns-clause-deletes c =
-    let call = c.delete-told in
+    let call = c.delete_and_tell-told in
     let queues = c.tell_deleted.ensures in
     record {
       deletes = call.ensures.deletes;

@@ -21,10 +21,10 @@ end_write-requires c =
     let b = board_of c.args.index.now in
     let start = c.begin_write in
     let begun = start.new.self in
-    let call = c.replace_bytes-told in
+    let call = c.replace_bytes_and_tell-told in
     record {
       member = member_goes c.args.index.now begun call.new.pass start.ensures.member call.ensures.writes.on
-          (write_stays b begun.pass call.new.pass start.ensures.member.0 _ call.result call.ensures.writes);
+          (write_stays b begun.pass call.new.pass start.ensures.member.0 _ call.result.0 call.ensures.writes);
     }
 
 pub returns-clause-writes : goal.returns-clause-writes
@@ -32,8 +32,8 @@ returns-clause-writes c =
     let b = board_of c.args.index.now in
     let old = c.args.self.now in
     let start = c.begin_write in
-    let call = c.replace_bytes-told in
+    let call = c.replace_bytes_and_tell-told in
     let end = c.end_write in
     let begins = subst (λ made. BeginsWrite made b old start.new.self) c.if-not-begin_write.false start.ensures.begins in
-    made_write b (Replace c.args.key.now c.args.value.now) old start.new.self end.new.self c.requires.member.0 call.result call.new.pass start.ensures.member.0 begins
+    made_write b (Replace c.args.key.now c.args.value.now) old start.new.self end.new.self c.requires.member.0 call.result.0 call.new.pass start.ensures.member.0 begins
     call.ensures.writes end.ensures.ends

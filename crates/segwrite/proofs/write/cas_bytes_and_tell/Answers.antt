@@ -1,7 +1,7 @@
 use Rattle.std.proofs.Common.{subst}
 use Rattle.segmodel.specs.declared.request.Request.TheVariants.{Cas}
 use Rattle.segwrite.specs.Writes.{Writes}
-use Rattle.segwrite.proofs.write.cas_bytes.Goals as goal
+use Rattle.segwrite.proofs.write.cas_bytes_and_tell.Goals as goal
 
 pub returns : goal.returns
 returns c = record {

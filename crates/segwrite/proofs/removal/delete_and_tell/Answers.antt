@@ -6,7 +6,7 @@ use Rattle.segwrite.specs.Refusing.{Removes}
 use Rattle.segwrite.proofs.Deleting.{deletes, deletes_nothing}
 use Rattle.segstore.proofs.Refills.{idles}
 use Rattle.segwrite.proofs.Presence.{may_enter}
-use Rattle.segwrite.proofs.removal.delete.Goals as goal
+use Rattle.segwrite.proofs.removal.delete_and_tell.Goals as goal
 
 pub returns-then-not-take_to_write : goal.returns-then-not-take_to_write
 returns-then-not-take_to_write c = let b = c.args.board.now in let s = c.of-sought.ensures in
@@ -27,6 +27,6 @@ returns c = let b = c.args.board.now in let s = c.of-sought.ensures in
     record {
       deletes = deletes b c.args.key.now c.args.now _ _ _ c.requires.quiet
           (subst (λ k. TookToWrite b k c.args.pass.now c.take_to_write.new.pass) home
-          c.if-not-take_to_write.ensures.takes) c.take_to_write.ensures.steps c.remove.result
-          (subst (λ k. Removes b (Delete k c.args.now) c.remove.result c.take_to_write.new.pass c.remove.new.pass) s.key c.remove.ensures.removes) c.remove.ensures.steps;
+          c.if-not-take_to_write.ensures.takes) c.take_to_write.ensures.steps c.remove.result.0
+          (subst (λ k. Removes b (Delete k c.args.now) c.remove.result.0 c.take_to_write.new.pass c.remove.new.pass) s.key c.remove.ensures.removes) c.remove.ensures.steps;
     }
