@@ -124,8 +124,8 @@ impl Pass {
         self.plain.segments[(segment - self.plain.first) as usize].used = used;
     }
 
-    /// Sets the deadline of a segment of the pass's own.
-    pub fn set_deadline(&mut self, segment: u32, deadline: u32)
+    // Sets the deadline of a segment of the pass's own.
+    pub(crate) fn set_deadline(&mut self, segment: u32, deadline: u32)
         requires own { IsSome (deadline_of self.old segment) }
         ensures { self.new
             ≡ record self.old { plain = with_deadline segment deadline self.old.plain } }
