@@ -115,11 +115,12 @@ static bool serve_write(struct connection *connection, enum kind kind, struct re
 static bool serve_delete(struct connection *connection, const struct request *request) {
   const struct word *words = request->words;
   if (!has_words(connection, request, 2, 4)) return true;
+  bool quiet = request->quiet && request->count > 2;        /* the second word is the key, also where it is noreply */
   bool zero = request->count > 2 && word_is(words[2], "0"); /* an old form: KEY 0 */
-  bool plain = request->count == 2 + (size_t)zero + (size_t)request->quiet;
-  if (!plain) return say(connection, request->quiet, BAD_LINE ".  Usage: delete <key> [noreply]");
-  if (!is_key(words[1])) return say(connection, request->quiet, BAD_LINE);
-  return say(connection, request->quiet, text_of(delete_item(connection->worker, words[1]), "DELETED"));
+  bool plain = request->count == 2 + (size_t)zero + (size_t)quiet;
+  if (!plain) return say(connection, quiet, BAD_LINE ".  Usage: delete <key> [noreply]");
+  if (!is_key(words[1])) return say(connection, quiet, BAD_LINE);
+  return say(connection, quiet, text_of(delete_item(connection->worker, words[1]), "DELETED"));
 }
 
 static bool serve_touch(struct connection *connection, const struct request *request) {
