@@ -114,9 +114,10 @@ static bool take_in(struct connection *connection) {
 
 uint32_t connection_serve(struct connection *connection, uint32_t most) {
   struct buffer *input = &connection->input;
+  const _Atomic bool *ends = &connection->worker->server->ends;
   uint32_t served = 0;
-  for (size_t took = 1; !connection->closing && took > 0 && served < most && input->done < input->length &&
-                        connection->reply.length < MOST_REPLY;
+  for (size_t took = 1; !connection->closing && !connection->turn_over && took > 0 && served < most &&
+                        input->done < input->length && connection->reply.length < MOST_REPLY && !*ends;
        input->done += took) {
     size_t left = input->length - input->done;
     took = connection->swallow < left ? connection->swallow : left;
@@ -146,7 +147,6 @@ static bool send_replies(struct connection *connection) {
 /* Puts the connection behind the others that have commands left over. */
 static void wait_for_turn(struct connection *connection) {
   struct worker *worker = connection->worker;
-  worker->counts.yields++;
   connection->waiting = true;
   connection->waiting_after = NULL;
   if (worker->waiting_last == NULL) worker->waiting_first = connection;
@@ -165,16 +165,19 @@ static bool wait_for(struct connection *connection, uint32_t events) {
 /* Serves a turn, and sends. False once the connection has ended. */
 static bool take_turn(struct connection *connection, uint32_t events) {
   uint32_t most = connection->worker->server->options.commands_a_turn, served = 0, more = 0;
+  connection->turn_over = false;
   if ((events & ~(uint32_t)EPOLLOUT) != 0 && !connection->ended && !take_in(connection)) return false;
   do {
     if (!send_replies(connection)) return false;
     if (connection->reply.length > 0) break;
     more = connection_serve(connection, most - served);
     served += more;
+    if (more > 0) worker_tell(connection->worker);
   } while (connection->reply.length > 0 || (more > 0 && served < most));
   if (connection->reply.length > 0) return wait_for(connection, EPOLLOUT);
   if (connection->closing) return false;
-  if (served == most && connection->input.done < connection->input.length) {
+  if ((served == most || connection->turn_over) && connection->input.done < connection->input.length) {
+    connection->worker->counts.yields += served == most;
     wait_for_turn(connection);
     return wait_for(connection, 0);
   }

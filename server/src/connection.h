@@ -26,12 +26,14 @@ struct connection {
   bool closing;    /* after the replies are sent, the connection ends */
   bool ended;      /* the other side sends nothing more */
   bool waiting;    /* is in its worker's list of those with commands left over */
+  bool turn_over;  /* others are to be served before the next command, or before the rest of this one */
   uint32_t events; /* what epoll waits for */
   uint32_t active; /* the second of its last event */
   struct buffer input, reply;
   size_t swallow;  /* bytes of a refused value that are still to come */
   size_t searched; /* so many bytes of what isn't served have no line's end */
   struct getting getting;
+  uint32_t counted; /* of the stats that is being served: the clients of the store whose rows were counted */
   struct connection *before, *after; /* among all of its worker */
   struct connection *waiting_after, *handed_after;
 };
@@ -52,7 +54,8 @@ bool connection_go_on(struct connection *connection, uint32_t events);
 /* Closes the socket, and frees all. */
 void connection_end(struct connection *connection);
 
-/* Serves commands until none is whole, too much is unsent, or so many were served. How many were. */
+/* Serves commands until none is whole, too much is unsent, so many were served, the turn is over or the server ends. How
+ * many were served. */
 uint32_t connection_serve(struct connection *connection, uint32_t most);
 
 /* Makes room for a reply. If memory is refused, the connection ends, and nothing more is said on it. */
@@ -75,7 +78,8 @@ bool take_data(struct request *request, uint64_t length, bool *good);
 /* Serves the keys of a get, as far as the replies have room. How many bytes of them it took, up to the line's end. */
 size_t serve_keys(struct connection *connection, const char *keys, size_t length);
 
-/* Serve a whole line. False if its value has not come whole. */
+/* Serve a whole line. False if its value has not come whole. A stats is a turn of its own, and may take several: then it is
+ * false, and the line is to be served again in the next one. */
 bool serve_command(struct connection *connection, struct request *request);
 bool serve_meta(struct connection *connection, struct request *request);
 bool serve_stats(struct connection *connection, const struct request *request);

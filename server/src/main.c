@@ -124,12 +124,13 @@ static bool run(struct server *server, int signals, int told) {
   while (started < threads && worker_start(server, &server->workers[started])) started++;
   bool serves = (started == threads || fault("a thread can't be had", strerror(errno))) && serves_now(told);
   if (serves) listen_accept(server, signals);
+  server->ends = true;
   for (uint32_t i = 0; i < started; i++) worker_stop(&server->workers[i]);
   return serves;
 }
 
 int main(int count, char **words) {
-  static struct server server;
+  static struct server server = {.reset_lock = PTHREAD_MUTEX_INITIALIZER};
   static struct worker workers[STORE_MOST_CLIENTS];
   keep_outputs();
   enum reading reading = options_read(&server.options, count, words);

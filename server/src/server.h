@@ -8,7 +8,7 @@
 #include "options.h"
 #include <pthread.h>
 
-/* How many commands came to what. Those of a worker are guarded by its lock. All fields are counts. */
+/* How many commands came to what. All fields are counts. */
 struct counts {
   uint64_t gets, sets, flushes, touches, metas;
   uint64_t get_hits, get_misses, get_expired, get_flushed;
@@ -18,15 +18,20 @@ struct counts {
   uint64_t read_bytes, written_bytes, yields, idle_kicks, reply_refused, read_refused;
 };
 
+/* The counts of all workers together, and those of the store. */
+struct totals {
+  struct counts counts;
+  struct store_counts store;
+};
+
 struct connection;
 
 struct worker {
   struct server *server;
-  pthread_mutex_t lock;    /* of the counts. The worker has it in each round of events */
-  _Atomic uint32_t wanted; /* how many others wait for the lock. The worker begins no round before they have had it */
   struct store_client *client;
-  struct counts counts;
-  uint64_t evicted_before; /* what the client had evicted at the last reset of the counts */
+  struct counts counts; /* the worker's own, which no other thread reads */
+  pthread_mutex_t told_lock;
+  struct counts told; /* the counts as others may read them: without those of the turn that is being served */
   pthread_t thread;
   int epoll, wake; /* wake: an eventfd, for connections that are handed over and for the end */
   uint32_t now;    /* the moment of this round */
@@ -35,7 +40,6 @@ struct worker {
   struct connection *handed;                       /* accepted, and not yet taken over */
   struct connection *first, *last;                 /* all of this worker, the one that was silent for longest first */
   struct connection *waiting_first, *waiting_last; /* those with commands left over from their last turn */
-  bool stop;
 };
 
 struct server {
@@ -46,6 +50,9 @@ struct server {
   _Atomic uint32_t connections;
   _Atomic uint64_t accepted, rejected;
   _Atomic uint32_t verbosity;
+  _Atomic bool ends; /* each worker serves the command that it is at, and no other one */
+  pthread_mutex_t reset_lock;
+  struct totals at_reset; /* what the totals were when they were last set back */
   int listeners[8];
   uint32_t listener_count;
   int spare_descriptor; /* is closed to refuse a connection where no descriptor is left */
@@ -54,8 +61,11 @@ struct server {
 /* Starts a worker's thread. False if memory, a descriptor or the thread is refused. */
 bool worker_start(struct server *server, struct worker *worker);
 
-/* Ends the worker's thread, and its connections. */
+/* Waits for the end of the worker's thread and of its connections, once the server ends. */
 void worker_stop(struct worker *worker);
+
+/* Lets others read the counts as they are now. To be called before replies are sent. */
+void worker_tell(struct worker *worker);
 
 /* Hands a socket over to a worker. It is closed if memory is refused. */
 void worker_hand_over(struct worker *worker, int socket);
@@ -65,12 +75,7 @@ static inline struct caller caller_of(struct worker *worker) {
   return (struct caller){worker->client, &worker->server->uniques, worker->now};
 }
 
-/* Takes the counts of all workers together, or sets them back. The worker that calls has its lock, and gives it away
- * meanwhile. */
-struct totals {
-  struct counts counts;
-  struct store_counts store;
-};
+/* Takes the counts of all workers together, or sets them back. It waits for no worker's turn, and looks at no rows. */
 struct totals count_all(struct worker *caller);
 void reset_all(struct worker *caller);
 

@@ -177,16 +177,34 @@ static void stat_slabs(struct connection *connection) {
   stat_number(connection, "total_malloced", (uint64_t)options_keys(options) * STORE_BYTES_A_KEY);
 }
 
+/* Has the rows of all clients counted, if they aren't to rest. Where one takes long, others are served before the next
+ * client, and it is false. */
+static bool rows_are_counted(struct connection *connection) {
+  struct store *store = &connection->worker->server->store;
+  while (connection->counted < store->plan.clients)
+    if (store_count_rows(&store->clients[connection->counted++])) return false;
+  connection->counted = 0;
+  return true;
+}
+
 bool serve_stats(struct connection *connection, const struct request *request) {
   static const struct {
     const char *name;
     void (*show)(struct connection *);
-  } parts[] = {{"settings", stat_settings}, {"items", stat_items}, {"slabs", stat_slabs}};
+    bool of_rows;
+  } parts[] = {{"settings", stat_settings, false}, {"items", stat_items, true}, {"slabs", stat_slabs, true}};
   struct word part = request->words[1];
-  if (request->count == 1) return stat_all(connection), say(connection, false, "END");
+  connection->turn_over = true;
+  if (request->count == 1) {
+    if (!rows_are_counted(connection)) return false;
+    return stat_all(connection), say(connection, false, "END");
+  }
   if (word_is(part, "reset")) return reset_all(connection->worker), say(connection, false, "RESET");
   if (word_is(part, "cachedump")) return say(connection, false, "END"); /* the library doesn't list its keys */
-  for (size_t i = 0; i < sizeof parts / sizeof *parts; i++)
-    if (word_is(part, parts[i].name)) return parts[i].show(connection), say(connection, false, "END");
+  for (size_t i = 0; i < sizeof parts / sizeof *parts; i++) {
+    if (!word_is(part, parts[i].name)) continue;
+    if (parts[i].of_rows && !rows_are_counted(connection)) return false;
+    return parts[i].show(connection), say(connection, false, "END");
+  }
   return say(connection, false, "ERROR");
 }

@@ -25,6 +25,9 @@ enum {
  * eighths for its bytes, but for those of a short key and around it. */
 enum { ROW = 64, ROW_WITH_CLIENT = 67, SEGMENTS = 64, AROUND = 24 };
 
+/* Of the time that goes by, counts of rows take this part at most. A count that takes longer than LONG_NS is long. */
+enum { COUNTS_PART = 50, LONG_NS = 1000000, SECOND_NS = 1000000000 };
+
 /* Whether a call is to be made again, since it was Busy. */
 static bool was_busy(uint32_t status, int *tries) {
   if (status != SEGCACHE_BUSY || ++*tries == TRIES) return false;
@@ -82,6 +85,8 @@ static void begin_client(const struct store *store, struct store_client *client,
   client->client = opened;
   client->store = store;
   client->time_to_live = UINT32_MAX;
+  client->items = client->rows = client->overflow = 0;
+  client->rests_until = 0;
   if (store->plan.keep_from != STORE_BY_QUEUES) segcache_keep_from(&client->client, store->plan.keep_from);
 }
 
@@ -206,17 +211,42 @@ enum store_status store_delete(struct store_client *client, struct word key, uin
 
 void store_count(struct store_client *client, struct store_counts *counts) {
   segcache_stats_t calls = {0};
-  segcache_index_stats_t table = {0};
   pthread_mutex_lock(&client->lock);
   segcache_stats(&client->client, &calls);
-  segcache_index_stats(&client->client, &table);
-  pthread_mutex_unlock(&client->lock);
   *counts = (struct store_counts){.evicted = calls.keys_evicted,
                                   .kept = calls.items_kept,
                                   .segments = calls.segments_refilled,
                                   .busy = calls.busy,
                                   .full = calls.no_room + calls.bucket_full,
-                                  .items = table.named_rows,
-                                  .rows = table.used_rows,
-                                  .overflow = table.overflow_buckets};
+                                  .items = client->items,
+                                  .rows = client->rows,
+                                  .overflow = client->overflow};
+  pthread_mutex_unlock(&client->lock);
+}
+
+static uint64_t nanoseconds(void) {
+  struct timespec time;
+  clock_gettime(CLOCK_MONOTONIC, &time);
+  return (uint64_t)time.tv_sec * SECOND_NS + (uint64_t)time.tv_nsec;
+}
+
+/* Counts the rows, and has the client rest for as long as the part of the time says. What it didn't count in the last
+ * second is on its account. The client's lock is held. How long it took. */
+static uint64_t count_rows(struct store_client *client, uint64_t began) {
+  segcache_index_stats_t table = {0};
+  segcache_index_stats(&client->client, &table);
+  client->items = table.named_rows;
+  client->rows = table.used_rows;
+  client->overflow = table.overflow_buckets;
+  uint64_t took = nanoseconds() - began, least = began > SECOND_NS ? began - SECOND_NS : 0;
+  uint64_t from = client->rests_until > least ? client->rests_until : least;
+  client->rests_until = from + took * COUNTS_PART * client->store->plan.clients;
+  return took;
+}
+
+bool store_count_rows(struct store_client *client) {
+  pthread_mutex_lock(&client->lock);
+  uint64_t began = nanoseconds(), took = began < client->rests_until ? 0 : count_rows(client, began);
+  pthread_mutex_unlock(&client->lock);
+  return took > LONG_NS;
 }

@@ -49,7 +49,9 @@ struct store_client {
   _Alignas(64) pthread_mutex_t lock; /* of the client, for one call */
   segcache_client client;
   const struct store *store;
-  uint32_t time_to_live; /* by which the library stores an add or a cas; at the start without end */
+  uint32_t time_to_live;          /* by which the library stores an add or a cas; at the start without end */
+  uint32_t items, rows, overflow; /* as the rows were last counted */
+  uint64_t rests_until;           /* the nanosecond before which they aren't counted again */
 };
 
 /* The bytes of a value, and for how long they are wanted: 0 seconds is without end. Until then they are there, unless
@@ -63,7 +65,7 @@ struct store_value {
 /* A client's counts since it was opened. */
 struct store_counts {
   uint64_t evicted, kept, segments, busy, full;
-  uint64_t items, rows, overflow; /* now: items in its segments, rows in use there, overflow buckets of the table */
+  uint64_t items, rows, overflow; /* items in its segments, rows in use there, overflow buckets of the tables */
 };
 
 /* Opens a store and its clients, `plan->clients` of them. NULL, or why it can't. It takes all memory at once. While it
@@ -97,7 +99,12 @@ enum store_status store_cas(struct store_client *client, struct word key, struct
 /* Takes a key out. OK, ABSENT or BUSY. */
 enum store_status store_delete(struct store_client *client, struct word key, uint32_t now);
 
-/* Looks at all rows of the client's own. */
+/* The client's counts. Items, rows and overflow buckets are those of the last call of store_count_rows. */
 void store_count(struct store_client *client, struct store_counts *counts);
+
+/* Counts the client's items, rows and overflow buckets again, for which the library looks at each of its rows in use.
+ * It does so only where this takes at most a fiftieth of the time, for all clients together, and of a second ahead. Says
+ * whether it took long, a millisecond. */
+bool store_count_rows(struct store_client *client);
 
 #endif

@@ -4,7 +4,6 @@
 #include <errno.h>
 #include <netinet/in.h>
 #include <netinet/tcp.h>
-#include <sched.h>
 #include <stdlib.h>
 #include <string.h>
 #include <sys/epoll.h>
@@ -67,13 +66,12 @@ static void end_idle(struct worker *worker) {
   }
 }
 
-/* Takes over what was handed to this worker. Says whether it is to stop. */
-static bool take_over(struct worker *worker) {
+/* Takes over what was handed to this worker. */
+static void take_over(struct worker *worker) {
   eventfd_t ignored;
   eventfd_read(worker->wake, &ignored);
   pthread_mutex_lock(&worker->handed_lock);
   struct connection *handed = worker->handed, *after;
-  bool stop = worker->stop;
   worker->handed = NULL;
   pthread_mutex_unlock(&worker->handed_lock);
   for (; handed != NULL; handed = after) {
@@ -84,12 +82,11 @@ static bool take_over(struct worker *worker) {
     struct epoll_event event = {.events = EPOLLIN, .data.ptr = handed};
     if (epoll_ctl(worker->epoll, EPOLL_CTL_ADD, handed->socket, &event) != 0) end_connection(handed);
   }
-  return stop;
 }
 
-/* One round of events. Says whether the worker is to stop. */
-static bool serve_round(struct worker *worker, const struct epoll_event *events, int count) {
-  bool stop = false, woken = false;
+/* One round of events. */
+static void serve_round(struct worker *worker, const struct epoll_event *events, int count) {
+  bool woken = false;
   for (int i = 0; i < count; i++) {
     struct connection *connection = events[i].data.ptr;
     if (connection == NULL) woken = true;
@@ -97,23 +94,21 @@ static bool serve_round(struct worker *worker, const struct epoll_event *events,
   }
   serve_waiting(worker);
   end_idle(worker);
-  if (woken) stop = take_over(worker);
-  return stop;
+  if (woken) take_over(worker);
 }
 
 static void *work(void *argument) {
   struct worker *worker = argument;
   struct epoll_event events[EVENTS];
-  for (bool stop = false; !stop;) {
+  while (!worker->server->ends) {
     int wait = worker->waiting_first != NULL ? 0 : worker->server->options.idle_seconds > 0 ? 1000 : -1;
     int count = epoll_wait(worker->epoll, events, EVENTS, wait);
-    while (atomic_load(&worker->wanted) > 0) sched_yield();
-    pthread_mutex_lock(&worker->lock);
     worker->now = clock_now();
     uniques_pass(&worker->server->uniques, worker->now);
-    stop = serve_round(worker, events, count);
-    pthread_mutex_unlock(&worker->lock);
+    serve_round(worker, events, count);
+    worker_tell(worker);
   }
+  take_over(worker);
   while (worker->first != NULL) end_connection(worker->first);
   return NULL;
 }
@@ -123,7 +118,7 @@ bool worker_start(struct server *server, struct worker *worker) {
   worker->server = server;
   worker->epoll = epoll_create1(EPOLL_CLOEXEC);
   worker->wake = eventfd(0, EFD_CLOEXEC | EFD_NONBLOCK);
-  pthread_mutex_init(&worker->lock, NULL);
+  pthread_mutex_init(&worker->told_lock, NULL);
   pthread_mutex_init(&worker->handed_lock, NULL);
   return worker->epoll >= 0 && worker->wake >= 0 &&
          epoll_ctl(worker->epoll, EPOLL_CTL_ADD, worker->wake, &event) == 0 &&
@@ -131,16 +126,13 @@ bool worker_start(struct server *server, struct worker *worker) {
 }
 
 void worker_stop(struct worker *worker) {
-  pthread_mutex_lock(&worker->handed_lock);
-  worker->stop = true;
-  pthread_mutex_unlock(&worker->handed_lock);
   eventfd_write(worker->wake, 1);
   pthread_join(worker->thread, NULL);
   buffer_free(&worker->spare_input);
   buffer_free(&worker->spare_reply);
   close(worker->epoll);
   close(worker->wake);
-  pthread_mutex_destroy(&worker->handed_lock); /* another worker may still count by the lock, which stays */
+  pthread_mutex_destroy(&worker->handed_lock); /* another worker may still read what was told, whose lock stays */
 }
 
 void worker_hand_over(struct worker *worker, int socket) {
@@ -159,15 +151,33 @@ void worker_hand_over(struct worker *worker, int socket) {
   eventfd_write(worker->wake, 1);
 }
 
+void worker_tell(struct worker *worker) {
+  pthread_mutex_lock(&worker->told_lock);
+  worker->told = worker->counts;
+  pthread_mutex_unlock(&worker->told_lock);
+}
+
+/* All counts of commands, as numbers in a row. */
+enum { COUNTS = sizeof(struct counts) / sizeof(uint64_t) };
+struct row {
+  uint64_t of[COUNTS];
+};
+
+static struct row row_of(const struct counts *counts) {
+  struct row row;
+  memcpy(row.of, counts, sizeof row.of);
+  return row;
+}
+
 static void add_counts(struct totals *totals, struct worker *worker) {
   struct store_counts store;
-  uint64_t sums[sizeof totals->counts / sizeof(uint64_t)], counts[sizeof totals->counts / sizeof(uint64_t)];
-  memcpy(sums, &totals->counts, sizeof sums);
-  memcpy(counts, &worker->counts, sizeof counts);
-  for (size_t i = 0; i < sizeof sums / sizeof *sums; i++) sums[i] += counts[i];
-  memcpy(&totals->counts, sums, sizeof sums);
+  pthread_mutex_lock(&worker->told_lock);
+  struct row sums = row_of(&totals->counts), more = row_of(&worker->told);
+  pthread_mutex_unlock(&worker->told_lock);
+  for (size_t i = 0; i < COUNTS; i++) sums.of[i] += more.of[i];
+  memcpy(&totals->counts, sums.of, sizeof sums.of);
   store_count(worker->client, &store);
-  totals->store.evicted += store.evicted - worker->evicted_before;
+  totals->store.evicted += store.evicted;
   totals->store.kept += store.kept;
   totals->store.segments += store.segments;
   totals->store.busy += store.busy;
@@ -177,38 +187,30 @@ static void add_counts(struct totals *totals, struct worker *worker) {
   totals->store.overflow = store.overflow;
 }
 
-/* Takes the lock of a worker before its next round. A worker that always has commands waiting would take it again
- * at once. */
-static void lock_between_rounds(struct worker *worker) {
-  atomic_fetch_add(&worker->wanted, 1);
-  pthread_mutex_lock(&worker->lock);
-  atomic_fetch_sub(&worker->wanted, 1);
+/* The counts since the server began. They only grow. */
+static struct totals count_from_start(struct worker *caller) {
+  struct totals totals = {0};
+  worker_tell(caller);
+  for (uint32_t i = 0; i < caller->server->options.threads; i++) add_counts(&totals, &caller->server->workers[i]);
+  return totals;
 }
 
 struct totals count_all(struct worker *caller) {
-  struct totals totals = {0};
   struct server *server = caller->server;
-  pthread_mutex_unlock(&caller->lock); /* two workers that count would wait for each other */
-  for (uint32_t i = 0; i < server->options.threads; i++) {
-    lock_between_rounds(&server->workers[i]);
-    add_counts(&totals, &server->workers[i]);
-    pthread_mutex_unlock(&server->workers[i].lock);
-  }
-  pthread_mutex_lock(&caller->lock);
+  pthread_mutex_lock(&server->reset_lock); /* before the counts are read, which then are no less than at the reset */
+  struct totals before = server->at_reset;
+  pthread_mutex_unlock(&server->reset_lock);
+  struct totals totals = count_from_start(caller);
+  struct row sums = row_of(&totals.counts), less = row_of(&before.counts);
+  for (size_t i = 0; i < COUNTS; i++) sums.of[i] -= less.of[i];
+  memcpy(&totals.counts, sums.of, sizeof sums.of);
+  totals.store.evicted -= before.store.evicted;
   return totals;
 }
 
 void reset_all(struct worker *caller) {
   struct server *server = caller->server;
-  struct store_counts store;
-  pthread_mutex_unlock(&caller->lock);
-  for (uint32_t i = 0; i < server->options.threads; i++) {
-    struct worker *worker = &server->workers[i];
-    lock_between_rounds(worker);
-    store_count(worker->client, &store);
-    worker->evicted_before = store.evicted;
-    worker->counts = (struct counts){0};
-    pthread_mutex_unlock(&worker->lock);
-  }
-  pthread_mutex_lock(&caller->lock);
+  pthread_mutex_lock(&server->reset_lock);
+  server->at_reset = count_from_start(caller);
+  pthread_mutex_unlock(&server->reset_lock);
 }

@@ -2,12 +2,15 @@
 """Tests of the server's counts, of keys that are busy or have no room, and of what is given back."""
 
 import re
+import signal
 import subprocess
+import threading
 import time
 from pathlib import Path
 
 from lines import NOT_A_NUMBER, TOO_LARGE
-from talk import alone, check, connect, count_there, memory_of, read, read_to, running, say, stats_of, store_all
+from talk import (alone, check, connect, count_there, free_port, memory_of, read, read_to, running, say, start, stats_of,
+                  store_all, wait_for)
 
 BUSY = "SERVER_ERROR busy: others write to this key\r\n"
 NO_MEMORY = "SERVER_ERROR out of memory storing object\r\n"
@@ -313,9 +316,77 @@ def busy_keys(command):
             "TOUCHED\r\nVA 1\r\n1\r\nVALUE late-a 0 1\r\n1\r\nEND\r\n")
 
 
+ITEMS = 100_000  # that the library looks at for a stats, in some 12 ms
+
+
+def drained(connection):
+    """Reads all that comes on a connection, on a thread of its own, and returns how often END came."""
+    ends = []
+
+    def drain():
+        try:
+            while got := connection.recv(1 << 18):
+                ends.append(got.count(b"END\r\n"))
+        except OSError:
+            pass
+
+    threading.Thread(target=drain, daemon=True).start()
+    return lambda: sum(ends)
+
+
+def stats_in_a_piece(command):
+    """A thousand stats in one piece keep nobody waiting, neither at the same thread nor at the other one."""
+    with running(command, "-t", "2", "-m", "32") as port:
+        asker, *others = connections = [connect(port) for _ in range(3)]
+        there = store_all(asker, ITEMS)
+        counts = stats_of(asker)
+        check(int(counts["curr_items"]) == there, f"the first stats counts all {there} items: {counts['curr_items']}")
+        asker.settimeout(None)
+        answered = drained(asker)
+        asker.sendall(b"stats\r\n" * 1000)
+        longest, began = 0, time.monotonic()
+        while answered() < 1000 and time.monotonic() - began < 60:
+            for other in others:
+                sent = time.monotonic()
+                say(other, "get none\r\n", "END\r\n")
+                longest = max(longest, time.monotonic() - sent)
+        check(answered() == 1000, f"all are answered: {answered()}")
+        check(longest < 1, f"amid 1,000 stats a get took {longest:.2f} s")
+        for connection in connections:
+            connection.close()
+
+
+def ends_soon(command, piece, items=0):
+    """SIGTERM ends the server soon, amid pieces that it would serve for long."""
+    with start([*command, "-l", "127.0.0.1", "-p", str(port := free_port()), "-t", "1", "-m", "32"]) as server:
+        wait_for(port, server)
+        with connect(port) as connection:
+            store_all(connection, items)
+        connections = [connect(port) for _ in range(8)]
+        for connection in connections:
+            say(connection, "mn\r\n", "MN\r\n")
+        for connection in connections:
+            connection.settimeout(None)
+            drained(connection)
+            connection.sendall(piece)
+        time.sleep(0.3)
+        began = time.monotonic()
+        server.send_signal(signal.SIGTERM)
+        status = server.wait(timeout=200)
+        took = time.monotonic() - began
+        check(status == 0 and took < 3, f"amid {piece[:11]} SIGTERM took {took:.1f} s, and it ended with {status}")
+        for connection in connections:
+            connection.close()
+
+
+def ends_amid_pieces(command):
+    """SIGTERM ends the server soon, whatever it counts."""
+    ends_soon(command, b"stats\r\n" * 2000, ITEMS)
+
+
 def slow_rounds(command):
-    """Only over the stand-in, whose busy keys make a worker's rounds long. A stats of another worker waits for one of
-    them, and not for many. What was stored after a round began has the age 0 in it."""
+    """Only over the stand-in, whose busy keys make a worker's rounds long. A stats of another worker waits for none of
+    them, nor does the server's end. What was stored after a round began has the age 0 in it."""
     for _ in range(3):
         with running(command, "-t", "2", "-R", "1") as port:
             connections = [connect(port) for _ in range(32)]
@@ -325,7 +396,7 @@ def slow_rounds(command):
             began = time.monotonic()
             stats_of(connections[0])
             took = time.monotonic() - began
-            check(took < 6, f"a stats took {took:.1f} s")
+            check(took < 3, f"a stats took {took:.1f} s")
             for connection in connections:
                 connection.close()
     with running(command, "-t", "2") as port, connect(port) as slow, connect(port) as other:
@@ -334,6 +405,7 @@ def slow_rounds(command):
         say(other, "set k 0 0 1\r\nx\r\n", "STORED\r\n")
         got = read_to(slow, b"MN\r\n").decode()
         check(re.fullmatch(r"(END\r\n){40}HD l0\r\nME k exp=-1 la=0 .*\r\nMN\r\n", got), f"the ages are {got[200:]}")
+    ends_soon(command, b"get busy-a\r\n" * 200)
 
 
 def full_keys(command):

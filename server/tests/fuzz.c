@@ -24,8 +24,8 @@ static void begin(void) {
   worker.client = server.store.clients;
   worker.server = &server;
   server.workers = &worker;
-  pthread_mutex_init(&worker.lock, NULL);
-  pthread_mutex_lock(&worker.lock);
+  pthread_mutex_init(&worker.told_lock, NULL);
+  pthread_mutex_init(&server.reset_lock, NULL);
 }
 
 /* A reply is lines, and a value is no longer than its line says. */
@@ -40,6 +40,7 @@ static bool send_piece(struct connection *connection, const uint8_t *piece, size
   while (connection_serve(connection, server.options.commands_a_turn) > 0) {
     check_replies(&connection->reply);
     connection->reply.length = 0;
+    connection->turn_over = false;
   }
   buffer_drop_done(&connection->input);
   return !connection->closing;

@@ -16,6 +16,7 @@
 #include <stdbool.h>
 #include <stdlib.h>
 #include <string.h>
+#include <time.h>
 
 enum {
   BUCKETS = 4096, /* a power of two */
@@ -23,6 +24,7 @@ enum {
   OPEN = 16,                /* segments of a client */
   NO_ROOM_AT_FIRST = 40001, /* with this time to live a client's first room can't be made */
   NO_MEMORY_FOR = 40002,    /* a cache for so many keys can't be opened */
+  ROW_NS = 120,             /* that a count of the rows takes for each of some millions at most */
 };
 
 struct entry {
@@ -372,11 +374,13 @@ uint32_t segcache_raw_stats(segcache_handle *handle, segcache_stats_t *counts) {
   return SEGCACHE_OK;
 }
 
+/* The library looks at each row, and takes so long for it. */
 uint32_t segcache_raw_index_stats(segcache_handle *handle, segcache_index_stats_t *counts) {
   struct client *client = handle->at;
   pthread_mutex_lock(&client->map->lock);
   uint32_t items = client->first ? client->map->count : 0;
   pthread_mutex_unlock(&client->map->lock);
+  nanosleep(&(struct timespec){.tv_nsec = (long)items * ROW_NS}, NULL);
   *counts = (segcache_index_stats_t){.used_rows = items + client->first, .named_rows = items, .overflow_buckets = 7};
   return SEGCACHE_OK;
 }
