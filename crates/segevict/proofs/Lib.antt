@@ -1,3 +1,5 @@
+pub mod Own
+pub mod Walking
 pub mod IfNamed
 pub mod Tiles
 pub mod Unnamed

@@ -1,30 +1,31 @@
 -- The search for the word that names a row of the pass's own, along a chain, under the bucket's bit or without it.
-use Rattle.std.proofs.Common.{◌≡◌, ℕ, ◌+◌, ◌-◌, ◌*◌, ◌/◌, ◌%◌, ◌^◌, ◌<◌, ◌≤◌, ltb, List, [], ◌++◌, Option, Some, None, sym, ap, ◌∙◌, subst, inl, inr, ⊎_elim, arith}
+use Rattle.std.proofs.Common.{◌≡◌, ℕ, ◌+◌, ◌*◌, ◌/◌, ◌%◌, ◌^◌, ◌<◌, ◌≤◌, ltb, List, [], ◌++◌, Option, Some, None, sym, ap, ◌∙◌, subst, inl, inr, ⊎_elim, arith}
 use Rattle.std.proofs.lemmas.Bool.{cases_lt, cond-true, lt-ltb}
 use Rattle.std.proofs.lemmas.Option.{none-some, same_Some}
 use Rattle.std.specs.Prelude.{MatchOption}
 use Rattle.segword.specs.Words.{IsSameItem, IsValid, Item, item_word, Shape}
 use Rattle.segmodel.specs.Words.{bucket_of, tag_of}
-use Rattle.segcore.specs.Words.{bucket_after, Event, home, IsAt, IsItemAt, IsLawful, IsPosition}
+use Rattle.segcore.specs.Words.{bucket_after, Event, IsItemAt, IsLawful}
 use Rattle.segcore.specs.Words.{item, row_after, RowAt, RowGone}
 use Rattle.segcore.proofs.Chains.{chain_of}
-use Rattle.segcore.proofs.Limits.{home_in, low_row, low_segment}
+use Rattle.segcore.proofs.Limits.{low_row, low_segment}
 use Rattle.segcore.proofs.Moments.{lawful_before}
 use Rattle.segcore.proofs.Standing.{coherent}
-use Rattle.segbase.specs.Words.{AddsEvents, Board, cell_at, IsPassOf, IsPlace, IsWordOfContent}
+use Rattle.segbase.specs.Words.{AddsEvents, Board, cell_at, IsPassOf, IsWordOfContent}
 use Rattle.segbase.specs.Words.{number, own_of, Pass, Place, position, trace}
 use Rattle.segbase.proofs.Standing.{tag_of_word, place_of_word}
 use Rattle.segstore.specs.Words.{Idles}
 use Rattle.segstore.proofs.Keeping.{AreCalmIn, own_linked}
 use Rattle.segstore.proofs.Refills.{idles}
-use Rattle.segstore.specs.Words.{first_word, IsNext, LeadsNowhere, LeadsTo, next_word}
+use Rattle.segstore.specs.Words.{IsNext, LeadsNowhere, LeadsTo, next_word}
 use Rattle.segwrite.specs.Words.{IsInChain}
 use Rattle.segevict.specs.Rows.{IfNamed, IsStoredIn}
 use Rattle.segevict.proofs.IfNamed.{home_named, home_over, home_within, named_over, so_named}
 use Rattle.segwrite.proofs.Items.{item_here}
-use Rattle.segwrite.proofs.Onward.{depth_of_place, next_at, leads_to, first_at, chain_ends}
-use Rattle.segwrite.proofs.Places.{idles_then, position_at, same_position, chain_later}
+use Rattle.segwrite.proofs.Onward.{chain_ends}
+use Rattle.segwrite.proofs.Places.{idles_then}
 use Rattle.segwrite.proofs.Searching.{begins_at}
+use Rattle.segevict.proofs.Walking.{chain_looked, ComesNext, depth, onward, reads_looked, same_looked}
 use Rattle.segevict.proofs.Unnamed.{gone_over, IsAhead, ahead_first, ahead_over, ahead_passed, ahead_skipped, ahead_ended}
 
 -- ---- a word and a row
@@ -66,10 +67,6 @@ names_no_row z h b n word sought key v l on tag reads other at =
     )
 
 -- ---- the search
-
--- how many item words of a chain come before a position: seven of each bucket
-abbrev pub words_before : ℕ → ℕ
-words_before at = at - 1 - (at - 1) / 8
 
 pub record Seeking (b : Board) (bucket : ℕ) (sought : Item) (first p : Pass) (place : Place) : Type 0 where
   pub idles : Idles b first p
@@ -114,10 +111,6 @@ stored_over b bucket sought own p q m calm stored =
       tag = named_over b.shape (trace p) (trace q) sought.seg sought.row (sought.tag ≡ tag_of stored.key) there stored.tag;
     }
 
--- a chain has four buckets at most
-pub place_left : (b : Board) (bucket : ℕ) (place : Place) (p : Pass) → IsPassOf b p → IsInChain b bucket place p → position b.shape (trace p) place < 32
-place_left b bucket place p is chain = let short = (chain_of b.shape (trace p) is.lawful bucket).short in let low = chain.at.0.0 in omega arith
-
 -- a look at the word of the place
 module _ (b : Board) (bucket : ℕ) (sought : Item) (first p q : Pass) (place : Place) (word : ℕ) (s : Seeking b bucket sought first p place) (look : Idles b p q)
     (tells : (k n : ℕ) → IsItemAt b.shape (trace q) k n (cell_at b.shape place) → IsWordOfContent ((bucket_after b.shape (trace q) k).items n) word) where
@@ -139,17 +132,17 @@ module _ (b : Board) (bucket : ℕ) (sought : Item) (first p q : Pass) (place : 
   stored_looked : IsStoredIn b bucket sought q
   stored_looked = stored_over b bucket sought [] p q look.moved tt s.stored
 
-  pub chain_looked : IsInChain b bucket place q
-  chain_looked = chain_later b [] p q bucket place look.moved s.chain
+  here : IsInChain b bucket place q
+  here = chain_looked b bucket p q place word s.chain look tells
 
   same : position z (trace q) place ≡ position z (trace p) place
-  same = same_position b [] p q bucket place look.moved s.chain
+  same = same_looked b bucket p q place word s.chain look tells
 
   ahead_looked : IsAhead z bucket sought.seg sought.row n h
   ahead_looked = subst (λ m. IsAhead z bucket sought.seg sought.row m h) (sym same) (ahead_over b [] p q bucket sought.seg sought.row (position z (trace p) place) look.moved tt s.stored.own s.ahead)
 
   reads : IsWordOfContent ((bucket_after z h bucket).items n) word
-  reads = tells bucket n chain_looked.at
+  reads = reads_looked b bucket p q place word s.chain look tells
 
   -- it names the row
   pub named_here : IsSameItem word (item_word sought) → RowAt z bucket sought.seg sought.row h n
@@ -162,71 +155,28 @@ module _ (b : Board) (bucket : ℕ) (sought : Item) (first p q : Pass) (place : 
         (names_no_row z h bucket n word sought stored_looked.key is.valid is.lawful stored_looked.linked
         stored_looked.tag reads other) ahead_looked
 
-    depth : (d : ℕ) × (n ≡ 8 * d + place.word)
-    depth = depth_of_place z h bucket n place (ltb place.bucket z.buckets) chain_looked.at.1
-
-    abbrev IsOn : Place → Type 0
-    IsOn after = Seeking b bucket sought first q after × (n < position z h after) × (words_before (position z h after) ≡ words_before n + 1)
-
-    on_to : (after : Place) (m : ℕ) → IsPlace z after → IsPosition (bucket_after z h bucket) m
-        → IsAt h bucket m (cell_at z after) → n < m → words_before m ≡ words_before n + 1
-        → IsAhead z bucket sought.seg sought.row m h → IsOn after
-    on_to after m within here at lt one ahead =
-        let there : position z h after ≡ m = position_at z h bucket m after at in (
-          record {
-            idles = idles_looked;
-            stored = stored_looked;
-            chain = record { in_table = within; at = subst (λ i. IsItemAt z h bucket i (cell_at z after)) (sym there) (here, at) };
-            ahead = subst (λ i. IsAhead z bucket sought.seg sought.row i h) (sym there) ahead;
-          },
-          subst (λ i. n < i) (sym there) lt,
-          subst (λ i. words_before i ≡ words_before n + 1) (sym there) one,
-        )
-
-    inner : place.word < 7 → IsOn (next_word place)
-    inner lt = let d = depth in let t = chain_looked.in_table in let here = chain_looked.at.0 in
-        on_to (next_word place) (n + 1) (t.0, omega arith, omega (arith, lt)) (
-          omega (arith, here.0, d.1, lt),
-          (let e : n + 1 ≡ 8 * d.0 + (place.word + 1) = omega (arith, d.1) in omega (arith, e, lt)),
-        )
-        (next_at z h bucket n place (ltb place.bucket z.buckets) lt chain_looked.at.1) (omega arith) (omega (arith, d.1, lt, t.1)) passed
-
-    leads : (after : Place) → LeadsTo z word after → IsOn after
-    leads after to =
-        let on = leads_to z h bucket n word to.0 ((bucket_after z h bucket).items n) is.lawful ((chain_of z h is.lawful bucket).contents n) reads to.1 to.2 in
-        let in_table = home_in z h to.0 (home bucket (on.0 + 1)) is.lawful on.3 in
-        let skipped : IsAhead z bucket sought.seg sought.row (n + 1 + 1) h = ahead_skipped z bucket sought.seg sought.row (n + 1) h is.lawful (omega (arith, on.2)) passed in
-        subst IsOn (sym to.3) (on_to (first_word z to.0) (8 * on.0 + 9) (
-          omega (arith, in_table),
-          omega arith,
-          omega arith,
-        ) (omega (arith, on.1), omega arith) (first_at z h bucket on.0 to.0 on.3)
-        (omega (arith, on.2)) (omega (arith, on.2))
-        (subst (λ m. IsAhead z bucket sought.seg sought.row m h) (let e : n + 1 + 1 ≡ 8 * on.0 + 9 = omega (arith, on.2) in e) skipped))
-
-    onward : (after : Place) → following ≡ Some after → IsOn after
-    onward after is' = ⊎_elim
-        (λ lt. subst IsOn (same_Some (next_word place) after (sym (next.inner lt) ∙ is')) (inner lt))
-        (λ le. leads after (subst (λ o. MatchOption o (LeadsNowhere word) (LeadsTo z word)) is' (next.last le)))
-        (cases_lt place.word 7)
+    -- what comes next is passed to
+    ahead_to : (after : Place) → ComesNext b bucket p q place word s.chain look tells after → IsAhead z bucket sought.seg sought.row (position z h after) h
+    ahead_to after on = ⊎_elim
+        (λ one. subst (λ m. IsAhead z bucket sought.seg sought.row m h) (sym one) passed)
+        (λ two. subst (λ m. IsAhead z bucket sought.seg sought.row m h) (sym two.0)
+        (ahead_skipped z bucket sought.seg sought.row (n + 1) h is.lawful (let e = two.2 in omega (arith, e)) passed))
+        on.at
 
     pub seeking_on : (after : Place) → following ≡ Some after → Seeking b bucket sought first q after
-    seeking_on after is' = (onward after is').0
-
-    pub less_left : (after : Place) → following ≡ Some after → 32 - position z h after < 32 - position z (trace p) place
-    less_left after is' =
-        let on = onward after is' in let left = place_left b bucket after q is on.0.chain in
-        omega (arith, on.1, left, same)
-
-    pub one_more : (after : Place) → following ≡ Some after → words_before (position z h after) ≡ words_before (position z (trace p) place) + 1
-    one_more after is' = let on = onward after is' in subst (λ m. words_before (position z h after) ≡ words_before m + 1) same on.2
+    seeking_on after is' = let on = onward b bucket p q place word s.chain look tells following next after is' in record {
+      idles = idles_looked;
+      stored = stored_looked;
+      chain = on.there;
+      ahead = ahead_to after on;
+    }
 
     -- no word names the row
     pub gone_at_end : following ≡ None → RowGone z sought.seg sought.row h
     gone_at_end is' =
         let le : 7 ≤ place.word = ⊎_elim (λ lt. absurd (none-some (next_word place) (sym is' ∙ next.inner lt))) (λ x. x) (cases_lt place.word 7) in
         let nowhere = subst (λ o. MatchOption o (LeadsNowhere word) (LeadsTo z word)) is' (next.last le) in
-        let w = chain_looked.in_table in let d = depth in
+        let w = here.in_table in let d = depth b bucket p q place word s.chain look tells in
         let e : n ≡ 8 * d.0 + 7 = omega (arith, d.1, le, w.2) in
         ahead_ended z bucket sought.seg sought.row d.0 h is.lawful
         (chain_ends z h bucket n d.0 word is.valid is.lawful e reads nowhere)

@@ -1,3 +1,4 @@
+pub mod Crowded
 pub mod EvictedRow
 pub mod Evicting
 pub mod Frequencies

@@ -1,4 +1,5 @@
 -- The words of this crate that others use, from one place.
+pub use Rattle.segevict.specs.Crowded.{FindsOwn}
 pub use Rattle.segevict.specs.EvictedRow.{EvictsItem, IsEvictRowAnswer, TakesKeyOut}
 pub use Rattle.segevict.specs.Evicting.{AreEvictions, ended, EvictsRest, EvictsSegment}
 pub use Rattle.segevict.specs.Evicting.{IsEvictAnswer, TakesOut}

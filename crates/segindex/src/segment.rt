@@ -1,13 +1,16 @@
-//! The calls on segments: evict and keep, of all rows or of one, and refill.
+//! The calls on segments: evict and keep, of all rows or of one, and refill. Beside them the look
+//! for the row that an evict takes out of a full bucket.
 use crate::index::Index;
 use segbase::Pass;
 use segevict::{EvictRowAnswer, KeepRowAnswer};
 use segmodel::{EvictAnswer, KeepAnswer, RefillAnswer};
 use segstore::RowRef;
+use segword::Key;
 
 impl Index {
     ghost use Rattle.segstore.specs.Words.{IsQuiet};
     ghost use Rattle.segevict.specs.Words.{AreUnnamed, EvictsItem, EvictsRest, EvictsSegment};
+    ghost use Rattle.segevict.specs.Words.{FindsOwn};
     ghost use Rattle.segevict.specs.Words.{KeepsItem, KeepsItemInto, KeepsItems, TellsSpan};
     ghost use Rattle.segindex.specs.Index.{board_of, shape_of};
     ghost use Rattle.segindex.specs.Refilling.{RefillsAside, RefillsSegment};
@@ -30,6 +33,17 @@ impl Index {
         ensures evicts { EvictsItem (board_of self.now) segment row result pass.old pass.new }
     {
         segevict::evict_row(&self.board, pass, segment, row)
+    }
+
+    /// Looks along the chain of a key for an item in a segment of the pass's own that is in use, and
+    /// returns its row. So a caller who found the bucket full knows which `evict_row` frees a word.
+    /// It is an item that has expired at this moment, if there is one, and else one of the lowest
+    /// frequency.
+    pub fn own_to_evict(&self, pass: &mut Pass, key: &Key, now: u32) -> Option<RowRef>
+        requires quiet { IsQuiet (board_of self.now) pass.old }
+        ensures finds { FindsOwn (board_of self.now) result pass.old pass.new }
+    {
+        segevict::own_to_evict(&self.board, pass, key, now)
     }
 
     /// Takes out the keys of a segment as an evict does, but goes over its rows from this one on.

@@ -5,7 +5,8 @@ use Rattle.segword.specs.Words.{IsSameItem}
 use Rattle.segbase.proofs.Starting.{has_later}
 use Rattle.segbase.proofs.Stepping.{starts}
 use Rattle.segwrite.proofs.Places.{step_idles}
-use Rattle.segevict.proofs.Seeking.{seeking_first, idles_looked, chain_looked, named_here, seeking_on, less_left, gone_at_end, one_more, place_left}
+use Rattle.segevict.proofs.Seeking.{seeking_first, idles_looked, named_here, seeking_on, gone_at_end}
+use Rattle.segevict.proofs.Walking.{chain_looked, less_left, one_more, place_left}
 use Rattle.segevict.proofs.row.find_row.Goals as goal
 
 pub loop-place-init : goal.loop-place-init
@@ -22,7 +23,7 @@ pub returns-then-same_item-clause-finds : goal.returns-then-same_item-clause-fin
 returns-then-same_item-clause-finds c = let l = c.look-word in let b = c.args.board.now in
     let look = step_idles b _ _ _ _ l.ensures.step l.ensures.did in
     let same = subst (IsSameItem l.result) c.pack-sought.ensures (c.same_item.ensures.0 c.if-same_item.true) in record {
-      chain = chain_looked b c.args.bucket c.args.item _ _ _ _ l.result c.loop-place.invariant.seeking look l.ensures.reads;
+      chain = chain_looked b c.args.bucket _ _ _ l.result c.loop-place.invariant.seeking.chain look l.ensures.reads;
       named = named_here b c.args.bucket c.args.item _ _ _ _ l.result c.loop-place.invariant.seeking look l.ensures.reads same;
       reads = l.ensures.found;
       same = same;
@@ -30,8 +31,8 @@ returns-then-same_item-clause-finds c = let l = c.look-word in let b = c.args.bo
 
 pub loop-place-smaller : goal.loop-place-smaller
 loop-place-smaller c = let l = c.look-word in let b = c.args.board.now in
-    less_left b c.args.bucket c.args.item _ _ _ _ l.result c.loop-place.invariant.seeking (step_idles b _ _ _ _ l.ensures.step l.ensures.did) l.ensures.reads c.next_place.result
-    (λ same. both_ways _ c.if-same_item.false (c.same_item.ensures.1 (subst (IsSameItem l.result) (sym c.pack-sought.ensures) same))) c.next_place.ensures c.in-Some.next c.in-Some.is
+    less_left b c.args.bucket _ _ _ l.result c.loop-place.invariant.seeking.chain (step_idles b _ _ _ _ l.ensures.step l.ensures.did) l.ensures.reads
+    c.next_place.result c.next_place.ensures c.in-Some.next c.in-Some.is
 
 pub loop-place-preserved : goal.loop-place-preserved
 loop-place-preserved c = let l = c.look-word in let b = c.args.board.now in
@@ -42,10 +43,8 @@ loop-place-preserved c = let l = c.look-word in let b = c.args.board.now in
           (c.same_item.ensures.1 (subst (IsSameItem l.result) (sym c.pack-sought.ensures) same)))
           c.next_place.ensures c.in-Some.next c.in-Some.is;
       steps = (let before = c.loop-place.invariant.steps in
-          let more = one_more b c.args.bucket c.args.item _ _ _ _ l.result c.loop-place.invariant.seeking
+          let more = one_more b c.args.bucket _ _ _ l.result c.loop-place.invariant.seeking.chain
           (step_idles b _ _ _ _ l.ensures.step l.ensures.did) l.ensures.reads c.next_place.result
-          (λ same. both_ways _ c.if-same_item.false
-          (c.same_item.ensures.1 (subst (IsSameItem l.result) (sym c.pack-sought.ensures) same)))
           c.next_place.ensures c.in-Some.next c.in-Some.is in omega (arith, before, one, more));
     }
 

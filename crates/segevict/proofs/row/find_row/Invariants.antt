@@ -1,7 +1,8 @@
 use Rattle.std.proofs.Common.{◌-◌}
 use Rattle.segbase.specs.Words.{position, trace}
 use Rattle.segstore.specs.Words.{TakesAtMost}
-use Rattle.segevict.proofs.Seeking.{Seeking, words_before}
+use Rattle.segevict.proofs.Seeking.{Seeking}
+use Rattle.segevict.proofs.Walking.{words_before}
 use Rattle.segevict.proofs.row.find_row.Given as goal
 
 abbrev pub decreases-loop-place : goal.decreases-loop-place
