@@ -15,7 +15,7 @@ use Rattle.segevict.proofs.RowsOut.{goes_then}
 use Rattle.segindex.specs.Refilling.{RefillsSegment}
 use Rattle.segtally.specs.Recycling.{evicted_by, refilled_by}
 use Rattle.segclient.specs.declared.effort.Effort.{Effort}
-use Rattle.segclient.specs.PutCalls.{PutCall, sets, evicts, keeps, refills, Plan, came_to, refilled_segments, kept_items, evicted_keys, IsRefused, IsCall, IsInWindow, Makes, room_plan}
+use Rattle.segclient.specs.PutCalls.{PutCall, sets, evicts, keeps, refills, finds_own, takes_out, Plan, came_to, refilled_segments, kept_items, evicted_keys, IsRefused, IsCall, IsInWindow, Makes, room_plan}
 use Rattle.segclient.specs.PutParts.{Arranges, effort_from, IsEffort}
 
 -- ---- some calls and then more
@@ -34,6 +34,8 @@ refused_then segment (refills other refill.Held ∷ later) earlier (inl here) = 
 refused_then segment (refills other refill.Held ∷ later) earlier (inr before) = inr (refused_then segment later earlier before)
 refused_then segment (refills other refill.NotYours ∷ later) earlier is = refused_then segment later earlier is
 refused_then segment (refills other refill.NotEvicted ∷ later) earlier is = refused_then segment later earlier is
+refused_then segment (finds_own found ∷ later) earlier is = refused_then segment later earlier is
+refused_then segment (takes_out other row told ∷ later) earlier is = refused_then segment later earlier is
 
 module _ (b : Board) (plan : Plan) where
   pub none_made : (p : Pass) → Makes b plan [] p p
@@ -62,6 +64,8 @@ module _ (b : Board) (plan : Plan) where
   call_on (evicts segment told) p q is = is.1.on
   call_on (keeps segment row cutoff told) p q is = is.2.on
   call_on (refills segment told) p q is = is.1.on
+  call_on (finds_own found) p q is = is.1.on
+  call_on (takes_out segment row told) p q is = is.2.on
 
   pub makes_on : (calls : List PutCall) (p q : Pass) → IsQuiet b p → Makes b plan calls p q → GoesOn b p q
   unfolding Makes
@@ -114,6 +118,8 @@ module _ (b : Board) (from to : Plan) (within : IsWithin from to) where
   call_within (evicts segment told) p q is = is
   call_within (keeps segment row cutoff told) p q is = (is.0, (is.1.0, within.cutoff is.1.0 is.1.1, is.1.2), is.2)
   call_within (refills segment told) p q is = (is.0, subst (λ deadline. RefillsSegment b segment deadline told p q) within.deadline is.1)
+  call_within (finds_own found) p q is = ((is.0.0, within.request is.0.0 is.0.1), is.1)
+  call_within (takes_out segment row told) p q is = ((is.0.0, within.request is.0.0 is.0.1), is.1, is.2)
 
   pub makes_within : (calls : List PutCall) (p q : Pass) → Makes b from calls p q → Makes b to calls p q
   unfolding Makes

@@ -4,7 +4,7 @@ use Rattle.segword.specs.Words.{Shape}
 use Rattle.segmodel.specs.declared.answer.DeleteAnswer.TheVariants as delete
 use Rattle.segmodel.specs.declared.answer.RefillAnswer.TheVariants as refill
 use Rattle.segmodel.specs.declared.answer.WriteAnswer.TheVariants as write
-use Rattle.segmodel.specs.declared.entry.Entry.TheVariants.{Refilled, Wrote}
+use Rattle.segmodel.specs.declared.entry.Entry.TheVariants.{Evicted, Refilled, Wrote}
 use Rattle.segmodel.specs.declared.request.Request.TheVariants.{Set}
 use Rattle.segmodel.specs.Words.{DeleteAnswer, Entry, RefillAnswer, Reply, Request, WriteAnswer}
 use Rattle.segbase.specs.Words.{Board, mine, number, Pass, trace}
@@ -15,6 +15,11 @@ use Rattle.segread.specs.Holds.{HoldsItem, NoneFills, ReadsRow}
 use Rattle.segstore.specs.Words.{GoesOn, IsQuiet}
 use Rattle.segstore.proofs.Idling.{goes_same}
 use Rattle.segwrite.specs.Words.{Deletes, Writes}
+use Rattle.segevict.specs.declared.eviction.EvictRowAnswer.{EvictRowAnswer}
+use Rattle.segevict.specs.declared.eviction.EvictRowAnswer.TheVariants as evict_row
+use Rattle.segevict.specs.Words.{EvictsItem, FindsOwn}
+use Rattle.segstore.proofs.Idling.{does_nothing}
+use Rattle.segstore.specs.declared.row.RowRef.{RowRef}
 use Rattle.segindex.specs.Refilling.{RefillsSegment}
 use Rattle.segindex.specs.Sharing.{ReadsKept, ReleasesKept}
 use Rattle.segindex.specs.Words.{board_of, Index, shape_of}
@@ -26,7 +31,7 @@ use Rattle.segclient.specs.declared.put.PutAnswer.{PutAnswer}
 use Rattle.segclient.specs.declared.put.PutAnswer.TheVariants as put
 use Rattle.segclient.specs.Clearing.{comes_to, IsCleared}
 use Rattle.segclient.specs.Member.{IsMember}
-use Rattle.segclient.specs.PutCalls.{PutCall, sets, evicts, keeps, refills, Plan, Makes}
+use Rattle.segclient.specs.PutCalls.{PutCall, sets, evicts, keeps, refills, finds_own, takes_out, Plan, Makes}
 use Rattle.segclient.specs.PutParts.{AreSets, busy_sets, Sets, SetsIfTimely}
 use Rattle.segclient.proofs.Calls.{makes_on}
 use Rattle.segclient.proofs.Items.{way_kept}
@@ -98,6 +103,22 @@ module _ (b : Board) (p q : Pass) (quiet : IsQuiet b p) where
   hold_stays key now hold_answer.Busy holds = nothing_stays b p q quiet holds.on holds.answer.0.entries
   hold_stays key now hold_answer.AlreadyHolding holds = stays_same b.shape p q holds.answer
 
+  -- a look for an own item
+  pub look_stays : (found : Option RowRef) → FindsOwn b found p q → StaysCleared b.shape p q
+  look_stays found finds = nothing_stays b p q quiet finds.on (does_nothing b p q quiet finds.idles.moved finds.idles.plain finds.idles.memo).entries
+
+  -- an evict of one row
+  pub row_out_stays : (segment row : ℕ) (told : EvictRowAnswer) → EvictsItem b segment row told p q → StaysCleared b.shape p q
+  row_out_stays segment row evict_row.Evicted out = stays_over b p q quiet out.on (Evicted (number p) out.answer.0.key segment ∷ []) out.answer.0.entry
+      (λ other. ((λ pass deadline same. apart out.answer.0.key pass other deadline same), tt))
+    where
+      apart : (key : List ℕ) (pass other deadline : ℕ) → Evicted (number p) key segment ≢ Refilled pass other deadline
+      apart key pass other deadline same = cc
+  row_out_stays segment row evict_row.Left out = nothing_stays b p q quiet out.on out.answer.0.entries
+  row_out_stays segment row evict_row.Busy out = nothing_stays b p q quiet out.on out.answer.0.entries
+  row_out_stays segment row evict_row.NotYours out = stays_same b.shape p q out.answer
+  row_out_stays segment row evict_row.NotUsed out = stays_same b.shape p q out.answer
+
   -- a refill of another segment
   pub refill_stays : (segment deadline : ℕ) (told : RefillAnswer) (source : Option SourceSegment)
       → ((one : SourceSegment) → source ≡ Some one → one.segment ≢ segment) → RefillsSegment b segment deadline told p q
@@ -136,6 +157,8 @@ module _ (b : Board) (plan : Plan) where
   only_stay (evicts segment told ∷ calls) p q quiet only made = absurd only
   only_stay (keeps segment row cutoff told ∷ calls) p q quiet only made = absurd only
   only_stay (refills segment told ∷ calls) p q quiet only made = absurd only
+  only_stay (finds_own found ∷ calls) p q quiet only made = absurd only
+  only_stay (takes_out segment row told ∷ calls) p q quiet only made = absurd only
 
   pub sets_stay : (told : PutAnswer) (p q : Pass) → IsQuiet b p → Sets b plan told p q → StaysCleared b.shape p q
   sets_stay told p q quiet made = only_stay made.calls p q quiet (are_only told made.calls made.are) made.makes

@@ -106,6 +106,7 @@ made_put i time key value told policy old new chosen member is chooses ended =
       stored = put_for b plan (number chosen) rows told whole.calls chosen q from.on.quiet whole.answer whole.makes;
       not_stored = whole.not_stored;
       tries = whole.tries;
+      full = whole.full;
       spares = whole.spares;
       steps = ends.steps;
       clears = clears;

@@ -1,24 +1,25 @@
 -- A put's calls as a whole: sets, and room made between them.
-use Rattle.std.proofs.Common.{◌≡◌, ◌≢◌, ◌⊎◌, ℕ, zero, suc, ◌+◌, ◌≤◌, Bool, true, false, List, [], ◌∷◌, ◌++◌, length, Option, refl, sym, ap, ◌∙◌, subst, inl, inr, append_assoc, length-append, arith}
-use Rattle.std.specs.Prelude.{Contains}
+use Rattle.std.proofs.Common.{◌≡◌, ◌≢◌, ◌⊎◌, ℕ, zero, suc, ◌+◌, ◌≤◌, Bool, true, false, List, [], ◌∷◌, ◌++◌, length, All, Option, refl, sym, ap, ◌∙◌, subst, inl, inr, append_assoc, length-append, arith}
 use Rattle.std.proofs.lemmas.Bool.{false≢true}
 use Rattle.std.proofs.lemmas.List.{append-nil}
-use Rattle.std.proofs.lemmas.List.Elements.{All-append, All-cons, All-nil, Contains-append_left, Contains-append_right, Contains-push}
+use Rattle.std.proofs.lemmas.List.Elements.{All-append, All-cons, All-nil}
 use Rattle.std.proofs.lemmas.Option.{none-some}
 use Rattle.segword.specs.Words.{Shape}
 use Rattle.segmodel.specs.declared.answer.WriteAnswer.TheVariants as write
 use Rattle.segmodel.specs.declared.request.Request.TheVariants.{Set}
 use Rattle.segmodel.specs.Words.{EvictAnswer, WriteAnswer}
+use Rattle.segstore.specs.declared.row.RowRef.{RowRef}
+use Rattle.segevict.specs.declared.eviction.EvictRowAnswer.{EvictRowAnswer}
 use Rattle.segbase.specs.Words.{Board, number, Pass}
 use Rattle.segstore.specs.Words.{has_room_for}
 use Rattle.segclient.specs.declared.put.PutAnswer.{PutAnswer}
 use Rattle.segclient.specs.declared.put.PutAnswer.TheVariants as put
 use Rattle.segclient.specs.declared.effort.Effort.{Effort}
-use Rattle.segclient.specs.PutCalls.{PutCall, sets, evicts, keeps, refills, Plan, Makes, room_plan, rows_asked}
-use Rattle.segclient.specs.PutParts.{AreOpen, AreSets, busy_sets, effort_from, Empties, EndsSo, IsEffort, is_outside, MakesPut, MakesRows, Sets, SetsIfTimely, WasEmptied}
-use Rattle.segclient.specs.Putting.{last_sets, SetsAtMost16, SetsUntilFull}
-use Rattle.segclient.proofs.Calls.{both, effort_more, effort_one, effort_then, no_effort, made_same, makes_same, makes_then, makes_within, one_more, refused_then, room_within, last_of, evicted_came}
-use Rattle.segclient.proofs.Runs.{apart_then, evict_then, few_sets, no_last, room_then, sets_then}
+use Rattle.segclient.specs.PutCalls.{PutCall, sets, evicts, keeps, refills, finds_own, takes_out, is_for_room, is_for_word, is_set, Plan, Makes, room_plan, rows_asked}
+use Rattle.segclient.specs.PutParts.{AreOpen, AreSets, AreUntilFull, busy_sets, effort_from, EndsSo, IsEffort, is_outside, MakesPut, MakesRows, Sets, SetsIfTimely}
+use Rattle.segclient.specs.Putting.{AreNotFull, last_sets, MakesNoRoom, SetsAtMost16}
+use Rattle.segclient.proofs.Calls.{both, effort_more, effort_then, no_effort, made_same, makes_same, makes_then, makes_within, refused_then, room_within, last_of}
+use Rattle.segclient.proofs.Runs.{apart_then, few_sets, room_then, sets_then}
 
 -- ---- calls that don't store
 
@@ -46,6 +47,12 @@ busy_apart e = cc
 evict_apart : (segment : ℕ) (told : EvictAnswer) → evicts segment told ≢ sets write.Stored
 evict_apart segment told e = cc
 
+pub look_apart : (found : Option RowRef) → finds_own found ≢ sets write.Stored
+look_apart found e = cc
+
+pub out_apart : (segment row : ℕ) (told : EvictRowAnswer) → takes_out segment row told ≢ sets write.Stored
+out_apart segment row told e = cc
+
 pub full_stored : put.BucketFull ≢ put.Stored
 full_stored e = cc
 
@@ -71,6 +78,10 @@ room_open b cutoff deadline (keeps segment row by told ∷ earlier) p q makes =
 room_open b cutoff deadline (refills segment told ∷ earlier) p q makes =
     let last = last_of b (room_plan cutoff deadline) (refills segment told) earlier p q makes in
     open_more (refills segment told) earlier (λ e. cc) (room_open b cutoff deadline earlier p last.0 last.1)
+room_open b cutoff deadline (finds_own found ∷ earlier) p q makes =
+    let last = last_of b (room_plan cutoff deadline) (finds_own found) earlier p q makes in absurd (none-some last.2.0.0 last.2.0.1)
+room_open b cutoff deadline (takes_out segment row told ∷ earlier) p q makes =
+    let last = last_of b (room_plan cutoff deadline) (takes_out segment row told) earlier p q makes in absurd (none-some last.2.0.0 last.2.0.1)
 
 -- ---- sets in a row
 
@@ -93,19 +104,19 @@ effort_busy (suc busy) = effort_more (sets write.Busy) (busy_sets busy) (effort_
 effort_set : (told : WriteAnswer) (busy : ℕ) → IsEffort (sets told ∷ busy_sets busy) (effort_from 0 0 0)
 effort_set told busy = effort_more (sets told) (busy_sets busy) (effort_from 0 0 0) (effort_busy busy)
 
-effort_sets : (told : PutAnswer) (calls : List PutCall) → AreSets told calls → IsEffort calls (effort_from 0 0 0)
+pub effort_sets : (told : PutAnswer) (calls : List PutCall) → AreSets told calls → IsEffort calls (effort_from 0 0 0)
 effort_sets put.Stored calls (busy, is) = subst (λ l. IsEffort l (effort_from 0 0 0)) (sym is) (effort_set write.Stored busy)
 effort_sets put.NoRoom calls (busy, is) = subst (λ l. IsEffort l (effort_from 0 0 0)) (sym is) (effort_set write.NoRoom busy)
 effort_sets put.BucketFull calls (busy, is) = subst (λ l. IsEffort l (effort_from 0 0 0)) (sym is) (effort_set write.BucketFull busy)
 effort_sets put.Busy calls is = subst (λ l. IsEffort l (effort_from 0 0 0)) (sym is) (effort_busy 16)
 
-ends_sets : (shape : Shape) (pass rows : ℕ) (told : PutAnswer) (calls : List PutCall) → told ≢ put.NoRoom → AreSets told calls → EndsSo shape pass rows told calls
+pub ends_sets : (shape : Shape) (pass rows : ℕ) (told : PutAnswer) (calls : List PutCall) → told ≢ put.NoRoom → AreSets told calls → EndsSo shape pass rows told calls
 ends_sets shape pass rows put.Stored calls other (busy, is) = (busy_sets busy, is, busy_open busy)
 ends_sets shape pass rows put.NoRoom calls other is = absurd (other refl)
 ends_sets shape pass rows put.BucketFull calls other is = ((busy_sets is.0, is.1), sets_open put.BucketFull calls full_stored is)
 ends_sets shape pass rows put.Busy calls other is = (([], is ∙ sym (append-nil (busy_sets 16))), sets_open put.Busy calls busy_stored is)
 
-ends_then : (shape : Shape) (from to rows : ℕ) (told : PutAnswer) (later earlier : List PutCall) → to ≡ from → AreOpen earlier
+pub ends_then : (shape : Shape) (from to rows : ℕ) (told : PutAnswer) (later earlier : List PutCall) → to ≡ from → AreOpen earlier
     → EndsSo shape to rows told later → EndsSo shape from rows told (later ++ earlier)
 ends_then shape from to rows put.Stored later earlier same are (rest, is, goes) = (rest ++ earlier, ap (λ l. l ++ earlier) is, open_then rest earlier goes are)
 ends_then shape from to rows put.NoRoom later earlier same are (refused, goes) =
@@ -114,35 +125,69 @@ ends_then shape from to rows put.BucketFull later earlier same are ((rest, is), 
 ends_then shape from to rows put.Busy later earlier same are ((rest, is), goes) =
     ((rest ++ earlier, ap (λ l. l ++ earlier) is ∙ append_assoc (busy_sets 16) rest earlier), open_then later earlier goes are)
 
--- ---- no room until the bucket was full
+-- ---- calls at a full bucket
 
-until_busy : (busy : ℕ) → SetsUntilFull (busy_sets busy)
-unfolding busy_sets SetsUntilFull
-until_busy zero = tt
-until_busy (suc busy) = until_busy busy
+abbrev IsNotFull : PutCall → Type 0
+IsNotFull call = is_for_word call ≡ false
 
-until_set : (told : WriteAnswer) (busy : ℕ) → SetsUntilFull (sets told ∷ busy_sets busy)
-unfolding SetsUntilFull
-until_set told busy = until_busy busy
+pub not_full_then : (later earlier : List PutCall) → AreNotFull later → AreNotFull earlier → AreNotFull (later ++ earlier)
+not_full_then later earlier then first = All-append IsNotFull later earlier then first
 
-until_sets : (told : PutAnswer) (calls : List PutCall) → AreSets told calls → SetsUntilFull calls
-until_sets put.Stored calls (busy, is) = subst SetsUntilFull (sym is) (until_set write.Stored busy)
-until_sets put.NoRoom calls (busy, is) = subst SetsUntilFull (sym is) (until_set write.NoRoom busy)
-until_sets put.BucketFull calls (busy, is) = subst SetsUntilFull (sym is) (until_set write.BucketFull busy)
-until_sets put.Busy calls is = subst SetsUntilFull (sym is) (until_busy 16)
+-- those of room aren't
+pub room_not_full : (b : Board) (cutoff : Option ℕ) (deadline : ℕ) (calls : List PutCall) (p q : Pass) → Makes b (room_plan cutoff deadline) calls p q → AreNotFull calls
+room_not_full b cutoff deadline [] p q makes = All-nil IsNotFull
+room_not_full b cutoff deadline (sets told ∷ earlier) p q makes =
+    let last = last_of b (room_plan cutoff deadline) (sets told) earlier p q makes in absurd (none-some (Set last.2.0 last.2.1 last.2.2) last.2.3)
+room_not_full b cutoff deadline (evicts segment told ∷ earlier) p q makes =
+    let last = last_of b (room_plan cutoff deadline) (evicts segment told) earlier p q makes in
+    All-cons IsNotFull (evicts segment told) earlier refl (room_not_full b cutoff deadline earlier p last.0 last.1)
+room_not_full b cutoff deadline (keeps segment row by told ∷ earlier) p q makes =
+    let last = last_of b (room_plan cutoff deadline) (keeps segment row by told) earlier p q makes in
+    All-cons IsNotFull (keeps segment row by told) earlier refl (room_not_full b cutoff deadline earlier p last.0 last.1)
+room_not_full b cutoff deadline (refills segment told ∷ earlier) p q makes =
+    let last = last_of b (room_plan cutoff deadline) (refills segment told) earlier p q makes in
+    All-cons IsNotFull (refills segment told) earlier refl (room_not_full b cutoff deadline earlier p last.0 last.1)
+room_not_full b cutoff deadline (finds_own found ∷ earlier) p q makes =
+    let last = last_of b (room_plan cutoff deadline) (finds_own found) earlier p q makes in absurd (none-some last.2.0.0 last.2.0.1)
+room_not_full b cutoff deadline (takes_out segment row told ∷ earlier) p q makes =
+    let last = last_of b (room_plan cutoff deadline) (takes_out segment row told) earlier p q makes in absurd (none-some last.2.0.0 last.2.0.1)
 
-until_evict : (segment : ℕ) (told : EvictAnswer) (earlier : List PutCall) → Contains earlier (sets write.BucketFull) → SetsUntilFull earlier → SetsUntilFull (evicts segment told ∷ earlier)
-unfolding SetsUntilFull
-until_evict segment told earlier full are = (full, are)
+-- sets that were Busy are of no other kind
+busy_all : (Is : PutCall → Type 0) → Is (sets write.Busy) → (busy : ℕ) → All Is (busy_sets busy)
+unfolding busy_sets
+busy_all Is is zero = All-nil Is
+busy_all Is is (suc busy) = All-cons Is (sets write.Busy) (busy_sets busy) is (busy_all Is is busy)
 
--- calls before which a set found it full
-until_then : (later earlier : List PutCall) → Contains earlier (sets write.BucketFull) → SetsUntilFull earlier → SetsUntilFull (later ++ earlier)
-unfolding SetsUntilFull
-until_then [] earlier full are = are
-until_then (sets told ∷ later) earlier full are = until_then later earlier full are
-until_then (evicts segment told ∷ later) earlier full are = (Contains-append_right later earlier (sets write.BucketFull) full, until_then later earlier full are)
-until_then (keeps segment row by told ∷ later) earlier full are = (Contains-append_right later earlier (sets write.BucketFull) full, until_then later earlier full are)
-until_then (refills segment told ∷ later) earlier full are = (Contains-append_right later earlier (sets write.BucketFull) full, until_then later earlier full are)
+-- nor are sets in a row
+sets_all : (Is : PutCall → Type 0) → ((told : WriteAnswer) → Is (sets told)) → (told : PutAnswer) (calls : List PutCall) → AreSets told calls → All Is calls
+sets_all Is is put.Stored calls (busy, are) = subst (All Is) (sym are) (All-cons Is (sets write.Stored) (busy_sets busy) (is write.Stored) (busy_all Is (is write.Busy) busy))
+sets_all Is is put.NoRoom calls (busy, are) = subst (All Is) (sym are) (All-cons Is (sets write.NoRoom) (busy_sets busy) (is write.NoRoom) (busy_all Is (is write.Busy) busy))
+sets_all Is is put.BucketFull calls (busy, are) = subst (All Is) (sym are) (All-cons Is (sets write.BucketFull) (busy_sets busy) (is write.BucketFull) (busy_all Is (is write.Busy) busy))
+sets_all Is is put.Busy calls are = subst (All Is) (sym are) (busy_all Is (is write.Busy) 16)
+
+pub are_sets : (told : PutAnswer) (calls : List PutCall) → AreSets told calls → All (λ call. is_set call ≡ true) calls
+are_sets told calls are = sets_all (λ call. is_set call ≡ true) (λ other. refl) told calls are
+
+pub no_room_by_sets : (told : PutAnswer) (calls : List PutCall) → AreSets told calls → MakesNoRoom calls
+no_room_by_sets told calls are = sets_all (λ call. is_for_room call ≡ false) (λ other. refl) told calls are
+
+busy_not_full : (busy : ℕ) → AreNotFull (busy_sets busy)
+busy_not_full busy = busy_all IsNotFull refl busy
+
+until_sets : (told : PutAnswer) (calls : List PutCall) → AreSets told calls → AreUntilFull told calls
+until_sets put.Stored calls (busy, is) = subst AreNotFull (sym is) (All-cons IsNotFull (sets write.Stored) (busy_sets busy) refl (busy_not_full busy))
+until_sets put.NoRoom calls (busy, is) = subst AreNotFull (sym is) (All-cons IsNotFull (sets write.NoRoom) (busy_sets busy) refl (busy_not_full busy))
+until_sets put.BucketFull calls (busy, is) = (busy_sets busy, is, busy_not_full busy)
+until_sets put.Busy calls is = subst AreNotFull (sym is) (busy_not_full 16)
+
+until_then : (told : PutAnswer) (later earlier : List PutCall) → AreUntilFull told later → AreNotFull earlier → AreUntilFull told (later ++ earlier)
+until_then put.Stored later earlier then first = not_full_then later earlier then first
+until_then put.NoRoom later earlier then first = not_full_then later earlier then first
+until_then put.BucketFull later earlier (rest, is, then) first = (rest ++ earlier, ap (λ l. l ++ earlier) is, not_full_then rest earlier then first)
+until_then put.Busy later earlier then first = not_full_then later earlier then first
+
+pub no_room_full : put.NoRoom ≢ put.BucketFull
+no_room_full e = cc
 
 -- ---- efforts
 
@@ -155,6 +200,8 @@ as_many b plan most total told first effort p q enough same puts = record {
   few = let few = puts.few in omega (arith, few, enough);
   comes = subst (IsEffort puts.calls) same puts.comes;
   ends = puts.ends;
+  until = puts.until;
+  full = puts.full;
   tries = puts.tries;
   spares = puts.spares;
 }
@@ -188,6 +235,7 @@ module _ (b : Board) (plan : Plan) where
     pub makes : Makes b plan calls p q
     pub few : length calls ≤ most
     pub all_open : AreOpen calls
+    pub not_full : AreNotFull calls
     pub comes : IsEffort calls effort
     pub lacks : is_outside plan.window p ≡ false → has_room_to p ≡ true → ⊥
     pub tries : SetsAtMost16 calls
@@ -200,6 +248,7 @@ module _ (b : Board) (plan : Plan) where
     makes = made_same b plan p q same;
     few = omega arith;
     all_open = open_none;
+    not_full = All-nil IsNotFull;
     comes = no_effort;
     lacks = λ fresh left. false≢true (sym fresh ∙ late);
     tries = few_sets [] (omega arith);
@@ -210,6 +259,7 @@ module _ (b : Board) (plan : Plan) where
     makes = one.makes;
     few = one.few;
     all_open = sets_open put.NoRoom one.calls no_room_stored one.are;
+    not_full = until_sets put.NoRoom one.calls one.are;
     comes = effort_sets put.NoRoom one.calls one.are;
     lacks = λ fresh left. false≢true (sym (one.no_room refl).0 ∙ left);
     tries = few_sets one.calls one.few;
@@ -225,8 +275,10 @@ module _ (b : Board) (plan : Plan) where
     few = let few = one.few in omega (arith, few, enough);
     comes = effort_sets told one.calls one.are;
     ends = ends_sets b.shape (number p) (rows_asked plan.request) told one.calls other one.are;
+    until = until_sets told one.calls one.are;
+    full = one.full;
     tries = few_sets one.calls one.few;
-    spares = λ fresh left. until_sets told one.calls one.are;
+    spares = λ fresh left. no_room_by_sets told one.calls one.are;
   }
 
   module _ (most : ℕ) (first : Effort) (p q r : Pass) (one : GoesOnSo most first p q) where
@@ -245,6 +297,7 @@ module _ (b : Board) (plan : Plan) where
         makes = makes_then b plan room.arranges.calls one.calls p q r one.makes wide;
         few = let long = length-append room.arranges.calls one.calls in let x = one.few in let y = room.arranges.few in omega (arith, long, x, y);
         all_open = open_then room.arranges.calls one.calls (room_open b plan.cutoff plan.deadline room.arranges.calls q r room.arranges.makes) one.all_open;
+        not_full = not_full_then room.arranges.calls one.calls (room_not_full b plan.cutoff plan.deadline room.arranges.calls q r room.arranges.makes) one.not_full;
         comes = effort_then room.arranges.calls one.calls first effort one.comes room.arranges.comes;
         lacks = one.lacks;
         tries = room_then b plan.cutoff plan.deadline room.arranges.calls one.calls q r room.arranges.makes one.tries;
@@ -261,6 +314,8 @@ module _ (b : Board) (plan : Plan) where
           λ fits segment own. refused_then segment room.arranges.calls one.calls (room.refused none fits segment (own ∙ sym (makes_same b plan one.calls p q one.makes))),
           room_on.all_open,
         );
+        until = room_on.not_full;
+        full = λ e. absurd (no_room_full e);
         tries = room_on.tries;
         spares = λ fresh left. absurd (one.lacks fresh left);
       }
@@ -278,39 +333,8 @@ module _ (b : Board) (plan : Plan) where
       comes = subst (IsEffort (last.calls ++ one.calls)) (more_none first) (effort_then last.calls one.calls first (effort_from 0 0 0) one.comes (effort_sets told last.calls last.are));
       ends = ends_then b.shape (number p) (number q) (rows_asked plan.request) told last.calls one.calls (makes_same b plan one.calls p q one.makes) one.all_open
           (ends_sets b.shape (number q) (rows_asked plan.request) told last.calls other last.are);
+      until = until_then told last.calls one.calls (until_sets told last.calls last.are) one.not_full;
+      full = last.full;
       tries = sets_then last.calls one.calls (apart_of one.apart left) (few_sets last.calls last.few) one.tries;
       spares = λ fresh left. absurd (one.lacks fresh left);
     }
-
-  -- a put whose bucket was full, and that went on once a segment was evicted
-  pub whole : (most total : ℕ) (told : PutAnswer) (first out last effort : Effort) (p q r t : Pass) → most + 1 + most ≤ total → both (both first out) last ≡ effort
-      → MakesPut b plan most put.BucketFull first p q → Empties b out q r → MakesPut b plan most told last r t
-      → (puts : MakesPut b plan total told effort p t) × (told ≡ put.BucketFull → WasEmptied puts.calls)
-  whole most total told first out last effort p q r t enough sum full empties then =
-      let segment = empties.segment in
-      let answer = empties.told in
-      let own = empties.own ∙ makes_same b plan full.calls p q full.makes in
-      let makes = one_more b plan (evicts segment answer) full.calls p q r full.makes (empties.own, empties.evicts) in
-      let was_full = subst (λ l. Contains l (sets write.BucketFull)) (sym full.ends.0.1)
-      (Contains-append_left (sets write.BucketFull ∷ []) full.ends.0.0 (sets write.BucketFull)
-      (Contains-push [] (sets write.BucketFull))) in
-      let alone : IsEffort (evicts segment answer ∷ []) out =
-      effort_one (evicts segment answer) out (ap (λ (e : Effort). e.refilled) empties.comes)
-      (ap (λ (e : Effort). e.kept) empties.comes) (ap (λ (e : Effort). e.keys) empties.comes
-      ∙ evicted_came segment answer) in (
-        record {
-          calls = then.calls ++ evicts segment answer ∷ full.calls;
-          makes = makes_then b plan then.calls (evicts segment answer ∷ full.calls) p r t makes then.makes;
-          few = let long = length-append then.calls (evicts segment answer ∷ full.calls) in let x = full.few in let y = then.few in omega (arith, long, x, y, enough);
-          comes = subst (IsEffort (then.calls ++ evicts segment answer ∷ full.calls)) sum
-              (effort_then then.calls (evicts segment answer ∷ full.calls) (both first out) last (effort_then (evicts segment answer ∷ []) full.calls first out full.comes alone) then.comes);
-          ends = ends_then b.shape (number p) (number r) (rows_asked plan.request) told then.calls (evicts segment answer ∷ full.calls)
-              (makes_same b plan (evicts segment answer ∷ full.calls) p r makes)
-              (open_more (evicts segment answer) full.calls (evict_apart segment answer) full.ends.1) then.ends;
-          tries = sets_then then.calls (evicts segment answer ∷ full.calls) (no_last segment answer full.calls) then.tries (evict_then segment answer full.calls full.tries);
-          spares = λ fresh left. until_then then.calls (evicts segment answer ∷ full.calls)
-              (Contains-append_right (evicts segment answer ∷ []) full.calls (sets write.BucketFull) was_full)
-              (until_evict segment answer full.calls was_full (full.spares fresh left));
-        },
-        λ again. (then.calls, segment, answer, full.ends.0.0, ap (λ l. then.calls ++ evicts segment answer ∷ l) full.ends.0.1),
-      )

@@ -1,5 +1,5 @@
 -- What a put comes to, by its calls and the steps after them.
-use Rattle.std.proofs.Common.{◌≡◌, ℕ, ◌≤◌, List, [], ◌∷◌, ◌++◌, Some, inl, inr, refl, sym, ap, ◌∙◌, subst, arith}
+use Rattle.std.proofs.Common.{◌≡◌, ℕ, ◌≤◌, List, [], ◌∷◌, ◌++◌, None, Some, inl, inr, refl, sym, ap, ◌∙◌, subst, arith}
 use Rattle.std.specs.Prelude.{replicate}
 use Rattle.std.proofs.lemmas.Option.{same_Some}
 use Rattle.segword.specs.Words.{Shape, span_of}
@@ -9,7 +9,7 @@ use Rattle.segmodel.specs.declared.answer.WriteAnswer.TheVariants as write
 use Rattle.segmodel.specs.declared.entry.Entry.TheVariants.{Wrote}
 use Rattle.segmodel.specs.declared.request.Reply.TheVariants.{Stored}
 use Rattle.segmodel.specs.declared.request.Request.TheVariants.{Set}
-use Rattle.segmodel.specs.Words.{after, bucket_of, Entry, EvictAnswer, IsBetween, mine as mine_in, Request, WriteAnswer}
+use Rattle.segmodel.specs.Words.{after, bucket_of, Entry, IsBetween, mine as mine_in, Request, WriteAnswer}
 use Rattle.segbase.specs.declared.pass.PlainPart.{PlainPart}
 use Rattle.segbase.specs.Words.{Board, mine, number, Pass, seen}
 use Rattle.segstore.specs.Words.{GoesOn, IsBusy, IsQuiet}
@@ -24,13 +24,13 @@ use Rattle.segclient.specs.declared.segments.Window.{Window}
 use Rattle.segclient.specs.Clearing.{effort_of_steps}
 use Rattle.segclient.specs.Lives.{life_window}
 use Rattle.segclient.specs.Member.{IsMember}
-use Rattle.segclient.specs.PutCalls.{evicts, IsCall, IsInWindow, IsRefused, keeps, Makes, Plan, PutCall, refills, sets}
+use Rattle.segclient.specs.PutCalls.{evicts, finds_own, IsCall, IsInWindow, IsRefused, keeps, Makes, Plan, PutCall, refills, sets, takes_out}
 use Rattle.segclient.specs.PutLaws.{FoundFull, IsDenied, IsPutReason, PutCounts, PutGoesOn, PutIsRefused, PutLasts, Somewhen, StoresInWindow}
 use Rattle.segclient.specs.PutParts.{effort_of}
 use Rattle.segclient.specs.Puts.{PutsFor, StoredFor}
 use Rattle.segclient.specs.Putting.{IsPutAnswer}
 use Rattle.segclient.proofs.Added.{Chosen, chosen_on, put_adds}
-use Rattle.segclient.proofs.Calls.{call_on, last_of, makes_on, none_made, one_more}
+use Rattle.segclient.proofs.Calls.{call_on, last_of, makes_on}
 use Rattle.segclient.proofs.Steps.{clears_on}
 
 -- ---- the parts of a put
@@ -183,6 +183,10 @@ module _ (b : Board) where
         earlier_call (IsDenied b.shape segment) (refills other refill.NotYours) earlier p q quiet makes (λ r made. denied segment earlier p r quiet made is)
     denied segment (refills other refill.NotEvicted ∷ earlier) p q quiet makes is =
         earlier_call (IsDenied b.shape segment) (refills other refill.NotEvicted) earlier p q quiet makes (λ r made. denied segment earlier p r quiet made is)
+    denied segment (finds_own found ∷ earlier) p q quiet makes is =
+        earlier_call (IsDenied b.shape segment) (finds_own found) earlier p q quiet makes (λ r made. denied segment earlier p r quiet made is)
+    denied segment (takes_out other row told ∷ earlier) p q quiet makes is =
+        earlier_call (IsDenied b.shape segment) (takes_out other row told) earlier p q quiet makes (λ r made. denied segment earlier p r quiet made is)
 
   -- the write of a set of the put
   set_writes : (key value : List ℕ) (now : ℕ) (plan : Plan) (told : WriteAnswer) (p q : Pass)
@@ -194,38 +198,17 @@ module _ (b : Board) where
   full_last key value now plan asks earlier p q quiet makes =
       last_call plan (FoundFull b.shape key) (sets write.BucketFull) earlier p q quiet makes (λ start end is. (set_writes key value now plan write.BucketFull start end asks is).answer.2)
 
-  -- some calls, and then more
-  split : (plan : Plan) (later earlier : List PutCall) (p q : Pass) → Makes b plan (later ++ earlier) p q → (between : Pass) × Makes b plan earlier p between × Makes b plan later between q
-  split plan [] earlier p q makes = (q, makes, none_made b plan q)
-  split plan (call ∷ later) earlier p q makes =
-      let last = last_of b plan call (later ++ earlier) p q makes in
-      let before = split plan later earlier p last.0 last.1 in
-      (before.0, before.1, one_more b plan call later before.0 last.0 q before.2 last.2)
-
-  -- a set that found the bucket full, then an evict, and at last another set that did
-  full_twice : (key value : List ℕ) (now : ℕ) (plan : Plan) → plan.request ≡ Some (Set key value now)
-      → (later : List PutCall) (segment : ℕ) (told : EvictAnswer) (earlier : List PutCall) (p q : Pass) → IsQuiet b p
-      → Makes b plan (sets write.BucketFull ∷ later ++ evicts segment told ∷ sets write.BucketFull ∷ earlier) p q
-      → (between : Pass) × Somewhen b (FoundFull b.shape key) p between × Somewhen b (FoundFull b.shape key) between q
-  full_twice key value now plan asks later segment told earlier p q quiet makes =
-      let parts = split plan (sets write.BucketFull ∷ later) (evicts segment told ∷ sets write.BucketFull ∷ earlier) p q makes in
-      let evict = last_of b plan (evicts segment told) (sets write.BucketFull ∷ earlier) p parts.0 parts.1 in
-      let first = makes_on b plan (evicts segment told ∷ sets write.BucketFull ∷ earlier) p parts.0 quiet parts.1 in (
-        parts.0,
-        wider_call (FoundFull b.shape key) p p evict.0 parts.0 (goes_same b p quiet)
-            (full_last key value now plan asks earlier p evict.0 quiet evict.1)
-            (call_on b plan (evicts segment told) evict.0 parts.0 evict.2),
-        full_last key value now plan asks later parts.0 q first.quiet parts.2,
-      )
-
   -- why the calls of a put ended so
   pub ends : (key value : List ℕ) (now : ℕ) (plan : Plan) (n : ℕ) (told : PutAnswer) (calls : List PutCall) (p q : Pass)
       → plan.request ≡ Some (Set key value now) → number p ≡ n → IsQuiet b p → Makes b plan calls p q → IsPutAnswer b.shape n (span_of key value) told calls
       → IsPutReason b key value told p q
   ends key value now plan n put.Stored calls p q asks same quiet makes answer = tt
   ends key value now plan n put.NoRoom calls p q asks same quiet makes answer = λ fits segment own. denied plan segment calls p q quiet makes (answer fits segment (own ∙ same))
-  ends key value now plan n put.BucketFull calls p q asks same quiet makes (later, segment, told, earlier, is) =
-      full_twice key value now plan asks later segment told earlier p q quiet (subst (λ l. Makes b plan l p q) is makes)
+  ends key value now plan n put.BucketFull calls p q asks same quiet makes (earlier, inl is) =
+      earlier_call plan (FoundFull b.shape key) (finds_own None) (sets write.BucketFull ∷ earlier) p q quiet (subst (λ l. Makes b plan l p q) is makes)
+      (λ r made. full_last key value now plan asks earlier p r quiet made)
+  ends key value now plan n put.BucketFull calls p q asks same quiet makes (earlier, inr (is, again)) =
+      full_last key value now plan asks earlier p q quiet (subst (λ l. Makes b plan l p q) is makes)
   ends key value now plan n put.Busy calls p q asks same quiet makes answer =
       last_call plan (IsBusy (bucket_of b.shape key))
       (sets write.Busy) (replicate 15 (sets write.Busy) ++ answer.0) p q quiet
@@ -236,12 +219,7 @@ module _ (b : Board) where
   pub reason_wider : (key value : List ℕ) (told : PutAnswer) (p q r s : Pass) → GoesOn b p q → GoesOn b r s → IsPutReason b key value told q r → IsPutReason b key value told p s
   reason_wider key value put.Stored p q r s first last is = tt
   reason_wider key value put.NoRoom p q r s first last is = λ fits segment own. wider_call (IsDenied b.shape segment) p q r s first (is fits segment (own ∙ sym first.same)) last
-  reason_wider key value put.BucketFull p q r s first last (between, one, two) =
-      let quiet = one.4.quiet in (
-        between,
-        wider_call (FoundFull b.shape key) p q between between first one (goes_same b between quiet),
-        wider_call (FoundFull b.shape key) between between r s (goes_same b between quiet) two last,
-      )
+  reason_wider key value put.BucketFull p q r s first last is = wider_call (FoundFull b.shape key) p q r s first is last
   reason_wider key value put.Busy p q r s first last is = wider_call (IsBusy (bucket_of b.shape key)) p q r s first is last
 
 pub refused : PutIsRefused

@@ -3,10 +3,12 @@ use Rattle.std.proofs.Common.{◌≡◌, ◌⊎◌, ℕ, ◌+◌, ◌≤◌, tru
 use Rattle.std.proofs.lemmas.Bool.{false≢true}
 use Rattle.std.proofs.lemmas.Option.{none-some}
 use Rattle.segmodel.specs.declared.request.Request.TheVariants.{Set}
-use Rattle.segmodel.specs.Words.{EvictAnswer, WriteAnswer}
+use Rattle.segmodel.specs.Words.{WriteAnswer}
 use Rattle.segbase.specs.Words.{Board, Pass}
 use Rattle.segstore.specs.Words.{has_room_for}
-use Rattle.segclient.specs.PutCalls.{PutCall, sets, evicts, keeps, refills, Makes, room_plan}
+use Rattle.segstore.specs.declared.row.RowRef.{RowRef}
+use Rattle.segevict.specs.declared.eviction.EvictRowAnswer.{EvictRowAnswer}
+use Rattle.segclient.specs.PutCalls.{PutCall, sets, evicts, keeps, refills, finds_own, takes_out, Makes, room_plan}
 use Rattle.segclient.specs.Putting.{last_sets, SetsAtMost16}
 use Rattle.segclient.proofs.Calls.{last_of}
 
@@ -19,6 +21,8 @@ within (sets told ∷ earlier) = let rest = within earlier in omega (arith, rest
 within (evicts segment told ∷ earlier) = omega arith
 within (keeps segment row by told ∷ earlier) = omega arith
 within (refills segment told ∷ earlier) = omega arith
+within (finds_own found ∷ earlier) = omega arith
+within (takes_out segment row told ∷ earlier) = omega arith
 
 pub few_sets : (calls : List PutCall) → length calls ≤ 16 → SetsAtMost16 calls
 unfolding SetsAtMost16
@@ -32,6 +36,8 @@ last_then (sets told ∷ later) earlier none = ap (λ n. n + 1) (last_then later
 last_then (evicts segment told ∷ later) earlier none = refl
 last_then (keeps segment row by told ∷ later) earlier none = refl
 last_then (refills segment told ∷ later) earlier none = refl
+last_then (finds_own found ∷ later) earlier none = refl
+last_then (takes_out segment row told ∷ later) earlier none = refl
 
 -- sets after a call of another kind
 pub sets_then : (later earlier : List PutCall) → last_sets earlier ≡ 0 → SetsAtMost16 later → SetsAtMost16 earlier → SetsAtMost16 (later ++ earlier)
@@ -42,14 +48,18 @@ sets_then (call ∷ later) earlier none then first = (
   sets_then later earlier none then.1 first,
 )
 
--- an evict
-pub evict_then : (segment : ℕ) (told : EvictAnswer) (earlier : List PutCall) → SetsAtMost16 earlier → SetsAtMost16 (evicts segment told ∷ earlier)
+-- a look, and an evict of one row
+pub look_then : (found : Option RowRef) (earlier : List PutCall) → SetsAtMost16 earlier → SetsAtMost16 (finds_own found ∷ earlier)
 unfolding SetsAtMost16 last_sets
-evict_then segment told earlier first = (omega arith, first)
+look_then found earlier first = (omega arith, first)
 
-pub no_last : (segment : ℕ) (told : EvictAnswer) (earlier : List PutCall) → last_sets (evicts segment told ∷ earlier) ≡ 0
+pub out_then : (segment row : ℕ) (told : EvictRowAnswer) (earlier : List PutCall) → SetsAtMost16 earlier → SetsAtMost16 (takes_out segment row told ∷ earlier)
+unfolding SetsAtMost16 last_sets
+out_then segment row told earlier first = (omega arith, first)
+
+pub no_last : (segment row : ℕ) (told : EvictRowAnswer) (earlier : List PutCall) → last_sets (takes_out segment row told ∷ earlier) ≡ 0
 unfolding last_sets
-no_last segment told earlier = refl
+no_last segment row told earlier = refl
 
 -- ---- calls for room
 
@@ -68,6 +78,8 @@ module _ (b : Board) (cutoff : Option ℕ) (deadline : ℕ) where
   room_then (evicts segment told ∷ later) earlier p q makes first = let was = before (evicts segment told) later p q makes in (omega arith, room_then later earlier p was.0 was.1 first)
   room_then (keeps segment row by told ∷ later) earlier p q makes first = let was = before (keeps segment row by told) later p q makes in (omega arith, room_then later earlier p was.0 was.1 first)
   room_then (refills segment told ∷ later) earlier p q makes first = let was = before (refills segment told) later p q makes in (omega arith, room_then later earlier p was.0 was.1 first)
+  room_then (finds_own found ∷ later) earlier p q makes first = let was = before (finds_own found) later p q makes in (omega arith, room_then later earlier p was.0 was.1 first)
+  room_then (takes_out segment row told ∷ later) earlier p q makes first = let was = before (takes_out segment row told) later p q makes in (omega arith, room_then later earlier p was.0 was.1 first)
 
   -- that made some where there was none come after the last set
   pub apart_then : (rows : ℕ) (later earlier : List PutCall) (p q : Pass) → Makes b (room_plan cutoff deadline) later p q
@@ -80,3 +92,5 @@ module _ (b : Board) (cutoff : Option ℕ) (deadline : ℕ) where
   apart_then rows (evicts segment told ∷ later) earlier p q makes was left = refl
   apart_then rows (keeps segment row by told ∷ later) earlier p q makes was left = refl
   apart_then rows (refills segment told ∷ later) earlier p q makes was left = refl
+  apart_then rows (finds_own found ∷ later) earlier p q makes was left = refl
+  apart_then rows (takes_out segment row told ∷ later) earlier p q makes was left = refl

@@ -1,17 +1,17 @@
 -- Sets in a row, each made again after one that was Busy.
-use Rattle.std.proofs.Common.{◌≡◌, ℕ, zero, suc, ◌+◌, false, ◌∷◌, length, Some, nat_lt, refl, sym, ap, ◌∙◌, subst, add-one, arith}
-use Rattle.std.proofs.lemmas.Bool.{le-ltb, ltb-false, or_from, or_parts}
+use Rattle.std.proofs.Common.{◌≡◌, ◌≢◌, ℕ, zero, suc, ◌+◌, false, ◌∷◌, length, Some, nat_lt, refl, sym, ap, ◌∙◌, subst, add-one, arith}
+use Rattle.std.proofs.lemmas.Bool.{le-ltb, ltb-false, or_from, or_parts, true_from_ne_false}
 use Rattle.segmodel.specs.declared.answer.WriteAnswer.TheVariants as write
 use Rattle.segmodel.specs.declared.request.Request.TheVariants.{Set}
 use Rattle.segmodel.specs.Words.{WriteAnswer}
 use Rattle.segbase.specs.declared.pass.PlainPart.{PlainPart}
 use Rattle.segbase.specs.Words.{Board, Pass}
 use Rattle.segstore.specs.Words.{has_room_for}
-use Rattle.segwrite.specs.Words.{IsSetAnswer, Writes}
+use Rattle.segwrite.specs.Words.{IsSetAnswer, rows_of, Writes}
 use Rattle.segclient.specs.declared.segments.Order.{Order}
 use Rattle.segclient.specs.declared.segments.Window.{Window}
 use Rattle.segclient.specs.PutCalls.{sets, IsInWindow, Makes, StoresUntil}
-use Rattle.segclient.specs.PutParts.{busy_sets, current_deadline, deadline_at, is_outside, misses, plan_of}
+use Rattle.segclient.specs.PutParts.{busy_sets, CanSet, current_deadline, deadline_at, is_outside, misses, plan_of, request_of}
 use Rattle.segclient.proofs.Calls.{none_made, one_more}
 
 pub busy_long : (busy : ℕ) → length (busy_sets busy) ≡ busy
@@ -67,3 +67,15 @@ module _ (b : Board) (order : Order) where
   unfolding busy_sets
   busy_more busy p q r timely were same writes =
       subst (λ n. Makes b (plan_of order) (busy_sets n) p r) (sym (add-one busy)) (set_more write.Busy busy p q r timely were same tt writes)
+
+  -- one that found its bucket full had room
+  pub can_set : (p q r : Pass) → IsTimely p → q.plain ≡ p.plain
+      → Writes b (Set order.key.now order.value.now order.policy.moment) write.BucketFull q r → CanSet b (plan_of order) r
+  can_set p q r timely same writes = (
+    ap (misses order.policy.window) (same_until p r (writes.answer.0.plain ∙ same)) ∙ timely,
+    same_room b (rows_of (request_of order)) q r writes.answer.0.plain
+        ∙ true_from_ne_false (has_room_for b.shape (rows_of (request_of order)) q) (λ none. full_apart (writes.no_room.1 none)),
+  )
+    where
+      full_apart : write.BucketFull ≢ write.NoRoom
+      full_apart e = cc

@@ -15,7 +15,7 @@ use Rattle.segmodel.specs.declared.request.Request.TheVariants.{Set}
 use Rattle.segmodel.specs.Words.{Entry, EvictAnswer, owner, RefillAnswer, Request, WriteAnswer}
 use Rattle.segbase.specs.Words.{Board, mine, number, Pass, state_of}
 use Rattle.segstore.specs.Words.{ChangesNothing, GoesOn, IsQuiet, memo}
-use Rattle.segstore.proofs.Idling.{goes_same, unchanged}
+use Rattle.segstore.proofs.Idling.{does_nothing, goes_same, unchanged}
 use Rattle.segwrite.specs.Words.{IsSetAnswer, Writes}
 use Rattle.segevict.specs.declared.retention.KeepRowAnswer.{KeepRowAnswer}
 use Rattle.segevict.specs.declared.retention.KeepRowAnswer.TheVariants as kept
@@ -28,7 +28,7 @@ use Rattle.segindex.proofs.QuietPass.{owned}
 use Rattle.segtally.specs.Recycling.{is_eviction, is_move, is_refilling}
 use Rattle.segclient.specs.Clearing.{came_to_step, evicts_row, keeps_into}
 use Rattle.segclient.specs.Entries.{IsOfRoom, IsOnly, AddsRoom}
-use Rattle.segclient.specs.PutCalls.{PutCall, sets, evicts, keeps, refills, Plan, came_to, refilled_segments, kept_items, evicted_keys, IsCall, Makes}
+use Rattle.segclient.specs.PutCalls.{PutCall, sets, evicts, keeps, refills, finds_own, takes_out, Plan, came_to, refilled_segments, kept_items, evicted_keys, IsCall, Makes}
 use Rattle.segclient.specs.PutParts.{AreOpen}
 
 -- ---- entries
@@ -259,6 +259,13 @@ module _ (b : Board) (cutoff : Option ℕ) (Due : ℕ → Type 0) where
 
 -- ---- lists of calls
 
+out_came : (segment row : ℕ) (told : EvictRowAnswer) → came_to_step evicted_keys (evicts_row segment row told) ≡ came_to evicted_keys (takes_out segment row told)
+out_came segment row evict_row.Evicted = refl
+out_came segment row evict_row.Left = refl
+out_came segment row evict_row.Busy = refl
+out_came segment row evict_row.NotYours = refl
+out_came segment row evict_row.NotUsed = refl
+
 module _ (b : Board) (plan : Plan) where
   abbrev Came : ℕ → ℕ → ℕ → Pass → Pass → Type 0
   Came = Comes b plan.cutoff (IsOnly plan.deadline)
@@ -269,6 +276,9 @@ module _ (b : Board) (plan : Plan) where
   call_comes (evicts segment told) p q quiet other is = evicted_some b plan.cutoff (IsOnly plan.deadline) segment 0 told p q quiet is.1
   call_comes (keeps segment row least told) p q quiet other is = row_kept b plan.cutoff (IsOnly plan.deadline) segment row least told p q is.0 (ap is_some is.1.1) quiet is.2
   call_comes (refills segment told) p q quiet other is = some_refilled b plan.cutoff (IsOnly plan.deadline) segment plan.deadline (Some segment) told p q refl quiet is.1
+  call_comes (finds_own found) p q quiet other is = let i = is.1.idles in unchanged_none b plan.cutoff (IsOnly plan.deadline) p q is.1.on (does_nothing b p q quiet i.moved i.plain i.memo)
+  call_comes (takes_out segment row told) p q quiet other is =
+      subst (λ n. Came 0 0 n p q) (out_came segment row told) (row_evicted b plan.cutoff (IsOnly plan.deadline) segment row told p q is.1 quiet is.2)
 
   pub calls_come : (calls : List PutCall) (p q : Pass) → IsQuiet b p → AreOpen calls → Makes b plan calls p q
       → Came (sum_by (came_to refilled_segments) calls) (sum_by (came_to kept_items) calls)

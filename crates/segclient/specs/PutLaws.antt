@@ -111,15 +111,12 @@ IsPutReason b key value put.NoRoom p q =
     → (segment : ℕ)
     → owner b.shape segment ≡ number p
     → Somewhen b (IsDenied b.shape segment) p q
-IsPutReason b key value put.BucketFull p q =
-    (between : Pass)
-    × Somewhen b (FoundFull b.shape key) p between
-    × Somewhen b (FoundFull b.shape key) between q
+IsPutReason b key value put.BucketFull p q = Somewhen b (FoundFull b.shape key) p q
 IsPutReason b key value put.Busy p q = Somewhen b (IsBusy (bucket_of b.shape key)) p q
 
 -- A put is NoRoom only if each segment of its pass couldn't be had; where items take several rows,
 -- so it is of one that takes no more rows than a segment has. It is BucketFull only if its key's
--- bucket was full and later was full again, and Busy only if that bucket was in the way.
+-- bucket was full, and Busy only if that bucket was in the way.
 abbrev pub PutIsRefused : Type 0
 PutIsRefused = OfPut (λ i time key value told old new.
     IsPutReason (board_of i) key value told old.pass new.pass)

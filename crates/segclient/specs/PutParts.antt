@@ -5,13 +5,14 @@ use Rattle.segmodel.specs.declared.answer.EvictAnswer.TheVariants as evict
 use Rattle.segmodel.specs.declared.answer.RefillAnswer.TheVariants as refill
 use Rattle.segmodel.specs.declared.answer.WriteAnswer.TheVariants as write
 use Rattle.segmodel.specs.declared.request.Request.TheVariants.{Set}
-use Rattle.segmodel.specs.Words.{EvictAnswer, owner, Request}
+use Rattle.segmodel.specs.Words.{owner, Request}
 use Rattle.segbase.specs.Words.{Board, current_of, deadline_of, number, Pass, used_of}
 use Rattle.segstore.specs.Words.{has_room_for, is_below}
 use Rattle.segevict.specs.Rows.{IfSeveral}
-use Rattle.segevict.specs.Words.{EvictsSegment}
+use Rattle.segstore.specs.declared.row.RowRef.{RowRef}
+use Rattle.segevict.specs.declared.eviction.EvictRowAnswer.{EvictRowAnswer}
+use Rattle.segevict.specs.Words.{EvictsItem, EvictsSegment}
 use Rattle.segindex.specs.Refilling.{RefillsSegment}
-use Rattle.segtally.specs.Recycling.{evicted_by}
 use Rattle.segclient.specs.declared.segments.Order.{Order}
 use Rattle.segclient.specs.declared.put.PutAnswer.{PutAnswer}
 use Rattle.segclient.specs.declared.put.PutAnswer.TheVariants as put
@@ -19,8 +20,9 @@ use Rattle.segclient.specs.declared.effort.Effort.{Effort}
 use Rattle.segclient.specs.declared.segments.Window.{Window}
 use Rattle.segclient.specs.declared.stats.Stats.{Stats}
 use Rattle.segclient.specs.Counting.{with_more}
-use Rattle.segclient.specs.PutCalls.{PutCall, sets, evicts, Plan, came_to, refilled_segments, kept_items, evicted_keys, IsRefused, Makes, room_plan, rows_asked, StoresUntil}
-use Rattle.segclient.specs.Putting.{IsPutAnswer, SetsAtMost16, SetsUntilFull}
+use Rattle.segclient.specs.PutCalls.{PutCall, sets, takes_out, Plan, came_to, refilled_segments, kept_items, evicted_keys, IsRefused, Makes, room_plan, rows_asked, StoresUntil}
+use Rattle.segclient.specs.Putting.{AreNotFull, CostsOneItem, IsPutAnswer, MakesNoRoom}
+use Rattle.segclient.specs.Putting.{SetsAtMost16}
 
 -- ---- what calls came to
 
@@ -116,13 +118,12 @@ GivesUp b segment deadline false keys p q =
     ⊎ ((between : Pass) × EvictsSegment b segment (evict.Evicted keys) p between
     × RefillsSegment b segment deadline refill.Held between q)
 
--- a segment was evicted
-pub record Empties (b : Board) (effort : Effort) (p q : Pass) : Type 0 where
-  pub segment : ℕ
-  pub told : EvictAnswer
-  pub own : owner b.shape segment ≡ number p
-  pub evicts : EvictsSegment b segment told p q
-  pub comes : effort ≡ effort_from 0 0 (evicted_by told)
+-- the item of one row was evicted
+pub record TakesRowOut (b : Board) (row : RowRef) (effort : Effort) (p q : Pass) : Type 0 where
+  pub told : EvictRowAnswer
+  pub evicts : EvictsItem b row.segment row.row told p q
+  pub comes : effort
+      ≡ effort_from 0 0 (came_to evicted_keys (takes_out row.segment row.row told))
 
 -- ---- deadlines
 
@@ -173,6 +174,12 @@ AreSets put.NoRoom calls = (busy : ℕ) × (calls ≡ sets write.NoRoom ∷ busy
 AreSets put.BucketFull calls = (busy : ℕ) × (calls ≡ sets write.BucketFull ∷ busy_sets busy)
 AreSets put.Busy calls = calls ≡ busy_sets 16
 
+-- the pass has room for what is asked, in a segment with a deadline that is asked
+abbrev pub CanSet : Board → Plan → Pass → Type 0
+CanSet b plan p =
+    (is_outside plan.window p ≡ false)
+    × (has_room_for b.shape (rows_asked plan.request) p ≡ true)
+
 pub record Sets (b : Board) (plan : Plan) (told : PutAnswer) (p q : Pass) : Type 0 where
   pub calls : List PutCall
   pub makes : Makes b plan calls p q
@@ -181,6 +188,7 @@ pub record Sets (b : Board) (plan : Plan) (told : PutAnswer) (p q : Pass) : Type
   pub no_room : told ≡ put.NoRoom
       → (has_room_for b.shape (rows_asked plan.request) p ≡ false)
       × (has_room_for b.shape (rows_asked plan.request) q ≡ false)
+  pub full : told ≡ put.BucketFull → CanSet b plan q
 
 -- sets, unless what the pass stores into has another deadline than those that are asked
 abbrev pub SetsIfTimely : Board → Plan → PutAnswer → Pass → Pass → Type 0
@@ -207,13 +215,18 @@ EndsSo shape pass rows put.BucketFull calls =
 EndsSo shape pass rows put.Busy calls =
     ((earlier : List PutCall) × (calls ≡ busy_sets 16 ++ earlier)) × AreOpen calls
 
--- A put with rows enough left in a segment with a deadline that is asked clears nothing for it,
--- unless its bucket is full.
+-- A put with rows enough left in a segment with a deadline that is asked makes no room.
 abbrev pub Spares : Shape → Window → ℕ → List PutCall → Pass → Type 0
 Spares shape window rows calls p =
-    is_outside window p ≡ false → has_room_for shape rows p ≡ true → SetsUntilFull calls
+    is_outside window p ≡ false → has_room_for shape rows p ≡ true → MakesNoRoom calls
 
--- a put made these calls, at most so many
+-- No call comes of a full bucket but the last set, if that found it so.
+abbrev pub AreUntilFull : PutAnswer → List PutCall → Type 0
+AreUntilFull put.BucketFull calls =
+    (earlier : List PutCall) × (calls ≡ sets write.BucketFull ∷ earlier) × AreNotFull earlier
+AreUntilFull _ calls = AreNotFull calls
+
+-- a put made these calls, at most so many, up to a set that found its bucket full
 pub record MakesPut (b : Board) (plan : Plan) (most : ℕ) (told : PutAnswer)
     (effort : Effort) (p q : Pass) : Type 0 where
   pub calls : List PutCall
@@ -221,20 +234,10 @@ pub record MakesPut (b : Board) (plan : Plan) (most : ℕ) (told : PutAnswer)
   pub few : length calls ≤ most
   pub comes : IsEffort calls effort
   pub ends : EndsSo b.shape (number p) (rows_asked plan.request) told calls
+  pub until : AreUntilFull told calls
+  pub full : told ≡ put.BucketFull → CanSet b plan q
   pub tries : SetsAtMost16 calls
   pub spares : Spares b.shape plan.window (rows_asked plan.request) calls p
-
--- after a set that found its bucket full a segment was evicted, before the last set
-abbrev pub WasEmptied : List PutCall → Type 0
-WasEmptied calls = (later : List PutCall) × (segment : ℕ) × (answer : EvictAnswer)
-    × (earlier : List PutCall)
-    × (calls ≡ later ++ evicts segment answer ∷ sets write.BucketFull ∷ earlier)
-
--- the whole of a put by its parts
-abbrev pub PutsAtLast : Board → Plan → ℕ → PutAnswer → Effort → Pass → Pass → Type 0
-PutsAtLast b plan most told effort p q =
-    (puts : MakesPut b plan most told effort p q)
-    × (told ≡ put.BucketFull → WasEmptied puts.calls)
 
 -- A put as a whole, as its callers see it.
 pub record PutsWhole (b : Board) (plan : Plan) (most : ℕ) (told : PutAnswer)
@@ -246,6 +249,7 @@ pub record PutsWhole (b : Board) (plan : Plan) (most : ℕ) (told : PutAnswer)
   pub answer : IsPutAnswer b.shape (number p) (rows_asked plan.request) told calls
   pub not_stored : told ≢ put.Stored → AreOpen calls
   pub tries : SetsAtMost16 calls
+  pub full : CostsOneItem calls
   pub spares : Spares b.shape plan.window (rows_asked plan.request) calls p
 
 -- ---- at most so many calls
@@ -261,9 +265,10 @@ most_at_last shape = (shape.rows + 1) + 2 * most_in_turn shape
 abbrev pub most_for_room : Shape → ℕ
 most_for_room shape = 1 + most_at_last shape
 
--- for a set that makes room, and for a put
+-- for a set that makes room
 abbrev pub most_for_set : Shape → ℕ
 most_for_set shape = 32 + most_for_room shape
 
+-- for a put: beside these a look, the evict of one row, and 16 sets
 abbrev pub most_for_put : Shape → ℕ
-most_for_put shape = most_for_set shape + 1 + most_for_set shape
+most_for_put shape = most_for_set shape + 18

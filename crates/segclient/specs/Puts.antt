@@ -20,7 +20,7 @@ use Rattle.segclient.specs.Member.{KeepsSettings}
 use Rattle.segclient.specs.PutCalls.{IsInWindow, IsRefused, Makes, Plan, PutCall, room_plan, sets}
 use Rattle.segclient.specs.PutCalls.{StoresUntil}
 use Rattle.segclient.specs.PutParts.{is_outside, SetsIfTimely, Spares}
-use Rattle.segclient.specs.Putting.{IsPutAnswer, most_calls, SetsAtMost16}
+use Rattle.segclient.specs.Putting.{CostsOneItem, IsPutAnswer, most_calls, SetsAtMost16}
 use Rattle.segclient.specs.Tallies.{put_tally}
 
 -- The deadline of what a client refills now for its own time to live: the last multiple
@@ -60,7 +60,7 @@ StoredFor window p = (until : ℕ) × StoresUntil until p × IsInWindow window u
 -- and not before seven eighths of it: it can be read so long, unless it goes before.
 -- It makes at most 16 sets in a row.
 -- With rows enough left in the segment that it chose, and a deadline that it asks for, it makes
--- room only once its bucket was full.
+-- no room. A full bucket costs one item at most, and no segment.
 -- Once it is Stored, a client with queues clears rows of another segment, by at most 16 steps,
 -- or 24 where items take several rows.
 -- Hold and lock are as they were, and the client counted the put, and what calls and steps came to.
@@ -85,6 +85,7 @@ pub record PutsFor (time : ℕ) (key value : List ℕ) (told : PutAnswer) (b : B
   pub stored : told ≡ put.Stored → StoredFor window between
   pub not_stored : told ≢ put.Stored → All (λ call. call ≢ sets write.Stored) calls
   pub tries : SetsAtMost16 calls
+  pub full : CostsOneItem calls
   pub spares : Spares b.shape window (span_of key value) calls chosen
   pub steps : List Step
   pub clears : Clears b old.cutoff steps between new.pass

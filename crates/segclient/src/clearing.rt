@@ -6,11 +6,10 @@ ghost use Rattle.segstore.specs.Words.{GoesOn, IsQuiet};
 ghost use Rattle.segwrite.specs.Words.{or_one};
 ghost use Rattle.segtally.specs.Rings.{IsOwnRing};
 ghost use Rattle.segclient.specs.Clearing.{ClearsAtMost, ClearsRow, ClearsSome, IsCleared};
-ghost use Rattle.segclient.specs.Clearing.{AreDone, came_to_step, evicts_row, IsClearing};
+ghost use Rattle.segclient.specs.Clearing.{AreDone, IsClearing};
 ghost use Rattle.segclient.specs.Clearing.{ClearsTurn, TakesRows};
-ghost use Rattle.segclient.specs.PutCalls.{evicted_keys};
 
-use crate::effort::{Effort, moved_by};
+use crate::effort::{Effort, moved_by, row_evicted_by};
 use crate::queues::{
     current_for, next_expired, next_source, note_done, note_moved, oldest, place_of, target_of,
     was_given_up, was_refilled,
@@ -120,21 +119,6 @@ fn end_source(
             kept: 0,
             keys: u64::from(evicted_by(told)),
         },
-    }
-}
-
-// How many keys an evict of one row took out that has this answer.
-fn row_evicted_by(answer: EvictRowAnswer) -> u32
-    ensures few { result ≤ 1 }
-    ensures value { (segment row : ℕ)
-        → result ≡ came_to_step evicted_keys (evicts_row segment row answer) }
-{
-    match answer {
-        EvictRowAnswer::Evicted => 1,
-        EvictRowAnswer::Left
-        | EvictRowAnswer::Busy
-        | EvictRowAnswer::NotYours
-        | EvictRowAnswer::NotUsed => 0,
     }
 }
 

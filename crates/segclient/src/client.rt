@@ -199,8 +199,8 @@ impl<'i> Client<'i> {
     /// By a cutoff, or keeping nothing, it takes the one that was filled before the others,
     /// from the second round on if it had queues before;
     /// one that can't be recycled is passed over until its next turn.
-    /// If the key's bucket is full, it evicts the oldest of its segments in use and tries once
-    /// more: by queues the oldest on probation, or else the oldest main one.
+    /// If the key's bucket is full, it evicts one item of its own there and sets again: one that
+    /// has expired, or else the one that was read least. If it has none there, it evicts nothing.
     /// A set is made at most 16 times in a row, while it is busy.
     #[inline(always)]
     pub fn put(&mut self, key: &Key, value: &Value) -> PutAnswer

@@ -1,9 +1,10 @@
 //! What calls that make room came to, in numbers.
 ghost use Rattle.std.specs.Prelude.{◌≡◌, ◌+◌, ◌<◌, ◌≤◌, ◌^◌, ℕ};
-ghost use Rattle.segclient.specs.Clearing.{came_to_step, keeps_into};
-ghost use Rattle.segclient.specs.PutCalls.{came_to, keeps, kept_items};
+ghost use Rattle.segclient.specs.Clearing.{came_to_step, evicts_row, keeps_into};
+ghost use Rattle.segclient.specs.PutCalls.{came_to, evicted_keys, keeps, kept_items};
+ghost use Rattle.segclient.specs.PutCalls.{takes_out};
 
-use segindex::KeepRowAnswer;
+use segindex::{EvictRowAnswer, KeepRowAnswer};
 
 // What calls of a put came to: how many segments were refilled, how many items kept,
 // and how many keys evicted.
@@ -69,5 +70,22 @@ pub(crate) fn moved_by(answer: KeepRowAnswer) -> u32
         | KeepRowAnswer::Busy
         | KeepRowAnswer::NotYours
         | KeepRowAnswer::NotUsed => 0,
+    }
+}
+
+// How many keys an evict of one row took out that has this answer.
+pub(crate) fn row_evicted_by(answer: EvictRowAnswer) -> u32
+    ensures few { result ≤ 1 }
+    ensures value { (segment row : ℕ)
+        → result ≡ came_to_step evicted_keys (evicts_row segment row answer) }
+    ensures value_alone { (segment row : ℕ)
+        → result ≡ came_to evicted_keys (takes_out segment row answer) }
+{
+    match answer {
+        EvictRowAnswer::Evicted => 1,
+        EvictRowAnswer::Left
+        | EvictRowAnswer::Busy
+        | EvictRowAnswer::NotYours
+        | EvictRowAnswer::NotUsed => 0,
     }
 }

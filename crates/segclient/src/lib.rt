@@ -7,6 +7,7 @@ mod bytes;
 mod choosing;
 mod clearing;
 mod client;
+mod crowded;
 mod effort;
 mod hold;
 mod into;

@@ -7,15 +7,16 @@ ghost use Rattle.segwrite.specs.Words.{IsSetAnswer, Writes};
 ghost use Rattle.segtally.specs.Rings.{IsOwnRing};
 ghost use Rattle.segclient.specs.Clearing.{IsCleared};
 ghost use Rattle.segclient.specs.PutCalls.{IsInWindow};
-ghost use Rattle.segclient.specs.PutParts.{is_outside, MakesPut, most_for_put, most_for_set};
-ghost use Rattle.segclient.specs.PutParts.{plan_of, PutsAtLast, request_of, Sets, SetsIfTimely};
+ghost use Rattle.segclient.specs.PutParts.{is_outside, MakesPut, most_for_set};
+ghost use Rattle.segclient.specs.PutParts.{plan_of, PutsWhole, request_of, Sets, SetsIfTimely};
 ghost use Rattle.segclient.specs.Puts.{SetsFirst};
+ghost use Rattle.segclient.specs.Putting.{most_calls};
 ghost use Rattle.segclient.specs.Tallies.{write_of};
 
 use crate::choosing::{choose, is_outside};
+use crate::crowded::take_out;
 use crate::effort::Effort;
 use crate::making::make_room_for;
-use crate::room::evict_oldest;
 use crate::rows::has_room;
 use crate::segments::{Order, Segments};
 use segindex::{Index, Pass, RowRef};
@@ -30,8 +31,8 @@ pub enum PutAnswer {
     /// Or the items that were kept used up the one that was refilled, and then no other could be.
     /// Where items take several rows, the item may also take more of them than a segment has.
     NoRoom,
-    /// No word of the bucket is left for a new key, also after an evict of the oldest segment
-    /// in use.
+    /// No word of the bucket is left for a new key. The client had no item of its own there that it
+    /// could evict, or another thread took the word of the one that it evicted.
     BucketFull,
     /// The bucket is locked, or others were at work in it, at each of 16 sets in a row.
     Busy,
@@ -198,8 +199,8 @@ fn set_in_room(
     )
 }
 
-// What becomes of a put whose first set was answered so. It makes room for its row,
-// and if its bucket is full, for its word.
+// What becomes of a put whose first set was answered so. It makes room for its row. If its bucket
+// is full, it evicts one item of its own there, and sets again. If it has none, it leaves it at that.
 pub(crate) fn put_at_last(
     index: &Index,
     pass: &mut Pass,
@@ -217,15 +218,17 @@ pub(crate) fn put_at_last(
     ensures cleared { IsCleared (shape_of index.now) segments.new.source pass.new }
     ensures puts { (start : BasePass)
         → SetsIfTimely (board_of index.now) (plan_of order.entry) told start pass.old
-        → PutsAtLast (board_of index.now) (plan_of order.entry)
-        (most_for_put (shape_of index.now)) result.0 result.1 start pass.new }
+        → PutsWhole (board_of index.now) (plan_of order.entry)
+        (most_calls (shape_of index.now)) result.0 result.1 start pass.new }
 {
     let (told, first) = set_in_room(index, pass, segments, order, told);
     let PutAnswer::BucketFull = told else {
         return (told, first);
     };
-    let emptied = first.plus(evict_oldest(index, pass, segments));
+    let Some(row) = index.own_to_evict(pass, order.key, order.policy.moment) else {
+        return (PutAnswer::BucketFull, first);
+    };
+    let effort = first.plus(take_out(index, pass, segments, row));
     let told = set_if_timely(index, pass, order, &mut segments.replaced);
-    let (told, last) = set_in_room(index, pass, segments, order, told);
-    (told, emptied.plus(last))
+    (told, effort)
 }

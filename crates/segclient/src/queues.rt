@@ -111,17 +111,6 @@ pub(crate) fn first_to_go(
     oldest(index, pass, queues, queue)
 }
 
-// The segment in use that is given up before the others, the current one left out.
-pub(crate) fn oldest_in_use(index: &Index, pass: &Pass, queues: &Queues) -> Option<u32>
-    requires quiet { IsQuiet (board_of index.now) pass.now }
-    ensures own { IfSome result (λ segment.
-        (owner (shape_of index.now) segment ≡ number pass.now)
-        × (current_of pass.now ≢ Some segment)) }
-{
-    let at = queues.oldest_in_use(current_place(index, pass))?;
-    other_at(index, pass, at)
-}
-
 // The segment that is cleared next, the current one left out.
 pub(crate) fn next_source(
     index: &Index,
@@ -253,7 +242,7 @@ pub(crate) fn note_moved(index: &Index, pass: &Pass, queues: &mut Queues, from: 
     queues.was_moved(place, last_row(index, pass, into));
 }
 
-// The item of this row was replaced or deleted.
+// The item of this row was replaced, deleted, or evicted alone.
 pub(crate) fn note_dead(index: &Index, pass: &Pass, queues: &mut Queues, row: RowRef) {
     let segment = own_place(index, pass, row.segment);
     if segment < index.shape().segments_each {

@@ -7,17 +7,15 @@ ghost use Rattle.segstore.specs.Words.{GoesOn, IsQuiet};
 ghost use Rattle.segindex.specs.Words.{board_of, shape_of};
 ghost use Rattle.segtally.specs.Rings.{IsOwnRing};
 ghost use Rattle.segclient.specs.Clearing.{IsCleared};
-ghost use Rattle.segclient.specs.PutParts.{Arranges, effort_from, Empties, GivesUp, MakesRoom};
+ghost use Rattle.segclient.specs.PutParts.{Arranges, effort_from, GivesUp, MakesRoom};
 ghost use Rattle.segclient.specs.PutParts.{most_in_turn};
 ghost use Rattle.segclient.specs.PutParts.{StoresAfresh, StoresAsBefore, TakesFree};
 
 use crate::effort::{Effort, moved_by};
-use crate::queues::{
-    first_to_go, oldest as oldest_in, oldest_in_use, round, was_given_up, was_refilled,
-};
+use crate::queues::{first_to_go, oldest, round, was_given_up, was_refilled};
 use crate::segments::{Policy, Segments, SourceSegment};
 use segindex::{Index, KeepRowAnswer, Pass};
-use segmodel::{EvictAnswer, RefillAnswer, SegState};
+use segmodel::{EvictAnswer, RefillAnswer};
 use segpolicy::Ring;
 use segqueues::{Queue, Queues};
 use segtally::evicted_by;
@@ -222,7 +220,7 @@ pub(crate) fn take_free(
     let Some(queues) = segments.queues.as_mut() else {
         return false;
     };
-    let Some(segment) = oldest_in(index, pass, queues, Queue::Free) else {
+    let Some(segment) = oldest(index, pass, queues, Queue::Free) else {
         return false;
     };
     if is_source(segments.source, segment) {
@@ -234,70 +232,4 @@ pub(crate) fn take_free(
     };
     was_refilled(index, pass, queues, segment, false);
     true
-}
-
-// The segment in use that was filled before all others of the pass, but for the one that it stores
-// into. That one only if it has no other. The ring goes once round.
-fn oldest_in_turn(index: &Index, pass: &Pass, ring: &mut Ring) -> u32
-    requires quiet { IsQuiet (board_of index.now) pass.now }
-    requires own { IsOwnRing (shape_of index.now) (number pass.now) ring.old }
-    ensures ring { IsOwnRing (shape_of index.now) (number pass.now) ring.new }
-    ensures own { owner (shape_of index.now) result ≡ number pass.now }
-    ensures alone { current_of pass.now ≡ Some result
-        → (other : ℕ) → owner (shape_of index.now) other ≡ number pass.now → other ≡ result }
-{
-    let current = pass.current();
-    let mut oldest = ring.peek();
-    let mut is_found = false;
-    for tried in 0..index.shape().segments_each {
-        let segment = ring.next();
-        if !is_found && current != Some(segment) {
-            oldest = segment;
-            is_found = pass.state(segment) == Some(SegState::InUse);
-        }
-    }
-    oldest
-}
-
-// The oldest segment in use, but for the one that the pass stores into: by the queues, if there are
-// some, and else by the ring. The current one only if it has no other.
-fn oldest(index: &Index, pass: &Pass, segments: &mut Segments) -> u32
-    requires quiet { IsQuiet (board_of index.now) pass.now }
-    requires own { IsOwnRing (shape_of index.now) (number pass.now) segments.old.ring }
-    ensures ring { IsOwnRing (shape_of index.now) (number pass.now) segments.new.ring }
-    ensures queues { is_some segments.new.queues ≡ is_some segments.old.queues }
-    ensures own { owner (shape_of index.now) result ≡ number pass.now }
-    ensures alone { current_of pass.now ≡ Some result
-        → (other : ℕ) → owner (shape_of index.now) other ≡ number pass.now → other ≡ result }
-{
-    if let Some(queues) = segments.queues.as_ref() {
-        if let Some(segment) = oldest_in_use(index, pass, queues) {
-            return segment;
-        }
-    }
-    oldest_in_turn(index, pass, &mut segments.ring)
-}
-
-// Evicts the oldest segment, for the words that its keys have in their buckets.
-pub(crate) fn evict_oldest(index: &Index, pass: &mut Pass, segments: &mut Segments) -> Effort
-    requires quiet { IsQuiet (board_of index.now) pass.old }
-    requires own { IsOwnRing (shape_of index.now) (number pass.old) segments.old.ring }
-    ensures on { GoesOn (board_of index.now) pass.old pass.new }
-    ensures own { IsOwnRing (shape_of index.now) (number pass.new) segments.new.ring }
-    ensures queues { is_some segments.new.queues ≡ is_some segments.old.queues }
-    ensures source { segments.new.source ≡ None }
-    ensures few { (result.refilled ≡ 0) × (result.kept ≡ 0) × (result.keys < 2 ^ 32) }
-    ensures empties { Empties (board_of index.now) result pass.old pass.new }
-{
-    let segment = oldest(index, pass, segments);
-    let keys = evicted_by(index.evict(pass, segment));
-    if let Some(queues) = segments.queues.as_mut() {
-        was_given_up(index, pass, queues, segment);
-    }
-    segments.source = None;
-    Effort {
-        refilled: 0,
-        kept: 0,
-        keys: u64::from(keys),
-    }
 }

@@ -117,16 +117,6 @@ impl Queues {
         self.lists.oldest(queue, but)
     }
 
-    /// The segment in use that is given up before the others, this one left out:
-    /// the oldest on probation, or else the oldest main one.
-    pub fn oldest_in_use(&self, but: Option<u32>) -> Option<u32> {
-        let on_probation = self.oldest(Queue::Probation, but);
-        if on_probation.is_some() {
-            return on_probation;
-        }
-        self.oldest(Queue::Main, but)
-    }
-
     /// A round over all segments, this one left out.
     pub fn round(&self, but: Option<u32>) -> Round {
         let mut round = Round {

@@ -7,7 +7,8 @@ use Rattle.segevict.proofs.RowsOut.{goes_then}
 use Rattle.segclient.specs.declared.put.PutAnswer.TheVariants as put
 use Rattle.segclient.specs.PutCalls.{sets, Makes}
 use Rattle.segclient.specs.PutParts.{busy_sets, plan_of, request_of}
-use Rattle.segclient.proofs.Setting.{busy_long, busy_more, no_sets, same_room, set_more}
+use Rattle.segclient.proofs.Order.{no_room_full}
+use Rattle.segclient.proofs.Setting.{busy_long, busy_more, can_set, no_sets, same_room, set_more}
 use Rattle.segclient.proofs.put.set_while_busy.Goals as goal
 
 stored_is : put.Stored ≢ put.NoRoom
@@ -18,6 +19,12 @@ full_is e = cc
 
 busy_is : put.Busy ≢ put.NoRoom
 busy_is e = cc
+
+stored_full : put.Stored ≢ put.BucketFull
+stored_full e = cc
+
+busy_full : put.Busy ≢ put.BucketFull
+busy_full e = cc
 
 pub loop-tries-init : goal.loop-tries-init
 loop-tries-init c = record {
@@ -50,6 +57,7 @@ returns-in-Stored-clause-sets c =
       few = let long = busy_long c.loop-tries.tries in omega (arith, long);
       are = (c.loop-tries.tries, refl);
       no_room = λ e. absurd (stored_is e);
+      full = λ e. absurd (stored_full e);
     }
 
 pub returns-in-NoRoom-clause-sets : goal.returns-in-NoRoom-clause-sets
@@ -66,6 +74,7 @@ returns-in-NoRoom-clause-sets c =
         sym (same_room b rows c.args.pass.now c.loop-tries.pass was.plain) ∙ full,
         same_room b rows c.loop-tries.pass c.set_once.new.pass (unchanged c.loop-tries.pass c.set_once.new.pass writes.answer).plain ∙ full,
       );
+      full = λ e. absurd (no_room_full e);
     }
 
 pub returns-in-BucketFull-clause-on : goal.returns-in-BucketFull-clause-on
@@ -82,6 +91,7 @@ returns-in-BucketFull-clause-sets c =
       few = let long = busy_long c.loop-tries.tries in omega (arith, long);
       are = (c.loop-tries.tries, refl);
       no_room = λ e. absurd (full_is e);
+      full = λ e. can_set (board_of c.args.index.now) c.args.order c.args.pass.now c.loop-tries.pass c.set_once.new.pass c.requires.timely was.plain c.in-BucketFull.ensures.writes;
     }
 
 pub returns-clause-sets : goal.returns-clause-sets
@@ -94,4 +104,5 @@ returns-clause-sets c =
       few = let long = busy_long 16 in omega (arith, long);
       are = refl;
       no_room = λ e. absurd (busy_is e);
+      full = λ e. absurd (busy_full e);
     }

@@ -53,10 +53,8 @@ returns-in-Stored-clause-puts c =
     (record {
       effort = none;
       between = record old { pass = q; segments = first.new.segments; stats = with_effort none old.stats };
-      puts = whole_put b plan most (most_calls b.shape) told none chosen q (put_few b.shape) (
-        subst (λ e. MakesPut b plan most told e chosen q) (sym c.none.ensures) puts,
-        λ full. absurd (stored_full (sym c.in-Stored.is ∙ full)),
-      );
+      puts = whole_put b plan most (most_calls b.shape) told none chosen q (put_few b.shape) (λ full. stored_full (sym c.in-Stored.is ∙ full))
+          (subst (λ e. MakesPut b plan most told e chosen q) (sym c.none.ensures) puts);
       counts = refl;
       draws = refl;
       settings = record { number = first.ensures.on.same; clock = refl; time_to_live = refl; cutoff = refl; queues = ap (λ (s : Segments). is_some s.queues) first.ensures.keeps };

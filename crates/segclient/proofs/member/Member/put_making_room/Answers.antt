@@ -1,9 +1,6 @@
 use Rattle.std.proofs.Common.{refl}
 use Rattle.segindex.specs.Words.{board_of}
-use Rattle.segclient.specs.PutParts.{most_for_put, plan_of, with_effort}
-use Rattle.segclient.specs.Putting.{most_calls}
-use Rattle.segclient.proofs.Few.{put_few}
-use Rattle.segclient.proofs.Whole.{whole_put}
+use Rattle.segclient.specs.PutParts.{with_effort}
 use Rattle.segclient.proofs.member.Member.put_making_room.Goals as goal
 
 pub returns-clause-puts : goal.returns-clause-puts
@@ -16,7 +13,7 @@ returns-clause-puts c = λ start is.
     record {
       effort = effort;
       between = record old { pass = last.new.pass; segments = last.new.segments; stats = with_effort effort old.stats };
-      puts = whole_put b (plan_of c.args.order) (most_for_put b.shape) (most_calls b.shape) told effort start last.new.pass (put_few b.shape) (last.ensures.puts start is);
+      puts = last.ensures.puts start is;
       counts = refl;
       draws = refl;
       settings = record { number = last.ensures.on.same; clock = refl; time_to_live = refl; cutoff = refl; queues = last.ensures.queues };
