@@ -224,21 +224,22 @@ void store_count(struct store_client *client, struct store_counts *counts) {
   pthread_mutex_unlock(&client->lock);
 }
 
-static uint64_t nanoseconds(void) {
+static uint64_t nanoseconds(clockid_t which) {
   struct timespec time;
-  clock_gettime(CLOCK_MONOTONIC, &time);
+  clock_gettime(which, &time);
   return (uint64_t)time.tv_sec * SECOND_NS + (uint64_t)time.tv_nsec;
 }
 
 /* Counts the rows, and has the client rest for as long as the part of the time says. What it didn't count in the last
- * second is on its account. The client's lock is held. How long it took. */
-static uint64_t count_rows(struct store_client *client, uint64_t began) {
+ * second is on its account. The client's lock is held. How long the processor was at it. */
+static uint64_t count_rows(struct store_client *client, uint64_t now) {
   segcache_index_stats_t table = {0};
+  uint64_t began = nanoseconds(CLOCK_THREAD_CPUTIME_ID);
   segcache_index_stats(&client->client, &table);
+  uint64_t took = nanoseconds(CLOCK_THREAD_CPUTIME_ID) - began, least = now > SECOND_NS ? now - SECOND_NS : 0;
   client->items = table.named_rows;
   client->rows = table.used_rows;
   client->overflow = table.overflow_buckets;
-  uint64_t took = nanoseconds() - began, least = began > SECOND_NS ? began - SECOND_NS : 0;
   uint64_t from = client->rests_until > least ? client->rests_until : least;
   client->rests_until = from + took * COUNTS_PART * client->store->plan.clients;
   return took;
@@ -246,7 +247,7 @@ static uint64_t count_rows(struct store_client *client, uint64_t began) {
 
 bool store_count_rows(struct store_client *client) {
   pthread_mutex_lock(&client->lock);
-  uint64_t began = nanoseconds(), took = began < client->rests_until ? 0 : count_rows(client, began);
+  uint64_t now = nanoseconds(CLOCK_MONOTONIC), took = now < client->rests_until ? 0 : count_rows(client, now);
   pthread_mutex_unlock(&client->lock);
   return took > LONG_NS;
 }
