@@ -5,13 +5,16 @@
 #include <errno.h>
 #include <fcntl.h>
 #include <grp.h>
+#include <linux/capability.h>
 #include <pwd.h>
 #include <signal.h>
 #include <stdio.h>
 #include <stdlib.h>
 #include <string.h>
+#include <sys/prctl.h>
 #include <sys/resource.h>
 #include <sys/signalfd.h>
+#include <sys/syscall.h>
 #include <unistd.h>
 
 enum { OTHER_DESCRIPTORS = 300 }; /* those of workers, listeners and the library */
@@ -32,14 +35,22 @@ static void raise_descriptors(const struct options *options) {
             (unsigned long long)limit.rlim_cur);
 }
 
-/* Takes the rights of another user, if root is to give its own up. */
+/* Gives all capabilities up, and takes none from a program that this one would run. */
+static bool give_up_capabilities(void) {
+  struct __user_cap_header_struct head = {.version = _LINUX_CAPABILITY_VERSION_3};
+  struct __user_cap_data_struct none[_LINUX_CAPABILITY_U32S_3] = {{0}};
+  if (syscall(SYS_capset, &head, none) == 0 && prctl(PR_SET_NO_NEW_PRIVS, 1, 0, 0, 0) == 0) return true;
+  return fault("capabilities can't be given up", strerror(errno));
+}
+
+/* Takes the rights of another user, if root is to give its own up. No capability is left, whoever starts it. */
 static bool become_user(const char *name) {
-  if (name == NULL || geteuid() != 0) return true;
+  if (name == NULL || geteuid() != 0) return give_up_capabilities();
   const struct passwd *user = getpwnam(name);
   if (user == NULL) return fault(name, "there is no such user");
   if (setgroups(0, NULL) != 0 || setgid(user->pw_gid) != 0 || setuid(user->pw_uid) != 0)
     return fault(name, strerror(errno));
-  return true;
+  return give_up_capabilities();
 }
 
 /* Goes on in the background. The parent waits until the server serves, and then ends well; or badly if it never does,

@@ -7,6 +7,7 @@
 #include <stdio.h>
 #include <stdlib.h>
 #include <string.h>
+#include <unistd.h>
 
 enum { USUAL_ITEM = 1024 * 1024 };                                    /* bytes, without -I */
 enum { KEYS = UCHAR_MAX + 1, TIME_TO_LIVE, KEEP_FROM, IDLE_TIMEOUT }; /* options without a letter */
@@ -59,7 +60,7 @@ static const char help[] =
     "                              closes connections that were silent for so long\n"
     "-d, --daemon                  runs in the background\n"
     "-P, --pidfile=FILE            writes the number of the process\n"
-    "-u, --user=NAME               whose rights to take, if root starts it\n"
+    "-u, --user=NAME               whose rights to take, if root starts it, which has to name one\n"
     "-A, --enable-shutdown         the command shutdown ends the server\n"
     "-C, --disable-cas             flush_all also takes what is stored in the same second\n"
     "-F, --disable-flush-all       refuses flush_all\n"
@@ -203,6 +204,7 @@ enum reading options_read(struct options *options, int count, char **words) {
   if (options->most_item > half) return bad("-I", "an item has half of -m at most");
   if (options->most_item == 0) options->most_item = half < USUAL_ITEM ? (uint32_t)half : USUAL_ITEM;
   if (options->socket_path == NULL && options->port == NO_PORT) return bad("-p 0", "needs a socket by -s");
+  if (options->user == NULL && geteuid() == 0) return bad("-u", "root has to name a user whose rights to take");
   return RUN;
 }
 

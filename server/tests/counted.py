@@ -9,8 +9,8 @@ import time
 from pathlib import Path
 
 from lines import NOT_A_NUMBER, TOO_LARGE
-from talk import (alone, check, connect, count_there, free_port, memory_of, read, read_to, running, say, start, stats_of,
-                  store_all, wait_for)
+from talk import (alone, check, connect, count_there, free_port, memory_of, read, read_to, running, say, start,
+                  stats_of, store_all, wait_for)
 
 BUSY = "SERVER_ERROR busy: others write to this key\r\n"
 NO_MEMORY = "SERVER_ERROR out of memory storing object\r\n"

@@ -4,7 +4,6 @@
 import os
 import pwd
 import re
-import resource
 import shutil
 import signal
 import socket
@@ -14,7 +13,8 @@ import threading
 import time
 from pathlib import Path
 
-from talk import alone, check, connect, free_port, read_to, running, say, start, stats_of, wait_for
+from talk import (RIGHTS, alone, check, connect, free_port, read_to, running, say, shared_folder, start, stats_of,
+                  wait_for)
 
 FEW, MORE, MOST = 255, 2**31 - 1, 2**32 - 1
 SIZE = "an item's size is at least 1024, as in -I 1024, -I 512k or -I 1m"
@@ -102,9 +102,10 @@ def bad_options(command):
 
 def bad_places(command):
     """Places where no server can listen or write, and what says so."""
-    with tempfile.TemporaryDirectory() as folder, running(command) as port:
-        file, long_name = Path(folder, "file"), "/" + "n" * 107
+    with shared_folder() as folder, running(command) as port:
+        file, inner, long_name = Path(folder, "file"), Path(folder, "inner"), "/" + "n" * 107
         file.touch()
+        inner.mkdir()
         taken = ",".join(f"127.0.0.{i}" for i in range(1, 10))
         for words, line in ((["-p", str(port), "-l", "127.0.0.1"], f"127.0.0.1, port {port}: Address already in use"),
                             (["-p", "-1", "-l", taken], "127.0.0.9: too many addresses"),
@@ -119,11 +120,10 @@ def bad_places(command):
                       "the cache can't be opened: out of memory")
         ends_with(command, ["-p", "-1", "-P", "/nowhere/pid"], 1, "/nowhere/pid: No such file or directory")
         for name, line in (("/nowhere/ports", "/nowhere/ports.new: No such file or directory"),
-                           (folder, f"{folder}: Is a directory"),
+                           (str(inner), f"{inner}: Is a directory"),
                            ("/" + "n" * 4092, "/" + "n" * 4092 + ": the name is too long")):
             ends_with(command, ["-p", "-1"], 1, f"to listen, {line}",
                       env={**os.environ, "MEMCACHED_PORT_FILENAME": name})
-        Path(folder + ".new").unlink(missing_ok=True)
         check(file.exists(), "what can't be listened at stays")
         with connect(port) as connection:
             say(connection, "mn\r\n", "MN\r\n")
@@ -141,7 +141,7 @@ def serving_at(path):
 
 def files(command):
     """A UNIX socket, its access bits, and what a server that was killed leaves."""
-    with tempfile.TemporaryDirectory() as folder:
+    with shared_folder() as folder:
         path = Path(folder, "s")
         for words, bits in ((["-s", str(path), "-a", "666", "-b", "1"], 0o666), (["-p", "0", "-s", str(path)], 0o700),
                             (["--unix-socket", str(path), "--unix-mask", "777", "-b", "1"], 0o777)):
@@ -178,7 +178,7 @@ def behind(command, server, path):
 
 def background(command, names=("-d", "-P")):
     """A file with the process's number, the background, and a file with the ports."""
-    with tempfile.TemporaryDirectory() as folder:
+    with shared_folder() as folder:
         pid_file, ports = Path(folder, "pid"), Path(folder, "ports")
         environment = {**os.environ, "MEMCACHED_PORT_FILENAME": str(ports)}
         words = [*command, "-p", "-1", "-l", "127.0.0.1,127.0.0.2", *names, str(pid_file)]
@@ -225,20 +225,39 @@ def told(command):
         check(re.fullmatch(wanted, text), f"{words}: {text}")
 
 
+def rights_of(connection):
+    """What the server that this connection goes to may do, as Linux shows it."""
+    text = Path(f"/proc/{stats_of(connection)['pid']}/status").read_text()
+    return dict(line.split(":", 1) for line in text.splitlines())
+
+
 def user(command):
-    """-u gives root's rights up, all of them."""
+    """Root has to name a user. -u gives root's rights up, all of them, and no server has a capability."""
     if os.geteuid() != 0:
         return print("left out: -u: only root can give rights up")
+    bare = command[:-len(RIGHTS)]
+    ends_with(bare, ["-p", "-1"], 64, "-u: root has to name a user whose rights to take")
     ends_with(command, ["-p", "-1", "-u", "nonesuch"], 71, "nonesuch: there is no such user")
-    nobody = pwd.getpwnam("nobody")
-    with running(["setpriv", "--groups", "4", *command], "--user", "nobody") as port, connect(port) as connection:
-        status = Path(f"/proc/{stats_of(connection)['pid']}/status").read_text()
-        wanted = ((f"Uid:{f'{chr(9)}{nobody.pw_uid}' * 4}\n"), f"Gid:{f'{chr(9)}{nobody.pw_gid}' * 4}\n")
-        check(all(line in status for line in wanted) and re.search(r"^Groups:\s*$", status, re.M), f"-u: {status}")
+    nobody, capable = pwd.getpwnam("nobody"), "+net_bind_service"
+    as_nobody = ["setpriv", f"--reuid={nobody.pw_uid}", f"--regid={nobody.pw_gid}", "--clear-groups"]
+    kept = ["setpriv", "--securebits", "+no_setuid_fixup", "--inh-caps", capable]
+    for before, words, user, group in (([], RIGHTS, nobody.pw_uid, nobody.pw_gid), ([], ["--user", "root"], 0, 0),
+                                       (["setpriv", "--groups", "4"], RIGHTS, nobody.pw_uid, nobody.pw_gid),
+                                       (kept, RIGHTS, nobody.pw_uid, nobody.pw_gid),
+                                       ([*as_nobody, "--inh-caps", capable, "--ambient-caps", capable], [],
+                                        nobody.pw_uid, nobody.pw_gid)):
+        with running([*before, *bare], *words) as port, connect(port) as connection:
+            status = rights_of(connection)
+            ids = [status["Uid"].split(), status["Gid"].split()]
+            check(ids == [[str(user)] * 4, [str(group)] * 4] and status["Groups"].split() == [],
+                  f"{before} {words}: {ids} {status['Groups']}")
+            left = {name: status[name].strip() for name in ("CapInh", "CapPrm", "CapEff", "CapAmb", "NoNewPrivs")}
+            check(int(left["NoNewPrivs"]) == 1 and not any(int(left[name], 16) for name in left if name[0] == "C"),
+                  f"{before} {words}: no capability is left: {left}")
     with tempfile.TemporaryDirectory() as folder:
         os.chown(folder, nobody.pw_uid, nobody.pw_gid)
         path = Path(folder, "s")
-        with start([*command, "-s", str(path), "-u", "nobody"]) as server:
+        with start([*command, "-s", str(path)]) as server:
             with serving_at(path) as connection:
                 say(connection, "mn\r\n", "MN\r\n")
             check(path.stat().st_uid == nobody.pw_uid, f"a socket's file is the user's: {path.stat()}")
@@ -264,7 +283,7 @@ def addresses(command):
 
 def closed_outputs(command):
     """With input and outputs closed, it serves in the background as else."""
-    with tempfile.TemporaryDirectory() as folder:
+    with shared_folder() as folder:
         pid_file = Path(folder, "pid")
         words = [*command, "-l", "127.0.0.1", "-p", str(port := free_port()), "-d", "-P", str(pid_file)]
         ran = subprocess.run(["sh", "-c", 'exec "$@" <&- >&- 2>&-', "sh", *words], timeout=60)
@@ -418,8 +437,8 @@ def descriptors_had(command):
         with start(words, stderr=subprocess.PIPE, text=True) as server:
             wait_for(port, server)
             with connect(port) as connection:
-                pid = int(stats_of(connection)["pid"])
-            soft, _ = resource.prlimit(pid, resource.RLIMIT_NOFILE)
+                shown = Path(f"/proc/{stats_of(connection)['pid']}/limits").read_text()
+            soft = int(re.search(r"Max open files\s+(\d+)", shown)[1])
             server.send_signal(signal.SIGTERM)
             text = server.stderr.read()
         check(soft == had and text == line, f"--nofile={limits}: {soft} {text}")

@@ -7,10 +7,14 @@ import re
 import signal
 import socket
 import subprocess
+import tempfile
 import threading
 import time
 from contextlib import contextmanager
 from pathlib import Path
+
+# What each server is started with: root has to name a user. To others it says nothing.
+RIGHTS = ["-u", "nobody"]
 
 faults = 0
 first = False  # the first fault ends the tests
@@ -48,6 +52,14 @@ def leave():
     for server in servers:
         server.kill()
     os._exit(1)
+
+
+@contextmanager
+def shared_folder():
+    """A folder that the server's user can write to as well as the tests' own."""
+    with tempfile.TemporaryDirectory() as folder:
+        os.chmod(folder, 0o777)
+        yield folder
 
 
 def free_port():
