@@ -255,7 +255,7 @@ def spread(command):
             return print("left out: which threads work: Linux has no schedstat here")
         before = [int((task / "schedstat").read_text().split()[0]) for task in tasks]
         for other in others:
-            say(other, "get none\r\n" * 2000, "END\r\n" * 2000)
+            say(other, "get none\r\n" * 8000, "END\r\n" * 8000)
             other.close()
         took = [int((task / "schedstat").read_text().split()[0]) - was for task, was in zip(tasks, before)]
         check(sum(it > 200000 for it in took) >= 3, f"three threads work: {took} ns")
