@@ -441,21 +441,31 @@ static inline uint32_t segcache_gets_many(segcache_client *client, const void *k
   return SEGCACHE_CALL(client, segcache_raw_gets_many(&client->raw, (const uint8_t *)keys, len, lookups, count, now));
 }
 
-/* Loads what gets of so many lookups from this one on will read, SEGCACHE_AHEAD of them at most. No answer depends on
-   it. A key that is too long is passed over. Answers: OK, NO_HANDLE. */
-static inline uint32_t segcache_look_ahead(segcache_client *client, const segcache_lookup_into *lookups, size_t first,
-                                           size_t count) {
+/* The same as segcache_look_ahead, once the client is in a call. */
+static inline uint32_t segcache_look_ahead_entered(segcache_client *client, const segcache_lookup_into *lookups,
+                                                   size_t first, size_t count) {
   uint8_t keys[SEGCACHE_AHEAD * SEGCACHE_MAX_KEY];
   segcache_key_place places[SEGCACHE_AHEAD];
   size_t i, end = 0;
+  if (client == NULL) return SEGCACHE_NO_HANDLE;
+  if (count > SEGCACHE_AHEAD) count = SEGCACHE_AHEAD;
   for (i = 0; i < count; i++) {
     const segcache_lookup_into *it = &lookups[first + i];
+    SEGCACHE_BYTES(it->key, it->key_len);
     places[i].key_at = end;
     places[i].key_len = it->key_len <= SEGCACHE_MAX_KEY ? it->key_len : 0;
     if (places[i].key_len > 0) memcpy(keys + end, it->key, places[i].key_len);
     end += places[i].key_len;
   }
   return segcache_raw_look_ahead(&client->raw, keys, end, places, count);
+}
+
+/* Loads what gets of so many lookups from this one on will read, of the first SEGCACHE_AHEAD where there are more. No
+   answer depends on it. A key that is too long is passed over. Answers: OK, NO_HANDLE. */
+static inline uint32_t segcache_look_ahead(segcache_client *client, const segcache_lookup_into *lookups, size_t first,
+                                           size_t count) {
+  SEGCACHE_BYTES(lookups, count);
+  return SEGCACHE_CALL(client, segcache_look_ahead_entered(client, lookups, first, count));
 }
 
 /* The same as segcache_get_many_into or segcache_gets_many_into, once the client is in a call. */
@@ -465,7 +475,7 @@ static inline uint32_t segcache_look_up(segcache_client *client, segcache_lookup
   uint32_t status;
   do {
     end = count - first < SEGCACHE_AHEAD ? count : first + SEGCACHE_AHEAD;
-    status = segcache_look_ahead(client, lookups, first, end - first);
+    status = segcache_look_ahead_entered(client, lookups, first, end - first);
     if (status != SEGCACHE_OK) return status;
     for (i = first; i < end; i++) {
       segcache_lookup_into *it = &lookups[i];
@@ -635,6 +645,7 @@ static inline uint32_t segcache_note(segcache_client *client, segcache_note_t *n
 
 /* The same as segcache_learn, once the client is in a call. */
 static inline uint32_t segcache_learn_entered(segcache_client *client, segcache_note_t *note) {
+  if (client == NULL) return SEGCACHE_NO_HANDLE;
   return SEGCACHE_CALL(note, segcache_raw_learn(&client->raw, &note->raw));
 }
 
@@ -701,6 +712,7 @@ static inline uint32_t segcache_index_stats(segcache_client *client, segcache_in
 
 /* The same, once the cache is in a call. */
 static inline uint32_t segcache_give_back_entered(segcache *cache, segcache_client *client) {
+  if (cache == NULL) return SEGCACHE_NO_HANDLE;
   return SEGCACHE_CALL(client, segcache_raw_give_back(&cache->raw, &client->raw));
 }
 

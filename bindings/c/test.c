@@ -463,6 +463,7 @@ int main(void) {
   test_shards();
   test_writers();
   test_bytes();
+  test_none();
   CHECK(out == before);
   printf("%d checks, %d faults\n", checks, faults);
   return faults == 0 ? 0 : 1;

@@ -50,5 +50,6 @@ void test_debug(void);
 void test_shards(void);
 void test_writers(void);
 void test_bytes(void);
+void test_none(void);
 
 #endif

@@ -428,54 +428,52 @@ static void test_homes(segcache *cache, segcache_client *client, segcache *other
   if (!is_zeroed(&none, sizeof none)) faults++, printf("a note without memory isn't zeroed\n");
 }
 
-/* A null handle is none, and neither export nor client is needed to say so. */
+/* A null handle is none, and no export is needed to say so. The calls stand in none.h. */
+enum { CALLS_BY_NONE = __LINE__ };
+#define NONE(call)                                                                                 \
+  do {                                                                                             \
+    told[0] = 0, story[0] = 0;                                                                     \
+    check(CALLS_BY_NONE, call, SEGCACHE_NO_HANDLE, "");                                            \
+    if (story[0] != 0) faults++, printf("%d: an export has: %s: %s", CALLS_BY_NONE, #call, story); \
+  } while (0)
+#include "none.h"
+
 static void test_null_handles(segcache *cache, segcache_client *client) {
-  char bytes[SEGCACHE_MAX_VALUE], key[SEGCACHE_MAX_KEY];
-  size_t length, key_len;
-  uint32_t version;
-  segcache_lookup lookup = {0};
-  segcache_lookup_into into = {0};
-  segcache_stats_t stats;
-  segcache_index_stats_t table;
-  segcache_note_t note = {0};
+  static written to;
+  segcache_note_t note = {0}, none = {0};
   segcache_cursor cursor;
-  STOPS(segcache_get(NULL, "k", 1, 0, bytes, 32, &length), SEGCACHE_NO_HANDLE);
-  STOPS(segcache_gets(NULL, "k", 1, 0, bytes, 32, &length, &version), SEGCACHE_NO_HANDLE);
-  STOPS(segcache_get_many(NULL, "k", 1, 0, &lookup, 1), SEGCACHE_NO_HANDLE);
-  STOPS(segcache_gets_many(NULL, "k", 1, 0, &lookup, 1), SEGCACHE_NO_HANDLE);
-  STOPS(segcache_get_many_into(NULL, &into, 1, 0), SEGCACHE_NO_HANDLE);
-  STOPS(segcache_gets_many_into(NULL, &into, 1, 0), SEGCACHE_NO_HANDLE);
-  STOPS(segcache_get_many_into(NULL, NULL, 0, 0), SEGCACHE_NO_HANDLE);
-  STOPS(segcache_put(NULL, "k", 1, "v", 1, 0), SEGCACHE_NO_HANDLE);
-  STOPS(segcache_put_for(NULL, "k", 1, "v", 1, 1, 0), SEGCACHE_NO_HANDLE);
-  STOPS(segcache_set(NULL, "k", 1, "v", 1, 0), SEGCACHE_NO_HANDLE);
-  STOPS(segcache_add(NULL, "k", 1, "v", 1, 0), SEGCACHE_NO_HANDLE);
-  STOPS(segcache_replace(NULL, "k", 1, "v", 1, 0), SEGCACHE_NO_HANDLE);
-  STOPS(segcache_cas(NULL, "k", 1, "v", 1, 0, 0), SEGCACHE_NO_HANDLE);
-  STOPS(segcache_delete(NULL, "k", 1, 0), SEGCACHE_NO_HANDLE);
-  STOPS(segcache_hold(NULL, "k", 1, 0), SEGCACHE_NO_HANDLE);
-  STOPS(segcache_held_value(NULL, bytes, 32, &length), SEGCACHE_NO_HANDLE);
-  STOPS(segcache_release(NULL), SEGCACHE_NO_HANDLE);
-  STOPS(segcache_set_time_to_live(NULL, 1), SEGCACHE_NO_HANDLE);
-  STOPS(segcache_keep_from(NULL, 1), SEGCACHE_NO_HANDLE);
-  STOPS(segcache_keep_nothing(NULL), SEGCACHE_NO_HANDLE);
-  STOPS(segcache_make_room(NULL, 0), SEGCACHE_NO_HANDLE);
-  STOPS(segcache_stats(NULL, &stats), SEGCACHE_NO_HANDLE);
-  STOPS(segcache_index_stats(NULL, &table), SEGCACHE_NO_HANDLE);
-  STOPS(segcache_note(NULL, &note), SEGCACHE_NO_HANDLE);
-  STOPS(segcache_note(client, NULL), SEGCACHE_NO_HANDLE);
-  STOPS(segcache_learn(NULL, &note), SEGCACHE_NO_HANDLE);
-  STOPS(segcache_learn(client, NULL), SEGCACHE_NO_HANDLE);
-  STOPS(segcache_learn(client, &note), SEGCACHE_NO_HANDLE);
-  STOPS(segcache_note_free(NULL), SEGCACHE_NO_HANDLE);
-  STOPS(segcache_give_back(NULL, client), SEGCACHE_NO_HANDLE);
-  STOPS(segcache_give_back(cache, NULL), SEGCACHE_NO_HANDLE);
+  answer = SEGCACHE_OK;
+  segcache_note(client, &note);
+  call_by_no_client(NULL, cache, &note, &to);
+  call_by_no_note(NULL, client);
+  call_by_no_cache(NULL, client, &cursor);
+  call_by_no_cursor(NULL, &to);
+  STOPS(segcache_learn(client, &none), SEGCACHE_NO_HANDLE);
   STOPS(segcache_give_back(cache, &(segcache_client){{0}, 0, {0}}), SEGCACHE_NO_HANDLE);
   STOPS(segcache_give_back(&(segcache){{0}, 0}, client), SEGCACHE_NO_HANDLE);
-  STOPS(segcache_close(NULL, &cursor), SEGCACHE_NO_HANDLE);
-  STOPS(segcache_next(NULL, key, &key_len, bytes, &length), SEGCACHE_NO_HANDLE);
-  STOPS(segcache_cursor_free(NULL), SEGCACHE_NO_HANDLE);
-  STOPS(segcache_free(NULL), SEGCACHE_NO_HANDLE);
+}
+
+/* A look ahead by itself: of the lookups from one on, and of no more than it has room for. */
+static void test_look_ahead(segcache_client *client) {
+  enum { MOST = 40 };
+  static char keys[MOST][4];
+  char wanted[sizeof story];
+  segcache_lookup_into lookups[MOST];
+  for (size_t i = 0; i < MOST; i++)
+    lookups[i] = (segcache_lookup_into){keys[i], (size_t)snprintf(keys[i], 4, "%zu", i), NULL, 0, 0, 0, 0};
+  for (size_t first = 0; first < MOST; first += 7) {
+    for (size_t count = 0; first + count <= MOST; count++) {
+      size_t some = count < 16 ? count : 16, end = 0;
+      end += (size_t)snprintf(wanted, sizeof wanted, "look_ahead %p %zu:", AT & client->raw, some);
+      for (size_t i = 0; i < some; i++) end += (size_t)snprintf(wanted + end, sizeof wanted - end, " %zu", first + i);
+      snprintf(wanted + end, sizeof wanted - end, "\n");
+      story[0] = 0, answer_ahead = count % 2 ? SEGCACHE_OK : SEGCACHE_NO_HANDLE;
+      checks++;
+      if (segcache_look_ahead(client, lookups, first, count) != answer_ahead || strcmp(story, wanted) != 0)
+        faults++, printf("%d: %zu lookups from %zu on: %s, and not %s\n", __LINE__, count, first, story, wanted);
+    }
+  }
+  answer_ahead = SEGCACHE_OK;
 }
 
 #ifdef SEGCACHE_DEBUG
@@ -554,6 +552,8 @@ static void test_pointers(segcache_client *client, segcache_cursor *cursor) {
   ABORTS(segcache_gets_many(client, "k", 1, 0, NULL, 1));
   ABORTS(segcache_gets_many(client, &lookups[1], 1, 0, lookups, 2));
   test_lookups_apart(client);
+  ABORTS(segcache_look_ahead(client, NULL, 0, 1));
+  ABORTS(segcache_look_ahead(client, &(segcache_lookup_into){NULL, 1, NULL, 0, 0, 0, 0}, 0, 1));
   ABORTS(segcache_put(client, NULL, 1, "v", 1, 0));
   ABORTS(segcache_put(client, "k", 1, NULL, 1, 0));
   ABORTS(segcache_put_for(client, NULL, 1, "v", 1, 1, 0));
@@ -658,6 +658,7 @@ int main(void) {
   segcache_open(100, 1, &other, &foreign);
   test_reads(&client);
   test_many_into(&client);
+  test_look_ahead(&client);
   test_writes(&client);
   test_fill(&client);
   test_settings(&client);
