@@ -742,8 +742,9 @@ static inline uint32_t segcache_close(segcache *cache, segcache_cursor *cursor) 
 
 /* Copies the next pair: `key[SEGCACHE_MAX_KEY]` and `value[SEGCACHE_MAX_VALUE]`, and their lengths. The pairs of one
    table come after those of another, and those of one in the order of the keys' bytes.
-   Answers: OK, END, NO_HANDLE. Where a further table is closed, also OUT_OF_MEMORY: memory for the list of its pairs was
-   refused, and they may be lost. Or BUSY, as of segcache_close. The next call goes on. */
+   Answers: OK, END, NO_HANDLE. Where a further table is to be closed, also OUT_OF_MEMORY: memory for that was refused. Or
+   BUSY, as of segcache_close. By each of these two answers one table is left out, with all of its pairs, and the next
+   call goes on with the next table. So calls come to END also where memory stays refused. */
 static inline uint32_t segcache_next(segcache_cursor *cursor, void *key, size_t *key_len, void *value,
                                      size_t *value_len) {
   SEGCACHE_APART(key, SEGCACHE_MAX_KEY, value, SEGCACHE_MAX_VALUE);

@@ -18,6 +18,7 @@ extern atomic_long requests;                  /* how often memory was asked for 
 extern atomic_long out;                       /* blocks of memory that are out */
 extern atomic_long bytes_out, most_bytes_out; /* their bytes, and the most that were */
 extern long until_refused;                    /* so many allocations more, and one is refused; none if negative */
+extern int stays_refused;                     /* whether all after that one are refused, too */
 
 /* From now on a block that is freed is the next one of its size again; and from now on no longer. */
 void reuse_blocks(void);

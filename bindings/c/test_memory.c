@@ -9,6 +9,7 @@ int checks, faults;
 
 atomic_long requests, out, bytes_out, most_bytes_out;
 long until_refused = -1;
+int stays_refused;
 
 /* A block takes 16 bytes more than can be used of it, at most. */
 static void count_bytes(void *at, long sign) {
@@ -26,6 +27,7 @@ void __wrap_free(void *);
 
 static int refuses(void) {
   requests++;
+  if (until_refused == 0 && stays_refused) return 1;
   return until_refused >= 0 && until_refused-- == 0;
 }
 

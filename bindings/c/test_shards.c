@@ -6,6 +6,8 @@ enum {
   KEYS = 300000, /* more than one table has room for */
   FILLED = 5000, /* of these so many are put */
   THREADS = 2,
+  TABLES = 3,
+  MORE_KEYS = 500000, /* of these 200,000 have a table at most */
 };
 
 static size_t name(char key[16], unsigned i) { return (size_t)snprintf(key, 16, "key %u", i); }
@@ -157,6 +159,7 @@ static void test_memory_of_close(void) {
   for (int whole = 0; !whole; refused++) {
     unsigned char seen[FILLED] = {0};
     size_t listed = 0;
+    long losses_before = losses;
     uint32_t status;
     EXPECT(segcache_open(KEYS, THREADS, &cache, clients), SEGCACHE_OK);
     fill(clients);
@@ -172,6 +175,7 @@ static void test_memory_of_close(void) {
       } while (status == SEGCACHE_OK || status == SEGCACHE_OUT_OF_MEMORY);
       EXPECT(status, SEGCACHE_END);
       CHECK(listed > FILLED / 4 && listed <= FILLED);
+      CHECK((listed == FILLED) == (losses == losses_before)); /* a table is left out only where an answer says so */
       whole = until_refused >= 0;
       CHECK(!whole || listed == FILLED);
       for (unsigned i = 0; i < FILLED; i++) CHECK(seen[i] <= 1);
@@ -187,8 +191,59 @@ static void test_memory_of_close(void) {
   CHECK(losses > 0);
 }
 
+/* How many tables are left out where memory is refused from this allocation of a close on. Each answer that isn't a pair
+ * leaves one out, and then comes the end. `ends` has how many allocations there were when so many tables were closed. */
+static unsigned left_out_of(long refused, long ends[TABLES]) {
+  segcache cache;
+  segcache_client clients[THREADS];
+  segcache_cursor cursor;
+  char key[SEGCACHE_MAX_KEY], value[SEGCACHE_MAX_VALUE];
+  size_t key_length, length;
+  unsigned char seen[FILLED] = {0};
+  unsigned listed = 0, left_out = 0, closed = 0;
+  uint32_t status;
+  long before = out, begin;
+  EXPECT(segcache_open(MORE_KEYS, THREADS, &cache, clients), SEGCACHE_OK);
+  fill(clients);
+  give_back(&cache, clients);
+  begin = requests, until_refused = refused, stays_refused = 1;
+  EXPECT(segcache_close(&cache, &cursor), SEGCACHE_OK);
+  ends[closed++] = requests - begin;
+  while (listed + left_out <= FILLED + TABLES) {
+    long asked = requests;
+    status = segcache_next(&cursor, key, &key_length, value, &length);
+    if (requests > asked && closed < TABLES) ends[closed++] = requests - begin;
+    if (status == SEGCACHE_END) break;
+    if (status == SEGCACHE_OK) CHECK(left_out == 0 && is_pair(key, key_length, value, length, seen));
+    else EXPECT(status, SEGCACHE_OUT_OF_MEMORY);
+    if (status == SEGCACHE_OK) listed++;
+    else left_out++;
+  }
+  EXPECT(segcache_next(&cursor, key, &key_length, value, &length), SEGCACHE_END);
+  until_refused = -1, stays_refused = 0;
+  for (unsigned i = 0; i < FILLED; i++) CHECK(seen[i] <= 1);
+  CHECK((listed == FILLED) == (left_out == 0));
+  /* Each table has about a third. */
+  CHECK(listed > (TABLES - left_out) * (FILLED / 4) && (left_out == 0 || listed < (TABLES - left_out) * (FILLED / 2)));
+  EXPECT(segcache_cursor_free(&cursor), SEGCACHE_OK);
+  CHECK(out == before);
+  return left_out;
+}
+
+/* The close of the second table is refused at each of its allocations, and with it that of the third. */
+static void test_memory_that_stays_refused(void) {
+  long ends[TABLES] = {0}, others[TABLES];
+  CHECK(left_out_of(-1, ends) == 0);
+  CHECK(0 < ends[0] && ends[0] < ends[1] && ends[1] < ends[2]);
+  for (long refused = ends[0]; refused < ends[1]; refused++) CHECK(left_out_of(refused, others) == 2);
+  CHECK(left_out_of(ends[1], others) == 1);
+  CHECK(left_out_of(ends[2] - 1, others) == 1);
+  CHECK(left_out_of(ends[2], others) == 0);
+}
+
 void test_shards(void) {
   test_calls();
+  test_memory_that_stays_refused();
   test_memory_of_open();
   test_memory_of_close();
 }

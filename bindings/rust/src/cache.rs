@@ -228,8 +228,9 @@ impl std::error::Error for Unclosed {
 }
 
 /// The content of a closed cache: the pairs of each table in the order of their keys' bytes. The tables are
-/// closed one after another, as their pairs are wanted. Where memory for the list of a table's pairs is refused,
-/// `next` returns None, and [`Content::is_whole`] false from then on. A loop ends there, and the next call goes on.
+/// closed one after another, as their pairs are wanted. Where memory for that is refused, the table is left out:
+/// `next` returns None, and [`Content::is_whole`] false from then on. A loop ends there, and the next call goes on
+/// with the next table.
 #[derive(Debug)]
 pub struct Content {
     cursor: Handle,
@@ -237,7 +238,7 @@ pub struct Content {
 }
 
 impl Content {
-    /// Whether no memory for pairs was refused so far.
+    /// Whether no table was left out so far.
     #[must_use]
     pub fn is_whole(&self) -> bool {
         self.whole

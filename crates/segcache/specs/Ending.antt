@@ -76,6 +76,13 @@ pub record IsDone (old new : Cursor) : Type 0 where
   pub pairs : new.pairs ≡ old.pairs
   pub next : new.next ≡ old.next
 
+-- the last of them wasn't closed, and was left out: its pairs aren't listed
+pub record LeavesOut (why : Status) (old new : Cursor) : Type 0 where
+  pub refused : Cursor
+  pub leaves : LeavesShard why old refused
+  pub takes : TakesLast refused new
+  pub pairs : new.pairs.items ≡ []
+
 abbrev pub TurnsAs : Cursor → Cursor → ShardClose → Type 0
 TurnsAs old new turn.Listed = Turns old new
 TurnsAs old new (turn.Refused why) = LeavesShard why old new
@@ -92,15 +99,16 @@ CloseInTurn [] old new = new ≡ old
 CloseInTurn (mid ∷ mids) old new = IsRead old × Turns old mid × CloseInTurn mids mid new
 
 -- Ok: there is a next pair. End: each pair was returned, and no shard is left.
--- Else the next shard wasn't closed, or, OutOfMemory, memory for its list was refused.
+-- Else the next shard is gone with its pairs: it wasn't closed, or, OutOfMemory, memory for its
+-- list was refused. So the call after this one goes on with the shard behind it.
 abbrev pub StopsAs : Cursor → Cursor → Status → Type 0
 StopsAs old new status.Ok = (new ≡ old) × (old.next < length old.pairs.items)
 StopsAs old new status.End = IsRead old × IsDone old new
 StopsAs old new returned =
     IsRead old
-    × (LeavesShard returned old new ⊎ ((returned ≡ status.OutOfMemory) × LosesShard old new))
+    × (LeavesOut returned old new ⊎ ((returned ≡ status.OutOfMemory) × LosesShard old new))
 
--- shards were closed until there was a next pair, or none could be closed
+-- shards were closed until there was a next pair, none was left, or one couldn't be closed
 pub record Seeks (returned : Status) (old new : Cursor) : Type 0 where
   pub mids : List Cursor
   pub last : Cursor

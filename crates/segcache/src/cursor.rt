@@ -74,13 +74,17 @@ impl Cursor {
     }
 
     /// Closes shards until there is a next pair. It is Ok if there is one.
+    /// A shard that can't be closed is left out, so that the next call goes on behind it.
     pub(crate) fn seek(&mut self, alloc: Global) -> Status
         ensures { Seeks result self.old self.new }
     {
         while self.next >= self.pairs.len() {
             match self.turn(alloc) {
                 ShardClose::Listed => {}
-                ShardClose::Refused(why) => return why,
+                ShardClose::Refused(why) => {
+                    self.homes.pop();
+                    return why;
+                }
                 ShardClose::Gone => return Status::OutOfMemory,
                 ShardClose::Done => return Status::End,
             }

@@ -9,6 +9,7 @@ use std::alloc::Global;
 
 /// Copies the next pair of a closed cache to the two buffers.
 /// It closes the next shard first if the last one has no pair left.
+/// If that can't be closed, the call is refused, and the next call goes on behind it.
 #[unsafe(no_mangle)]
 pub extern "C" fn segcache_raw_next(
     alloc: Global,

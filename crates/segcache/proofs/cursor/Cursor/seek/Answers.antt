@@ -1,6 +1,6 @@
 use Rattle.std.proofs.Common.{◌<◌, [], ◌∷◌, ◌++◌, length, rules, refl, inr}
 use Rattle.segcache.specs.Ending.{IsRead}
-use Rattle.segcache.proofs.Turned.{no_turn, one_turn, stops_refused}
+use Rattle.segcache.proofs.Turned.{left_out, no_turn, one_turn, stops_refused}
 use Rattle.segcache.proofs.cursor.Cursor.seek.Goals as goal
 
 pub loop-self-init : goal.loop-self-init
@@ -18,7 +18,8 @@ returns-in-Refused c =
     let so = c.loop-self.invariant in
     let mid = c.loop-self.self in
     let read : IsRead mid = search rules in
-    record { mids = so.0; last = mid; closes = so.1; stops = stops_refused c.in-Refused.why mid c.turn.new.self read c.in-Refused.ensures }
+    let out = left_out c.in-Refused.why mid c.turn.new.self c.pop.new.self c.pop.result c.in-Refused.ensures c.pop.ensures.items c.pop.ensures.variant in
+    record { mids = so.0; last = mid; closes = so.1; stops = stops_refused c.in-Refused.why mid _ read out }
 
 pub returns-in-Gone : goal.returns-in-Gone
 returns-in-Gone c =
