@@ -102,11 +102,13 @@
 //! `Value` then owns its bytes on the heap, and isn't `Copy`; `get_into` allocates nothing. The feature is the choice of
 //! the program, which has one library: a crate in between leaves it off, and takes a value for what reads as a slice.
 //!
-//! **What is proved**: the library's functions, under Rattle, where their caller keeps to what the header
-//! `segcache.h` lists. This crate is written by hand, and keeps to it by ownership and borrows: a client is
-//! moved and never copied, no two threads share it, and it is given back to its own cache. One thing is left to
-//! the program: a thread that calls has 64 KiB of stack, or 96 KiB with the feature `wide`, as each has that wasn't
-//! made by [`std::thread::Builder::stack_size`] with less.
+//! **What is proved**: the functions of the library's default build, under Rattle, where their caller keeps to what
+//! the header `segcache.h` lists. The wide build was proved whole at an earlier commit, and in part since: the
+//! repository's `docs/FORMAT.md` has what was proved when ("Items of several rows"). This crate is written by hand,
+//! and keeps to the header's list by ownership and borrows: a client is moved and never copied, no two threads share
+//! it, and it is given back to its own cache. One thing is left to the program: a thread that calls has 64 KiB of
+//! stack, or 96 KiB with the feature `wide`, as each has that wasn't made by
+//! [`std::thread::Builder::stack_size`] with less.
 #![warn(missing_docs)]
 
 mod bytes;
