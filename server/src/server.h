@@ -18,6 +18,8 @@ struct counts {
   uint64_t read_bytes, written_bytes, yields, idle_kicks, reply_refused, read_refused;
 };
 
+enum { COUNTS = sizeof(struct counts) / sizeof(uint64_t) };
+
 /* The counts of all workers together, and those of the store. */
 struct totals {
   struct counts counts;
@@ -29,9 +31,8 @@ struct connection;
 struct worker {
   struct server *server;
   struct store_client *client;
-  struct counts counts; /* the worker's own, which no other thread reads */
-  pthread_mutex_t told_lock;
-  struct counts told; /* the counts as others may read them: without those of the turn that is being served */
+  struct counts counts;          /* the worker's own, which no other thread reads */
+  _Atomic uint64_t told[COUNTS]; /* the counts as others may read them: without the turn that is being served */
   pthread_t thread;
   int epoll, wake; /* wake: an eventfd, for connections that are handed over and for the end */
   uint32_t now;    /* the moment of this round */

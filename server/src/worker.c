@@ -118,7 +118,6 @@ bool worker_start(struct server *server, struct worker *worker) {
   worker->server = server;
   worker->epoll = epoll_create1(EPOLL_CLOEXEC);
   worker->wake = eventfd(0, EFD_CLOEXEC | EFD_NONBLOCK);
-  pthread_mutex_init(&worker->told_lock, NULL);
   pthread_mutex_init(&worker->handed_lock, NULL);
   return worker->epoll >= 0 && worker->wake >= 0 &&
          epoll_ctl(worker->epoll, EPOLL_CTL_ADD, worker->wake, &event) == 0 &&
@@ -132,7 +131,7 @@ void worker_stop(struct worker *worker) {
   buffer_free(&worker->spare_reply);
   close(worker->epoll);
   close(worker->wake);
-  pthread_mutex_destroy(&worker->handed_lock); /* another worker may still read what was told, whose lock stays */
+  pthread_mutex_destroy(&worker->handed_lock);
 }
 
 void worker_hand_over(struct worker *worker, int socket) {
@@ -151,14 +150,7 @@ void worker_hand_over(struct worker *worker, int socket) {
   eventfd_write(worker->wake, 1);
 }
 
-void worker_tell(struct worker *worker) {
-  pthread_mutex_lock(&worker->told_lock);
-  worker->told = worker->counts;
-  pthread_mutex_unlock(&worker->told_lock);
-}
-
-/* All counts of commands, as numbers in a row. */
-enum { COUNTS = sizeof(struct counts) / sizeof(uint64_t) };
+/* The counts of commands, as numbers in a row. */
 struct row {
   uint64_t of[COUNTS];
 };
@@ -169,12 +161,15 @@ static struct row row_of(const struct counts *counts) {
   return row;
 }
 
+void worker_tell(struct worker *worker) {
+  struct row row = row_of(&worker->counts);
+  for (size_t i = 0; i < COUNTS; i++) atomic_store_explicit(&worker->told[i], row.of[i], memory_order_relaxed);
+}
+
 static void add_counts(struct totals *totals, struct worker *worker) {
   struct store_counts store;
-  pthread_mutex_lock(&worker->told_lock);
-  struct row sums = row_of(&totals->counts), more = row_of(&worker->told);
-  pthread_mutex_unlock(&worker->told_lock);
-  for (size_t i = 0; i < COUNTS; i++) sums.of[i] += more.of[i];
+  struct row sums = row_of(&totals->counts);
+  for (size_t i = 0; i < COUNTS; i++) sums.of[i] += atomic_load_explicit(&worker->told[i], memory_order_relaxed);
   memcpy(&totals->counts, sums.of, sizeof sums.of);
   store_count(worker->client, &store);
   totals->store.evicted += store.evicted;

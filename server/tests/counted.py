@@ -1,6 +1,7 @@
 # SPDX-License-Identifier: MIT
 """Tests of the server's counts, of keys that are busy or have no room, and of what is given back."""
 
+import os
 import re
 import signal
 import subprocess
@@ -334,8 +335,14 @@ def drained(connection):
     return lambda: sum(ends)
 
 
+def processor_of(counts):
+    """The seconds of processor time that the server has taken."""
+    return float(counts["rusage_user"]) + float(counts["rusage_system"])
+
+
 def stats_in_a_piece(command):
-    """A thousand stats in one piece keep nobody waiting, neither at the same thread nor at the other one."""
+    """A thousand stats in one piece keep nobody waiting, neither at the same thread nor at the other one, and few of
+    them count all rows."""
     with running(command, "-t", "2", "-m", "32") as port:
         asker, *others = connections = [connect(port) for _ in range(3)]
         there = store_all(asker, ITEMS)
@@ -352,8 +359,30 @@ def stats_in_a_piece(command):
                 longest = max(longest, time.monotonic() - sent)
         check(answered() == 1000, f"all are answered: {answered()}")
         check(longest < 1, f"amid 1,000 stats a get took {longest:.2f} s")
+        took = processor_of(stats_of(others[0])) - processor_of(counts)
+        check(took < 6, f"1,000 stats took {took:.1f} s of the processor")
         for connection in connections:
             connection.close()
+
+
+def stats_by_turns(command):
+    """After each stats of a piece the thread's other connections have a turn. Both pieces are there at the start."""
+    with running(command, "-t", "1") as port, connect(port) as one, connect(port) as other:
+        say(one, "set n 0 0 1\r\n0\r\n", "STORED\r\n")
+        pid = int(stats_of(other)["pid"])
+        os.kill(pid, signal.SIGSTOP)
+        for task in Path(f"/proc/{pid}/task").iterdir():
+            while ") T " not in (task / "stat").read_text():
+                time.sleep(0.01)
+        one.sendall(b"incr n 1\r\nstats settings\r\n" * 60)
+        other.sendall(b"get n\r\nstats settings\r\n" * 60)
+        os.kill(pid, signal.SIGCONT)
+        got = b""
+        while got.count(b"END\r\n") < 120 and (more := other.recv(65536)):
+            got += more
+        seen = [int(number) for number in re.findall(rb"VALUE n 0 \d+\r\n(\d+)", got)]
+        steps = [after - before for before, after in zip([0, *seen], [*seen, 60])]
+        check(len(seen) == 60 and max(steps) <= 3, f"of two connections each has its turns: {seen}")
 
 
 def ends_soon(command, piece, items=0):

@@ -24,7 +24,6 @@ static void begin(void) {
   worker.client = server.store.clients;
   worker.server = &server;
   server.workers = &worker;
-  pthread_mutex_init(&worker.told_lock, NULL);
   pthread_mutex_init(&server.reset_lock, NULL);
 }
 
