@@ -130,12 +130,12 @@ fn store(rt: &impl Abort, board: &Board, pass: &mut Pass, key: &[u8], value: &[u
     same(rt, &set(board, pass, &key, &value), &WriteAnswer::Stored);
 }
 
-// Reads this value under the key `ab`.
-fn read(rt: &impl Abort, board: &Board, pass: &mut Pass, value: &[u8])
+// Reads this value under the key.
+fn read(rt: &impl Abort, board: &Board, pass: &mut Pass, key: &[u8], value: &[u8])
     requires { IsQuiet board.now pass.old }
     ensures { IsQuiet board.now pass.new }
 {
-    let key = Key::new(b"ab").expect(rt, "a key");
+    let key = Key::new(key).expect(rt, "a key");
     let value = Value::new(value).expect(rt, "a value");
     same(rt, &get(board, pass, &key, 0), &GetAnswer::Found(value));
 }
@@ -157,7 +157,7 @@ fn make(rt: &impl Abort, board: &Board, pass: &mut Pass, call: u32)
     match call {
         1 => same(rt, &refill(board, pass, 0, 9), &RefillAnswer::Refilled),
         2 => store(rt, board, pass, b"ab", b"xyz"),
-        3 => read(rt, board, pass, b"xyz"),
+        3 => read(rt, board, pass, b"ab", b"xyz"),
         4 => store(rt, board, pass, b"a", b"1"),
         5 => store(rt, board, pass, b"b", b"2"),
         6 => store(rt, board, pass, b"c", b"3"),
@@ -175,7 +175,7 @@ fn make(rt: &impl Abort, board: &Board, pass: &mut Pass, call: u32)
             &refill(board, pass, 0, u32::MAX),
             &RefillAnswer::Refilled,
         ),
-        _ => read(rt, board, pass, b"xy"),
+        _ => read(rt, board, pass, b"ab", b"xy"),
     }
 }
 
@@ -208,5 +208,36 @@ fn each_word_after_each_call(rt: HostRuntime) -> Result<(), Fail> {
         make_first(&rt, &board, &mut pass, calls);
         check(&rt, &board.close(pass), &words_after(calls));
     }
+    Ok(())
+}
+
+// The tag of the key is af6, the frequency 4, and the row the first of segment 0.
+#[test]
+fn three_hits_raise_the_frequency_to_4(rt: HostRuntime) -> Result<(), Fail> {
+    let shape = Shape {
+        overflow: 0,
+        segments_each: 1,
+        rows: 2,
+        first_version: 0,
+        ..SHAPE
+    };
+    let (board, mut passes) = quiet_board(rt.alloc(), shape)?;
+    let mut pass = pop(&board, &mut passes).expect(&rt, "a pass");
+    let told = refill(&board, &mut pass, 0, u32::MAX);
+    same(&rt, &told, &RefillAnswer::Refilled);
+    store(&rt, &board, &mut pass, b"a", b"1");
+    read(&rt, &board, &mut pass, b"a", b"1");
+    read(&rt, &board, &mut pass, b"a", b"1");
+    read(&rt, &board, &mut pass, b"a", b"1");
+    let words = board.close(pass);
+    // The counter, a bucket, and a segment of a word and two rows.
+    let mut wanted = [0; 1 + 8 + 17];
+    wanted[1] = 0x0000_0001_0000_0000;
+    wanted[2] = 0xaf60_4000_0000_0000;
+    wanted[9] = 0xffff_ffff_0000_0000;
+    wanted[10] = 0x0000_0000_0000_0101;
+    wanted[11] = 0x0000_0000_0000_0061;
+    wanted[14] = 0x0000_0000_0000_0031;
+    check(&rt, &words, &wanted);
     Ok(())
 }
