@@ -1,3 +1,4 @@
+pub mod Ahead
 pub mod Closing
 pub mod Made
 pub mod Minding

@@ -1,27 +1,50 @@
 //! A look ahead: words that commands on some keys are about to read are loaded together,
-//! so that the waits for memory overlap. No pass takes these loads: nothing follows from what
-//! they find, and they change nothing.
+//! so that the waits for memory overlap.
+//!
+//! For each key a pass takes one step, which its trace has. This step is the leave to load
+//! the words of a chain and one row besides: 37 words at most. These loads are no steps. Nothing
+//! follows from what they find, and they change nothing.
 ghost use Rattle.std.specs.Prelude.{◌<◌, ◌≤◌, ◌+◌, ◌↔◌, IsTrue};
 ghost use Rattle.segcore.specs.declared.cell.Cell.TheVariants.{OfRow};
 ghost use Rattle.segcore.specs.Words.{IsCell};
+ghost use Rattle.segbase.specs.Ahead.{LooksOnce};
+ghost use Rattle.segbase.specs.Passes.{IsPassOf};
 
 use crate::board::Board;
 use crate::overflow::CHAIN_BUCKETS;
+use crate::pass::Pass;
 use crate::place::{Place, Spot};
-use segword::{BUCKET_WORDS, Chain, Item, Key, LAST_WORD, ROW_WORDS, bucket_of, hash, tag_of};
+use segword::{BUCKET_WORDS, Chain, Item, LAST_WORD, ROW_WORDS, tag_of};
 
 // So many keys are looked ahead for at a time.
 const PIECE: usize = 16;
 
-// Keys that are looked for: of each the tag, and the next bucket of its chain.
+/// Keys that are looked for in one index: of each the tag, and the next bucket of its chain.
+/// A step of a pass puts each key here, and only that.
 #[derive(Drop)]
-struct Seekers {
+pub struct Seekers {
     tags: [u16; PIECE],
     buckets: [u32; PIECE],
     count: usize,
 }
 
 impl Seekers {
+    /// No keys.
+    #[inline(always)]
+    pub fn new() -> Seekers {
+        Seekers {
+            tags: [0; PIECE],
+            buckets: [0; PIECE],
+            count: 0,
+        }
+    }
+
+    /// Whether no other key has room here.
+    #[inline(always)]
+    pub fn is_full(&self) -> bool {
+        self.count >= PIECE
+    }
+
     // One more, if there is room.
     #[inline(always)]
     fn push(&mut self, tag: u16, bucket: u32) {
@@ -33,18 +56,27 @@ impl Seekers {
     }
 }
 
-/// A key that is looked for: its tag, and the bucket of its chain that comes next.
-#[derive(Clone, Copy, Debug)]
+/// A key that is looked for: its tag, the bucket of its chain that comes next,
+/// and how many more may come. It can't be copied: a step of a pass makes it, and only that.
+#[derive(Debug, Drop)]
 pub struct Seeker {
     tag: u16,
     bucket: u32,
+    left: u32,
+}
+
+/// Leave to load the ends of a row, once.
+#[derive(Debug, Drop)]
+pub struct RowAhead {
+    segment: u32,
+    row: u32,
 }
 
 /// What the words of a seeker's bucket lead to.
-#[derive(Clone, Copy, Debug)]
+#[derive(Debug, Drop)]
 pub enum Lead {
-    /// The item of a word with the key's tag.
-    Item(Item),
+    /// The row of a word with the key's tag.
+    Row(RowAhead),
     /// The next bucket of the chain.
     Bucket(Seeker),
     /// The chain ends here.
@@ -52,41 +84,69 @@ pub enum Lead {
 }
 
 impl Board {
-    /// Loads the words that commands on these keys will read: of each key the buckets of its
-    /// chain, up to a word with the key's tag, and the row that this word names.
-    pub fn look_ahead(&self, keys: &[Key]) {
-        for piece in keys.chunks(PIECE) {
-            self.look_ahead_piece(piece);
+    /// Looks for a key of this hash: at the first bucket of its chain, whose ends are loaded.
+    #[inline(always)]
+    pub fn seek(&self, pass: &mut Pass, hash: u64) -> Seeker
+        requires pass { IsPassOf self.now pass.old }
+        ensures looks { LooksOnce self.now pass.old pass.new }
+    {
+        Seeker {
+            tag: tag_of(hash),
+            bucket: self.look_first(pass, hash),
+            left: CHAIN_BUCKETS - 1,
         }
     }
 
-    // In each round all places are known before the first load begins. A round after the first
-    // is of the keys whose chains go on.
-    fn look_ahead_piece(&self, keys: &[Key]) {
-        let mut seekers = Seekers {
-            tags: [0; PIECE],
-            buckets: [0; PIECE],
-            count: 0,
-        };
-        for key in keys {
-            let hash = hash(key);
-            seekers.push(tag_of(hash), self.bucket_at(hash));
-        }
-        for _ in 0..CHAIN_BUCKETS {
-            for number in 0..seekers.count.min(PIECE) {
-                self.load_bucket(seekers.buckets[number]);
-            }
-            self.follow(&mut seekers);
+    /// As `seek`, for a key among others of this index. If they are full, it is left out.
+    #[inline(always)]
+    pub fn seek_among(&self, pass: &mut Pass, hash: u64, seekers: &mut Seekers)
+        requires pass { IsPassOf self.now pass.old }
+        ensures looks { LooksOnce self.now pass.old pass.new }
+    {
+        let bucket = self.look_first(pass, hash);
+        seekers.push(tag_of(hash), bucket);
+    }
+
+    // The first bucket of the hash's chain. One of its ends is looked at, and the other one loaded.
+    #[inline(always)]
+    fn look_first(&self, pass: &mut Pass, hash: u64) -> u32
+        requires pass { IsPassOf self.now pass.old }
+        ensures looks { LooksOnce self.now pass.old pass.new }
+    {
+        let bucket = self.shape.bucket_of(hash);
+        self.look(pass, Place { bucket, word: 1 });
+        self.table.shared.peek(self.item_index(bucket, LAST_WORD));
+        bucket
+    }
+
+    /// Loads the words that commands on these keys will read: of each key the buckets of its
+    /// chain, up to a word with the key's tag, and the row that this word names.
+    /// In each round all places are known before the first load begins. A round after the first
+    /// is of the keys whose chains go on.
+    pub fn follow_all(&self, seekers: &mut Seekers) {
+        for round in 0..CHAIN_BUCKETS {
             if seekers.count == 0 {
                 return;
             }
+            if round > 0 {
+                self.load_buckets(seekers);
+            }
+            self.follow_each(seekers);
+        }
+        seekers.count = 0;
+    }
+
+    // Loads the ends of the buckets that come next.
+    fn load_buckets(&self, seekers: &Seekers) {
+        for number in 0..seekers.count.min(PIECE) {
+            self.load_bucket(seekers.buckets[number]);
         }
     }
 
     // Loads the rows that words of these buckets name.
     // Of the keys only those are left whose chains go on.
     #[inline(always)]
-    fn follow(&self, seekers: &mut Seekers) {
+    fn follow_each(&self, seekers: &mut Seekers) {
         let mut words = [0; PIECE];
         let mut rows = 0;
         let count = seekers.count.min(PIECE);
@@ -104,45 +164,40 @@ impl Board {
             }
         }
         for number in 0..rows.min(PIECE) {
-            self.load_row(words[number]);
+            if let Some(item) = Item::unpack(words[number]) {
+                self.load_ends(item.seg, item.row);
+            }
         }
     }
 
-    /// A key of this hash, at the first bucket of its chain.
+    /// Where the words of the seeker's bucket lead to. The ends of the bucket that comes next
+    /// are loaded.
     #[inline(always)]
-    pub fn seeker(&self, hash: u64) -> Seeker {
-        Seeker {
-            tag: tag_of(hash),
-            bucket: self.bucket_at(hash),
-        }
-    }
-
-    /// Loads the ends of the seeker's bucket.
-    #[inline(always)]
-    pub fn load(&self, seeker: Seeker) {
-        self.load_bucket(seeker.bucket);
-    }
-
-    /// Where the words of the seeker's bucket lead to.
-    #[inline(always)]
-    pub fn follow_one(&self, seeker: Seeker) -> Lead {
+    pub fn follow(&self, seeker: Seeker) -> Lead {
         let (found, last) = self.words_of(seeker.bucket, seeker.tag);
         if let Some(item) = Item::unpack(found) {
-            return Lead::Item(item);
+            return Lead::Row(RowAhead {
+                segment: item.seg,
+                row: item.row,
+            });
         }
         match self.chained_to(last) {
-            Some(bucket) => Lead::Bucket(Seeker {
-                tag: seeker.tag,
-                bucket,
-            }),
-            None => Lead::Nothing,
+            Some(bucket) if seeker.left > 0 => {
+                self.load_bucket(bucket);
+                Lead::Bucket(Seeker {
+                    tag: seeker.tag,
+                    bucket,
+                    left: seeker.left - 1,
+                })
+            }
+            _ => Lead::Nothing,
         }
     }
 
-    // No board lacks buckets, but nothing here needs that.
+    /// Loads the ends of the row.
     #[inline(always)]
-    fn bucket_at(&self, hash: u64) -> u32 {
-        bucket_of(hash, self.shape.buckets.max(1))
+    pub fn load_row(&self, row: RowAhead) {
+        self.load_ends(row.segment, row.row);
     }
 
     // The words of a bucket lie in two cache lines at most: that of the first, and that of the last.
@@ -154,24 +209,14 @@ impl Board {
         }
     }
 
-    // So do those of a row, which this word names.
+    // So do those of a row.
     #[inline(always)]
-    fn load_row(&self, word: u64) {
-        if let Some(item) = Item::unpack(word) {
-            self.load_item(item);
-        }
-    }
-
-    /// Loads the ends of the item's row.
-    #[inline(always)]
-    pub fn load_item(&self, item: Item) {
-        if self.has_row(item.seg, item.row) {
+    fn load_ends(&self, segment: u32, row: u32) {
+        if self.has_row(segment, row) {
+            self.table.shared.peek(self.row_index(segment, row, 0));
             self.table
                 .shared
-                .peek(self.row_index(item.seg, item.row, 0));
-            self.table
-                .shared
-                .peek(self.row_index(item.seg, item.row, ROW_WORDS as u8 - 1));
+                .peek(self.row_index(segment, row, ROW_WORDS as u8 - 1));
         }
     }
 

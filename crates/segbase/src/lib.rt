@@ -20,7 +20,7 @@ mod raw;
 mod running;
 mod segment;
 
-pub use ahead::{Lead, Seeker};
+pub use ahead::{Lead, RowAhead, Seeker, Seekers};
 pub use board::Board;
 pub use closing::Words;
 pub use fault::MakeFault;

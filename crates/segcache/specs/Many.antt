@@ -1,11 +1,13 @@
 -- What the exports do that look up several keys at a time.
-use Rattle.std.specs.Prelude.{◌≡◌, ◌+◌, ◌≤◌, ℕ, Bool, true, false, List, [], ◌∷◌, length}
+use Rattle.std.specs.Prelude.{◌≡◌, ◌⊎◌, ◌+◌, ◌≤◌, ◌%◌, ℕ, Bool, true, false, List, [], ◌∷◌, length}
 use Rattle.std.specs.Prelude.{Option, slice_range}
+use Rattle.segclient.specs.Many.{LooksAheadBy}
 use Rattle.segcache.specs.declared.client.SharedClient.{SharedClient}
 use Rattle.segcache.specs.declared.kept.Kept.{Kept}
 use Rattle.segcache.specs.declared.many.Lookup.{Lookup}
 use Rattle.segcache.specs.declared.status.Status.{Status}
 use Rattle.segcache.specs.declared.status.Status.TheVariants as status
+use Rattle.segcache.specs.Calls.{MakesCall}
 use Rattle.segcache.specs.Exports.{Answers, ByClient, Out}
 use Rattle.segcache.specs.Reading.{GotKey, GotKeyVersion}
 
@@ -43,13 +45,33 @@ pub record LooksUp (versioned : Bool) (keys : List ℕ) (now : ℕ) (was is : Lo
       Reads versioned key now (out_of was) (out_of is) was.version is.version returned old new)
   pub keeps : KeepsKey was is
 
--- each lookup, one after another, in their order
-unfoldable pub InTurn : (Lookup → Lookup → SharedClient → SharedClient → Type 0)
+-- it looked ahead for each key, in their order: by at most one step in the key's shard
+unfoldable pub LooksFor : List (List ℕ) → SharedClient → SharedClient → Type 0
+LooksFor [] old new = new ≡ old
+LooksFor (key ∷ keys) old new =
+    (next : SharedClient) × MakesCall key (LooksAheadBy 1) old next × LooksFor keys next new
+
+-- it looked ahead for at most 16 keys
+abbrev pub LooksForSome : SharedClient → SharedClient → Type 0
+LooksForSome old new = (keys : List (List ℕ)) × (length keys ≤ 16) × LooksFor keys old new
+
+-- Before the lookup at this place it did nothing. Or 16 divides the place, and it looked ahead.
+abbrev pub LooksBefore : ℕ → SharedClient → SharedClient → Type 0
+LooksBefore place old new = (new ≡ old) ⊎ ((place % 16 ≡ 0) × LooksForSome old new)
+
+-- so it was from this place on
+unfoldable pub InTurnFrom : (Lookup → Lookup → SharedClient → SharedClient → Type 0)
+    → ℕ → List Lookup → List Lookup → SharedClient → SharedClient → Type 0
+InTurnFrom Does place [] [] old new = new ≡ old
+InTurnFrom Does place (was ∷ rest) (is ∷ after) old new =
+    (ready next : SharedClient) × LooksBefore place old ready × Does was is ready next
+    × InTurnFrom Does (place + 1) rest after next new
+InTurnFrom Does place _ _ old new = ⊥
+
+-- each lookup, one after another, in their order, and looks ahead before the first of each sixteen
+abbrev pub InTurn : (Lookup → Lookup → SharedClient → SharedClient → Type 0)
     → List Lookup → List Lookup → SharedClient → SharedClient → Type 0
-InTurn Does [] [] old new = new ≡ old
-InTurn Does (was ∷ rest) (is ∷ after) old new =
-    (next : SharedClient) × Does was is old next × InTurn Does rest after next new
-InTurn Does _ _ old new = ⊥
+InTurn Does = InTurnFrom Does 0
 
 abbrev pub GotMany : Bool → List ℕ → ℕ → List Lookup → List Lookup → Option Kept → Option Kept
     → Status → Type 0
@@ -58,7 +80,8 @@ GotMany versioned keys now was is before after returned =
     (λ old new. (returned ≡ status.Ok) × InTurn (LooksUp versioned keys now) was is old new)
     before after
 
--- the client is as it was
+-- the client looked ahead
 abbrev pub LooksAhead : Option Kept → Option Kept → Status → Type 0
 LooksAhead before after returned =
-    ByClient (λ why. returned ≡ why) (λ old new. (returned ≡ status.Ok) × (new ≡ old)) before after
+    ByClient (λ why. returned ≡ why) (λ old new. (returned ≡ status.Ok) × LooksForSome old new)
+    before after

@@ -9,11 +9,21 @@ use segclient::{
     DeleteAnswer, GetsIntoAnswer, Index, IntoAnswer, Key, Member, PutAnswer, ValueBytes,
     WriteAnswer,
 };
+use segindex::Seeker;
 
 impl Guest {
     ghost use Rattle.segclient.specs.Made.{DeletesKey, GetsInto, GetsVersionInto};
+    ghost use Rattle.segclient.specs.Many.{LooksAheadBy};
     ghost use Rattle.segclient.specs.Puts.{Puts, PutsFor};
     ghost use Rattle.segcache.specs.Guest.{At, MakesCall};
+
+    /// Looks ahead for a key.
+    #[inline(always)]
+    pub(crate) fn seek(&mut self, key: &Key) -> Seeker
+        ensures { MakesCall (LooksAheadBy 1) self.old self.new }
+    {
+        self.member.seek(self.share.index(), key)
+    }
 
     /// The value under a key, which goes to the front of a buffer, if that has room for it.
     #[inline(always)]

@@ -2,7 +2,7 @@
 ghost use Rattle.std.specs.Prelude.{◌<◌, false, length, Some, true};
 ghost use Rattle.segcache.specs.Exports.{Answers};
 ghost use Rattle.segcache.specs.Many.{AreBytesAt, GotMany, InTurn, IsKeyOf, KeepsKey, LooksAhead};
-ghost use Rattle.segcache.specs.Many.{LooksUp, out_of, Reads};
+ghost use Rattle.segcache.specs.Many.{LooksBefore, LooksFor, LooksForSome, LooksUp, out_of, Reads};
 
 use crate::client::SharedClient;
 use crate::handle::Handle;
@@ -10,7 +10,8 @@ use crate::kept::Kept;
 use crate::reading::{get_key, gets_key};
 use crate::status::Status;
 use segclient::{Index, Key};
-use segshards::{LEAST_AHEAD, ROUND, Shards, is_large, look_ahead};
+use segindex::Seeker;
+use segshards::{Batch, LEAST_AHEAD, ROUND, Shards, is_large};
 use segword::VALUE_BYTES;
 
 /// The place of a key among the bytes of a call, and what its lookup came to.
@@ -63,7 +64,7 @@ pub extern "C" fn segcache_raw_gets_many(
 }
 
 /// Loads what gets of the first sixteen of the keys will read, so that their waits for memory overlap.
-/// No answer depends on it.
+/// It takes one step for each key. No answer depends on what is found.
 #[unsafe(no_mangle)]
 pub extern "C" fn segcache_raw_look_ahead(
     client: &mut Handle,
@@ -78,8 +79,8 @@ pub extern "C" fn segcache_raw_look_ahead(
     ahead_of(kept, keys, places).number()
 }
 
-fn ahead_of(kept: &Kept, keys: &[u8], places: &[KeyPlace]) -> Status
-    ensures { LooksAhead (Some kept.now) (Some kept.now) result }
+fn ahead_of(kept: &mut Kept, keys: &[u8], places: &[KeyPlace]) -> Status
+    ensures { LooksAhead (Some kept.old) (Some kept.new) result }
 {
     let Kept::Client(client) = kept else {
         return Status::NoHandle;
@@ -89,7 +90,9 @@ fn ahead_of(kept: &Kept, keys: &[u8], places: &[KeyPlace]) -> Status
 }
 
 // Loads what gets of the first of these keys will read, where it can pay.
-fn look_ahead_at(client: &SharedClient, keys: &[u8], places: &[KeyPlace]) {
+fn look_ahead_at(client: &mut SharedClient, keys: &[u8], places: &[KeyPlace])
+    ensures { LooksForSome client.old client.new }
+{
     if places.len() >= LEAST_AHEAD && client.is_large() {
         let ahead: [Key; ROUND] = std::array::from_fn(|number| place_or_any(keys, places, number));
         client.look_ahead(&ahead[..places.len().min(ROUND)]);
@@ -194,8 +197,9 @@ fn bytes_at(bytes: &[u8], at: usize, len: usize) -> &[u8]
 }
 
 // Looks ahead for a piece of the keys, if one begins at this place.
-fn look_ahead_from(client: &SharedClient, keys: &[u8], lookups: &[Lookup], place: usize)
+fn look_ahead_from(client: &mut SharedClient, keys: &[u8], lookups: &[Lookup], place: usize)
     requires { place < length lookups.now }
+    ensures { LooksBefore place client.old client.new }
 {
     let end = lookups.len().min(place + ROUND);
     if place % ROUND == 0 && end - place >= LEAST_AHEAD && client.is_large() {
@@ -203,8 +207,10 @@ fn look_ahead_from(client: &SharedClient, keys: &[u8], lookups: &[Lookup], place
     }
 }
 
-// Loads what the gets of a piece will read. No answer depends on it.
-fn look_ahead_piece(client: &SharedClient, keys: &[u8], piece: &[Lookup]) {
+// Loads what the gets of a piece will read. No answer depends on what is found.
+fn look_ahead_piece(client: &mut SharedClient, keys: &[u8], piece: &[Lookup])
+    ensures { LooksForSome client.old client.new }
+{
     let ahead: [Key; ROUND] = std::array::from_fn(|number| key_or_any(keys, piece, number));
     client.look_ahead(&ahead[..piece.len().min(ROUND)]);
 }
@@ -234,6 +240,9 @@ fn key_or_other(bytes: &[u8]) -> Key {
 }
 
 impl SharedClient {
+    ghost use Rattle.segclient.specs.Many.{LooksAheadBy};
+    ghost use Rattle.segcache.specs.Calls.{MakesCall};
+
     // Whether a look ahead can pay.
     fn is_large(&self) -> bool {
         match self.guests.as_slice() {
@@ -242,14 +251,30 @@ impl SharedClient {
         }
     }
 
-    // Loads what gets of up to 16 keys will read, so that waits for memory overlap, whatever
+    // Loads what gets of these keys will read, so that waits for memory overlap, whatever
     // their shards.
-    fn look_ahead(&self, keys: &[Key]) {
-        if let [guest] = self.guests.as_slice() {
-            guest.share.index().look_ahead(keys);
-        } else {
-            look_ahead(self, self.guests.len(), keys);
+    fn look_ahead(&mut self, keys: &[Key])
+        ensures { LooksFor keys.now self.old self.new }
+    {
+        let mut batch = Batch::new();
+        for place in 0..keys.len() {
+            if batch.is_full() {
+                batch.follow(self);
+            }
+            let seeker = self.seek(&keys[place]);
+            batch.push(self.place_of(&keys[place]), seeker);
         }
+        batch.follow(self);
+    }
+
+    // Looks for the key in its shard.
+    #[inline(always)]
+    fn seek(&mut self, key: &Key) -> Seeker
+        ensures { MakesCall key.now (LooksAheadBy 1) self.old self.new }
+    {
+        let place = self.place_of(key);
+        let guest = &mut self.guests[place];
+        guest.seek(key)
     }
 }
 

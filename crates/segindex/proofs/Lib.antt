@@ -24,3 +24,4 @@ pub mod Ordering
 pub mod Linear
 pub mod LinearFacts
 pub mod LeavesFacts
+pub mod Looking

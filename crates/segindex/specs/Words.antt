@@ -1,4 +1,5 @@
 -- The words of this crate that others use, from one place.
+pub use Rattle.segindex.specs.Ahead.{LooksAhead}
 pub use Rattle.segindex.specs.Closing.{AreAllQuiet, IsContentOfAll, IsEnd, IsEndOfAll, pairs_of}
 pub use Rattle.segindex.specs.Commands.{AnswersCommand}
 pub use Rattle.segindex.specs.Currents.{MakesCurrent, storing_into}

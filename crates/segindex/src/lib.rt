@@ -29,7 +29,7 @@ pub use laws::{
     readers_take_a_step, replies_at_a_moment, stats_are_counted, unnamed_rows_stay,
     what_stood_is_read,
 };
-pub use segbase::{Lead, MakeFault, Note, Pass, Seeker};
+pub use segbase::{Lead, MakeFault, Note, Pass, RowAhead, Seeker};
 pub use segevict::{EvictRowAnswer, KeepRowAnswer};
 pub use segmodel::{
     Answer, Command, DeleteAnswer, EvictAnswer, GetAnswer, GetsAnswer, KeepAnswer, RefillAnswer,

@@ -20,7 +20,7 @@ mod shard;
 mod stats;
 mod write;
 
-pub use ahead::{LEAST_AHEAD, ROUND, Shards, is_large, look_ahead};
+pub use ahead::{Batch, LEAST_AHEAD, ROUND, Shards, is_large};
 pub use cache::Cache;
 pub use client::Client;
 pub use closing::WholeShard;

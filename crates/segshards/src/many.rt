@@ -1,12 +1,15 @@
 //! Calls on several keys, whatever their shards.
 ghost use Rattle.std.specs.Prelude.{◌≡◌, ◌<◌, length};
-ghost use Rattle.segshards.specs.Many.{GetsKey, GetsKeyVersion, InTurn};
+ghost use Rattle.segshards.specs.Many.{GetsKey, GetsKeyVersion, InTurn, LooksAhead, LooksBefore};
 
-use crate::ahead::{LEAST_AHEAD, ROUND, Shards, is_large, look_ahead};
+use crate::ahead::{Batch, LEAST_AHEAD, ROUND, Shards, is_large};
 use crate::client::Client;
 use segclient::{GetAnswer, GetsAnswer, Index, Key};
+use segindex::Seeker;
 
 impl<'c> Client<'c> {
+    ghost use Rattle.segclient.specs.Many.{LooksAheadBy};
+    ghost use Rattle.segshards.specs.Client.{MakesCall};
     ghost use Rattle.segshards.specs.Clients.{IsSame};
 
     /// The value under each key: one get after another, each with the answer at its key's place.
@@ -34,8 +37,10 @@ impl<'c> Client<'c> {
     }
 
     // Looks ahead for a piece of the keys, if one begins at this place.
-    fn look_ahead_from(&self, keys: &[Key], place: usize)
+    fn look_ahead_from(&mut self, keys: &[Key], place: usize)
         requires place { place < length keys.now }
+        ensures looks { LooksBefore place self.old self.new }
+        ensures same { IsSame self.old self.new }
     {
         let end = keys.len().min(place + ROUND);
         if place % ROUND == 0 && end - place >= LEAST_AHEAD && self.is_large() {
@@ -52,13 +57,32 @@ impl<'c> Client<'c> {
     }
 
     /// Loads what calls on these keys will read, in all shards, so that waits for memory overlap.
-    /// No answer depends on it, and it changes nothing.
-    pub fn look_ahead(&self, keys: &[Key]) {
-        if let [index] = self.indexes {
-            index.look_ahead(keys);
-        } else {
-            look_ahead(self, self.shards.len(), keys);
+    /// It takes one step for each key. No answer depends on what is found.
+    pub fn look_ahead(&mut self, keys: &[Key])
+        ensures looks { LooksAhead keys.now self.old self.new }
+        ensures same { IsSame self.old self.new }
+    {
+        let mut batch = Batch::new();
+        for place in 0..keys.len() {
+            if batch.is_full() {
+                batch.follow(self);
+            }
+            let seeker = self.seek(&keys[place]);
+            batch.push(self.place_of(&keys[place]), seeker);
         }
+        batch.follow(self);
+    }
+
+    // Looks for the key in its shard.
+    #[inline(always)]
+    fn seek(&mut self, key: &Key) -> Seeker
+        ensures looks { MakesCall key.now (LooksAheadBy 1) self.old self.new }
+        ensures same { IsSame self.old self.new }
+    {
+        let place = self.place_of(key);
+        let shard = &mut self.shards[place];
+        shard.set_now(self.clock);
+        shard.seek(key)
     }
 }
 

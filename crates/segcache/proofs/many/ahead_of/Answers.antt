@@ -1,7 +1,11 @@
-use Rattle.std.proofs.Common.{refl, Some, subst, sym}
-use Rattle.segcache.specs.Many.{LooksAhead}
+use Rattle.std.proofs.Common.{◌≡◌, refl}
+use Rattle.segcache.specs.declared.kept.Kept.TheVariants as kept
 use Rattle.segcache.specs.declared.status.Status.TheVariants as status
+use Rattle.segcache.specs.Many.{LooksForSome}
+use Rattle.segcache.proofs.Answering.{by_client}
 use Rattle.segcache.proofs.many.ahead_of.Goals as goal
 
 pub returns : goal.returns
-returns c = subst (λ k. LooksAhead (Some k) (Some k) status.Ok) (sym c.in-Client.is) (c.in-Client.client, refl, (refl, refl))
+returns c =
+    by_client (λ why. status.Ok ≡ why) (λ old new. (status.Ok ≡ status.Ok) × LooksForSome old new)
+    c.args.kept.now (kept.Client c.look_ahead_at.new.client) c.in-Client.client c.look_ahead_at.new.client c.in-Client.is refl (refl, c.look_ahead_at.ensures)

@@ -23,6 +23,6 @@ loop-place-preserved c =
     record {
       long = length-set now place is ∙ so.long;
       rest = next_rest before now place is so.rest;
-      made = next_looked_up (LooksUp c.args.versioned c.args.keys.now c.args.now) before now place _ is c.args.client.now c.loop-place.client c.look_up.new.client
-          in_before in_now so.rest so.made c.look_up.ensures;
+      made = next_looked_up (LooksUp c.args.versioned c.args.keys.now c.args.now) before now place _ is c.args.client.now c.loop-place.client c.look_ahead_from.new.client c.look_up.new.client
+          in_before in_now so.rest so.made c.look_ahead_from.ensures c.look_up.ensures;
     }

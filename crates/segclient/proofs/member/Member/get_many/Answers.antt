@@ -23,6 +23,6 @@ loop-place-preserved c =
     record {
       member = c.get.ensures.member;
       long = length-set answers place c.get.result ∙ was.long;
-      made = next_made Gets keys answers place (board_of c.args.index.now) c.args.self.now c.loop-place.self c.get.new.self c.index-keys-place.result c.get.result
-          in_keys in_answers c.index-keys-place.is was.made c.get.ensures.reads;
+      made = next_made Gets keys answers place (board_of c.args.index.now) c.args.self.now c.loop-place.self c.look_ahead_from.new.self c.get.new.self c.index-keys-place.result c.get.result
+          in_keys in_answers c.index-keys-place.is was.made c.look_ahead_from.ensures.looks c.get.ensures.reads;
     }

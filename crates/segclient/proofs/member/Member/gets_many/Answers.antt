@@ -23,6 +23,6 @@ loop-place-preserved c =
     record {
       member = c.gets.ensures.member;
       long = length-set answers place c.gets.result ∙ was.long;
-      made = next_made GetsVersion keys answers place (board_of c.args.index.now) c.args.self.now c.loop-place.self c.gets.new.self c.index-keys-place.result c.gets.result
-          in_keys in_answers c.index-keys-place.is was.made c.gets.ensures.reads;
+      made = next_made GetsVersion keys answers place (board_of c.args.index.now) c.args.self.now c.loop-place.self c.look_ahead_from.new.self c.gets.new.self c.index-keys-place.result c.gets.result
+          in_keys in_answers c.index-keys-place.is was.made c.look_ahead_from.ensures.looks c.gets.ensures.reads;
     }

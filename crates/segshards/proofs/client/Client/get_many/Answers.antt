@@ -21,7 +21,7 @@ loop-place-preserved c =
     let in_answers : place < length answers = let long = was.long in omega arith in
     record {
       long = length-set answers place c.get.result ∙ was.long;
-      made = next_made GetsKey keys answers place c.args.self.now c.loop-place.self c.get.new.self c.index-keys-place.result c.get.result
-          in_keys in_answers c.index-keys-place.is was.made c.get.ensures.reads;
-      same = c.get.ensures.same ∙ was.same;
+      made = next_made GetsKey keys answers place c.args.self.now c.loop-place.self c.look_ahead_from.new.self c.get.new.self c.index-keys-place.result c.get.result
+          in_keys in_answers c.index-keys-place.is was.made c.look_ahead_from.ensures.looks c.get.ensures.reads;
+      same = c.get.ensures.same ∙ (c.look_ahead_from.ensures.same ∙ was.same);
     }

@@ -21,7 +21,7 @@ loop-place-preserved c =
     let in_answers : place < length answers = let long = was.long in omega arith in
     record {
       long = length-set answers place c.gets.result ∙ was.long;
-      made = next_made GetsKeyVersion keys answers place c.args.self.now c.loop-place.self c.gets.new.self c.index-keys-place.result c.gets.result
-          in_keys in_answers c.index-keys-place.is was.made c.gets.ensures.reads;
-      same = c.gets.ensures.same ∙ was.same;
+      made = next_made GetsKeyVersion keys answers place c.args.self.now c.loop-place.self c.look_ahead_from.new.self c.gets.new.self c.index-keys-place.result c.gets.result
+          in_keys in_answers c.index-keys-place.is was.made c.look_ahead_from.ensures.looks c.gets.ensures.reads;
+      same = c.gets.ensures.same ∙ (c.look_ahead_from.ensures.same ∙ was.same);
     }
