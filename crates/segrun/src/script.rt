@@ -1,17 +1,16 @@
-//! Where the program reads its script or its trace from, and what it prints of them on standard error.
+//! What `run_program` can't do with a source and two sinks: it opens files, explains a bad line of a script, and prints
+//! what a watch sees of a load or a replay.
 ghost use Rattle.std.specs.Prelude.{◌≡◌, false};
 
 use crate::progress::Teller;
-use segcli::{
-    ExitStatus, Refusal, Streams, Task, bad_line_text, read_command, run_given, words_given,
-};
+use segcli::{ExitStatus, Refusal, Streams, Task, bad_line_text, run_given};
 use segscript::{Explaining, ReadSource, Source, WriteSink};
 use std::alloc::AllocGlobal;
 use std::fs::File;
+use std::io;
 use std::io::{IsTerminal, Read, Write};
 use std::sync::Wait;
 use std::thread::Threads;
-use std::{env, io};
 
 // For who has to type the lines.
 const SCRIPT_HINT: &[u8] =
@@ -20,50 +19,67 @@ const SCRIPT_HINT: &[u8] =
 const TRACE_HINT: &[u8] =
     b"segrun: reads a trace from the terminal (segrun replay --help has its lines, Ctrl-D ends it)\n";
 
-/// Does what the words of the program ask for, and returns the exit status.
-pub fn run<T: Threads + Wait + AllocGlobal + Sync>(threads: &T, rt: &HostRuntime) -> u8 {
-    match words_given(rt.alloc(), env::args(rt)) {
-        Ok(words) => {
-            let read = read_command(rt.alloc(), words.as_slice());
-            run_read(threads, rt, &read)
-        }
-        Err(refusal) => run_read(threads, rt, &Err(refusal)),
-    }
-}
-
-// Carries out what was read from the words.
-fn run_read<T: Threads + Wait + AllocGlobal + Sync>(
-    threads: &T,
-    rt: &HostRuntime,
-    read: &Result<Task<'_>, Refusal>,
-) -> u8 {
-    let program = Program { threads, rt, read };
-    match read {
-        Ok(
-            Task::Script {
-                shape,
-                explain,
-                file,
-            },
-        ) => program.run_script(*file, explain.then_some(shape.passes)),
-        Ok(Task::Replay(replay)) => program.run_trace(replay.file),
-        _ => program.run_over(ReadSource::new(rt.reader())).0,
-    }
-}
-
-// What was read from the words, and where it is carried out.
+/// What was read from the words, and where it is carried out.
 #[derive(Drop)]
-struct Program<'p, T> {
+pub struct Program<'p, T> {
     threads: &'p T,
     rt: &'p HostRuntime,
     read: &'p Result<Task<'p>, Refusal>,
 }
 
+impl<'p, T: Threads + Wait + AllocGlobal + Sync> Program<'p, T> {
+    pub fn new(
+        threads: &'p T,
+        rt: &'p HostRuntime,
+        read: &'p Result<Task<'p>, Refusal>,
+    ) -> Program<'p, T> {
+        Program { threads, rt, read }
+    }
+}
+
 impl<T: Threads + Wait + AllocGlobal + Sync> Program<'_, T> {
+    /// Whether `run_program` can't do it. Words that weren't read for lack of memory aren't read again,
+    /// since they may name a file.
+    pub fn needs_more(&self) -> bool {
+        match self.read {
+            Ok(Task::Script { explain, file, .. }) => *explain || path_of(*file).is_some(),
+            Ok(Task::Load(load)) => load.stats || load.progress,
+            Ok(Task::Replay(_)) => true,
+            Ok(Task::Word(_) | Task::Show(_)) => false,
+            Err(refusal) => !matches!(refusal, Refusal::Usage(_)),
+        }
+    }
+
+    /// Prints a hint if somebody has to type a script or a trace.
+    pub fn hint(&self) {
+        let hint = match self.read {
+            Ok(Task::Script { file, .. }) if path_of(*file).is_none() => SCRIPT_HINT,
+            Ok(Task::Replay(replay)) if path_of(replay.file).is_none() => TRACE_HINT,
+            _ => return,
+        };
+        if self.rt.stdin().is_terminal() {
+            let _ = self.rt.stderr().write_all(hint);
+        }
+    }
+
+    /// Carries out what was read, over a file if one is named, and returns the exit status.
+    pub fn run(&self) -> u8 {
+        match self.read {
+            Ok(
+                Task::Script {
+                    shape,
+                    explain,
+                    file,
+                },
+            ) => self.run_script(*file, explain.then_some(shape.passes)),
+            Ok(Task::Replay(replay)) => self.run_trace(replay.file),
+            _ => self.run_over(ReadSource::new(self.rt.reader())).0,
+        }
+    }
+
     // Runs a script of a file or of standard input. With passes it explains a bad line.
     fn run_script(&self, file: Option<&str>, passes: Option<u32>) -> u8 {
         let Some(path) = path_of(file) else {
-            self.hint(SCRIPT_HINT);
             return self.run_lines(self.rt.reader(), passes);
         };
         match File::open(self.rt, path) {
@@ -78,7 +94,6 @@ impl<T: Threads + Wait + AllocGlobal + Sync> Program<'_, T> {
     // Replays a trace of a file or of standard input.
     fn run_trace(&self, file: Option<&str>) -> u8 {
         let Some(path) = path_of(file) else {
-            self.hint(TRACE_HINT);
             return self.run_over(ReadSource::new(self.rt.reader())).0;
         };
         match File::open(self.rt, path) {
@@ -87,13 +102,6 @@ impl<T: Threads + Wait + AllocGlobal + Sync> Program<'_, T> {
                 let _ = tell_in_a_line(self.rt, path, &error);
                 ExitStatus::Failed.code()
             }
-        }
-    }
-
-    // Prints the hint if standard input is a terminal.
-    fn hint(&self, hint: &[u8]) {
-        if self.rt.stdin().is_terminal() {
-            let _ = self.rt.stderr().write_all(hint);
         }
     }
 
