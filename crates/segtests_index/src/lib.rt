@@ -52,6 +52,8 @@ mod seen_numbers;
 #[cfg(test)]
 mod tables;
 #[cfg(test)]
+mod threads_counting;
+#[cfg(test)]
 mod threads_evicting;
 #[cfg(test)]
 mod threads_expiring;
