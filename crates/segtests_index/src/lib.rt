@@ -3,8 +3,6 @@
 #![tactic(auto)]
 
 #[cfg(test)]
-mod alike;
-#[cfg(test)]
 mod calls;
 #[cfg(test)]
 mod closing;

@@ -10,11 +10,7 @@ mod load_gates;
 #[cfg(test)]
 mod load_runs;
 #[cfg(test)]
-mod model_answers;
-#[cfg(test)]
-mod model_cases;
-#[cfg(test)]
-mod model_keeps;
+mod model_run;
 #[cfg(test)]
 mod same;
 #[cfg(test)]

@@ -2,8 +2,8 @@
 //! They are the same in each build, but for lengths that only one of them has.
 use crate::same::same;
 use segword::{
-    HEAD_WORDS, ITEM_WORDS, KEY_BYTES, Key, KeyWords, MOST_SPAN, ROW_WORDS, VALUE_BYTES,
-    VALUE_WORDS, Value, read_key, read_row, read_value, row_words,
+    HEAD_WORDS, ITEM_WORDS, KEY_BYTES, Key, MOST_SPAN, ROW_WORDS, VALUE_BYTES, Value, read_key,
+    read_row, row_words,
 };
 use std::process::Abort;
 
@@ -68,37 +68,6 @@ fn rows_have_the_bytes_of_the_pair_in_order(rt: HostRuntime) {
     let empty = row_words(&key(&rt, b"abcdefghi"), &value(&rt, b""));
     let row = [9, 0x6867_6665_6463_6261, 0x69, 0, 0, 0, 0, 0];
     same(&rt, &empty, &in_one_row(row));
-}
-
-#[test]
-fn words_of_every_length_are_read_back(rt: HostRuntime) {
-    let text = b"abcdefghijklmnopqrstuvwxyz012345";
-    for length in 1..33usize {
-        let front = text.get(..length).expect(&rt, "a text");
-        let sought = key(&rt, front.get(..length.min(24)).expect(&rt, "a text"));
-        let words = row_words(&sought, &value(&rt, front));
-        let (read, stored) = read_row(&words).expect(&rt, "a row");
-        same(
-            &rt,
-            &(read.as_bytes(), stored.as_bytes()),
-            &(sought.as_bytes(), front),
-        );
-        let head: [u64; HEAD_WORDS] = *words.first_chunk().unwrap();
-        let again = read_key(&head).expect(&rt, "a key");
-        same(&rt, &again.as_bytes(), &sought.as_bytes());
-        if MOST_SPAN > 1 {
-            continue;
-        }
-        let behind: [u64; VALUE_WORDS] = *words.last_chunk().unwrap();
-        let mut other = head;
-        other[1] ^= 1;
-        let found = [
-            KeyWords::new(&sought).begins(&head),
-            KeyWords::new(&sought).begins(&other),
-            read_value(head[0], &behind).as_bytes() == front,
-        ];
-        assert_eq!(rt; found, [true, false, true], "{length}");
-    }
 }
 
 #[test]

@@ -1,7 +1,7 @@
 //! Tables that no contract has: frequencies by draws,
 //! and commands of published words of the generator.
 use crate::same::same;
-use segpolicy::{Kind, Load, Ring, Workload, each_number_comes_once, next_frequency};
+use segpolicy::{Kind, Load, Workload, next_frequency};
 use segword::{Key, Value};
 use std::process::Abort;
 
@@ -46,19 +46,6 @@ fn frequencies(rt: HostRuntime) {
             next,
             "{frequency} by {draw}"
         );
-    }
-}
-
-#[test]
-fn rings_go_round(rt: HostRuntime) {
-    let mut ring = Ring::new(4, 3);
-    each_number_comes_once(&ring);
-    for number in [4, 5, 6, 4, 5, 6, 4] {
-        same(&rt, &ring.next(), &number);
-    }
-    let mut last = Ring::new(u32::MAX - 1, 1);
-    for _ in 0..3 {
-        same(&rt, &last.next(), &(u32::MAX - 1));
     }
 }
 
