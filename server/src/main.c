@@ -45,10 +45,10 @@ static bool give_up_capabilities(void) {
 
 /* Takes the rights of another user, if root is to give its own up. No capability is left, whoever starts it. */
 static bool become_user(const char *name) {
-  if (name == NULL || geteuid() != 0) return give_up_capabilities();
+  if (name == NULL || !may_be_root()) return give_up_capabilities();
   const struct passwd *user = getpwnam(name);
   if (user == NULL) return fault(name, "there is no such user");
-  if (setgroups(0, NULL) != 0 || setgid(user->pw_gid) != 0 || setuid(user->pw_uid) != 0)
+  if (seteuid(0) != 0 || setgroups(0, NULL) != 0 || setgid(user->pw_gid) != 0 || setuid(user->pw_uid) != 0)
     return fault(name, strerror(errno));
   return give_up_capabilities();
 }

@@ -181,6 +181,11 @@ static const char *unknown(char **words) {
   return letter;
 }
 
+bool may_be_root(void) {
+  uid_t real, effective, saved;
+  return getresuid(&real, &effective, &saved) != 0 || real == 0 || effective == 0 || saved == 0;
+}
+
 enum reading options_read(struct options *options, int count, char **words) {
   *options = (struct options){.addresses = "127.0.0.1",
                               .socket_mode = 0700,
@@ -204,7 +209,7 @@ enum reading options_read(struct options *options, int count, char **words) {
   if (options->most_item > half) return bad("-I", "an item has half of -m at most");
   if (options->most_item == 0) options->most_item = half < USUAL_ITEM ? (uint32_t)half : USUAL_ITEM;
   if (options->socket_path == NULL && options->port == NO_PORT) return bad("-p 0", "needs a socket by -s");
-  if (options->user == NULL && geteuid() == 0) return bad("-u", "root has to name a user whose rights to take");
+  if (options->user == NULL && may_be_root()) return bad("-u", "root has to name a user whose rights to take");
   return RUN;
 }
 

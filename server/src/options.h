@@ -28,6 +28,9 @@ struct options {
   const char *protocol; /* as it was given: "auto-negotiate" or "ascii" */
 };
 
+/* Whether the process has root's rights, or can take them again: its real, effective or saved user is root. */
+bool may_be_root(void);
+
 enum reading { RUN, SHOWN /* what was asked for; the program ends well */, BAD };
 
 /* Reads the options. What is bad is said on standard error, in one line. */

@@ -240,10 +240,14 @@ def user(command):
     ends_with(command, ["-p", "-1", "-u", "nonesuch"], 71, "nonesuch: there is no such user")
     nobody, capable = pwd.getpwnam("nobody"), "+net_bind_service"
     as_nobody = ["setpriv", f"--reuid={nobody.pw_uid}", f"--regid={nobody.pw_gid}", "--clear-groups"]
+    still_root = ["setpriv", f"--euid={nobody.pw_uid}"]
+    if not any(name in command[0] for name in ("checked", "refusing")):  # their sanitizer can't look into it
+        ends_with([*still_root, *bare], ["-p", "-1"], 64, "-u: root has to name a user whose rights to take")
     kept = ["setpriv", "--securebits", "+no_setuid_fixup", "--inh-caps", capable]
     for before, words, user, group in (([], RIGHTS, nobody.pw_uid, nobody.pw_gid), ([], ["--user", "root"], 0, 0),
                                        (["setpriv", "--groups", "4"], RIGHTS, nobody.pw_uid, nobody.pw_gid),
                                        (kept, RIGHTS, nobody.pw_uid, nobody.pw_gid),
+                                       (still_root, RIGHTS, nobody.pw_uid, nobody.pw_gid),
                                        ([*as_nobody, "--inh-caps", capable, "--ambient-caps", capable], [],
                                         nobody.pw_uid, nobody.pw_gid)):
         with running([*before, *bare], *words) as port, connect(port) as connection:
