@@ -520,9 +520,9 @@ static inline uint32_t segcache_gets_many_into(segcache_client *client, segcache
    make_room. Of a set, an add, a replace and a cas NO_ROOM comes first, also where the key's presence or version would
    refuse it. */
 
-/* Stores a value under a key, and makes room for it: if no row is left, or the key's bucket is full, the client
-   recycles segments of its own. It moves items that were read, and evicts the other keys; which ones no contract
-   states. This is what a server's set command calls. A put that is not OK leaves the old value where it is, if it
+/* Stores a value under a key, and makes room for it. If no row is left, the client recycles segments of its own: it
+   moves items that were read, and evicts the other keys; which ones no contract states. If the key's bucket is full,
+   it evicts one item of its own there, or none. This is what a server's set command calls. A put that is not OK leaves the old value where it is, if it
    wasn't evicted: delete the key if nobody may read that any longer.
    Answers: OK; NO_ROOM, if no segment could be had, since somebody read or held there, or a bucket of its keys was
    busy; BUCKET_FULL; BUSY; BAD_KEY, BAD_VALUE, NO_HANDLE. */

@@ -202,9 +202,9 @@ impl Client {
         }
     }
 
-    /// Stores a value, and makes room for it: if no row is left, or the key's bucket is full, the client recycles
-    /// segments of its own. It moves items that were read to another segment, and evicts the other keys. After an
-    /// error the old value may stand; delete the key if nobody may read it.
+    /// Stores a value, and makes room for it. If no row is left, the client recycles segments of its own: it moves
+    /// items that were read to another segment, and evicts the other keys. If the key's bucket is full, it evicts one
+    /// item of its own there, or none. After an error the old value may stand; delete the key if nobody may read it.
     ///
     /// # Errors
     /// [`Error::NoRoom`], [`Error::BucketFull`], [`Error::Busy`], [`Error::BadKey`], [`Error::BadValue`].
