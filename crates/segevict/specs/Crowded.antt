@@ -6,7 +6,7 @@ use Rattle.segbase.specs.Words.{Board, number, Pass}
 use Rattle.segstore.specs.Words.{GoesOn, Idles, TakesAtMost}
 use Rattle.segevict.specs.Steps.{most_looks}
 
--- The pass looked at each word of a chain, at most 28, and did nothing else.
+-- The pass took at most 28 steps, and they changed nothing. Which words it looked at is left open.
 -- What it found is a row of a segment of its own. Which one it is, is left open.
 pub record FindsOwn (b : Board) (found : Option RowRef) (p q : Pass) : Type 0 where
   pub on : GoesOn b p q

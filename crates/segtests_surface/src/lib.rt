@@ -1,6 +1,7 @@
-//! Each public call keeps its name and its form, also where nobody calls it.
-//! What is in this crate isn't dead code. A call that is renamed, or whose arguments or result
-//! change, doesn't compile here; neither does an enum with a variant more or fewer.
+//! Tests that the calls and types that were asked for, from words to loads, keep their names and
+//! forms, also where nothing else uses them. What is in this crate isn't dead code. A call that is
+//! renamed, or whose arguments or result change, doesn't compile here; neither does an enum with a
+//! variant more or fewer. Tests of the command line call `run_program`.
 #![tactic(auto)]
 
 #[cfg(test)]

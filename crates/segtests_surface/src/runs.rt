@@ -1,5 +1,4 @@
 //! The forms of runs: of scripts and loads, with their devices and their counts.
-//! Tests of the command line call `run_program`, which stands in a crate that is proved among the last.
 ghost use Rattle.std.specs.Prelude.{◌≡◌, ◌<◌, false, length};
 
 use crate::same::same;
