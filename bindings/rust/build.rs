@@ -10,7 +10,7 @@ fn main() {
     let (name, made, calls) = match env::var_os("CARGO_FEATURE_WIDE") {
         None => ("segcache", "../c/out", "bindings/archive && make -C bindings/c"),
         Some(_) => {
-            ("segcachewide", "../c/out/wide", "docs/wide bindings/archive && make -C bindings/c WIDE=1")
+            ("segcachewide", "../c/out/wide", "tools/wide bindings/archive && make -C bindings/c WIDE=1")
         }
     };
     let here = PathBuf::from(env::var_os("CARGO_MANIFEST_DIR").expect("cargo sets this"));

@@ -1,5 +1,5 @@
 //! Tests of clients: uses as a program would write them,
-//! and the callers that the pages for callers show. `docs/check` compares those pages with these files.
+//! and the callers that the pages for callers show. `tools/pages` compares those pages with these files.
 #![tactic(auto)]
 
 #[cfg(test)]
