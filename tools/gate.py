@@ -9,10 +9,12 @@ import time
 from typing import NamedTuple
 
 import kept
-from crates import ROOT
+from crates import ROOT, below, read_crates
 
 LOGS = ROOT / "out/gate"
 ARCHIVE, WIDE = "bindings/c/out/libsegcache.a", "bindings/c/out/wide/libsegcachewide.a"
+# What bindings/archive makes of segcache and the crates below it, and its note of what it is made of.
+RAW = ["crates/segcache/out/libsegcache.a", "crates/segcache/out/made_of"]
 PROGRAMS = "crates/segrun/out/segrun crates/segrun/out/segrun.by-rattle"
 RAW_WIDE = "out/wide/crates/segcache/out/libsegcache.a"
 CARGO = "cargo test --offline --quiet --manifest-path bindings/rust/Cargo.toml"
@@ -95,6 +97,14 @@ def of_bindings():
     return [*FORK[2:], *BUILT[:-2], *wide, *BUILT[-2:]]
 
 
+def key_of_archive():
+    crates = read_crates()
+    names = [*below("segcache", crates), "segcache"]
+    places = [f"crates/{name}/{part}" for name in names for part in ("src", "specs", "proofs")]
+    return kept.digest(kept.said_by(["rt", "version"]), [crates[name] for name in names],
+                       kept.sum_of("bindings/archive", "tools/crates.py", *places))
+
+
 def every():
     return [*CORE, *of_bindings()]
 
@@ -143,7 +153,12 @@ class Run:
             self.rows.append((part.name, None, None))
             print(f"gate: {part.name}: kept, as the same passed on this machine", flush=True)
         else:
+            if part.group == "archive":
+                # It is proved as it is built. Where it is back, bindings/archive finds that nothing is left to do.
+                kept.give(key_of_archive(), RAW)
             said = self.done(part)
+            if part.group == "archive" and said is not None:
+                kept.keep_files(key_of_archive(), RAW)
             if None not in (said, key) and self.key(part) == key:  # unless a file was changed meanwhile
                 kept.keep(key, said)
         for line in said or ():

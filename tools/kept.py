@@ -10,6 +10,7 @@ import functools
 import hashlib
 import json
 import os
+import shutil
 import subprocess
 import tempfile
 from pathlib import Path
@@ -17,6 +18,8 @@ from pathlib import Path
 from crates import ROOT
 
 STORE = Path(os.environ.get("XDG_CACHE_HOME") or Path.home() / ".cache") / "segcache-gate"
+# How many archives are kept.
+MOST_FILES = 8
 # What of the environment changes how something is built or run.
 SETTINGS = """CC CXX AR CFLAGS CXXFLAGS CPPFLAGS LDFLAGS MAKEFLAGS LD_PRELOAD LD_LIBRARY_PATH RUSTFLAGS RUSTDOCFLAGS
 WIDE FUZZ LIB RAW HEAP INCLUDE PATH LANG LC_ALL MEMCACHED_SOURCE""".split()
@@ -55,6 +58,31 @@ def sum_of(*places):
     files = [(name, (ROOT / name).stat().st_mode & 0o111, hashlib.sha256((ROOT / name).read_bytes()).hexdigest())
              for name in files_of(places) if (ROOT / name).is_file()]
     return digest(files, [place for place in places if not (ROOT / place).exists()])
+
+
+def give(key, files):
+    """Puts these files back where they were, as they were kept under this sum."""
+    folder = STORE / "files" / key
+    if not os.environ.get("SEGCACHE_ANEW") and folder.is_dir():
+        for number, file in enumerate(files):
+            (ROOT / file).parent.mkdir(parents=True, exist_ok=True)
+            shutil.copyfile(folder / str(number), ROOT / file)
+        os.utime(folder)
+
+
+def keep_files(key, files):
+    """Keeps these files under this sum, and of all that were kept so the newest few."""
+    folder = STORE / "files" / key
+    if folder.is_dir() or not all((ROOT / file).exists() for file in files):
+        return
+    STORE.mkdir(parents=True, exist_ok=True)
+    room = Path(tempfile.mkdtemp(dir=STORE))
+    for number, file in enumerate(files):
+        shutil.copyfile(ROOT / file, room / str(number))
+    folder.parent.mkdir(exist_ok=True)
+    room.rename(folder)
+    for old in sorted(folder.parent.iterdir(), key=lambda it: it.stat().st_mtime)[:-MOST_FILES]:
+        shutil.rmtree(old, ignore_errors=True)
 
 
 def found(key):
