@@ -3,10 +3,7 @@ ghost use Rattle.std.specs.Prelude.{◌≡◌, All, IfOk, IfSome};
 ghost use Rattle.segstore.specs.Words.{IsQuiet};
 
 use segbase::{Board, Pass};
-use segmodel::{
-    DeleteAnswer, EvictAnswer, GetAnswer, KeepAnswer, RefillAnswer, SegState, WriteAnswer,
-};
-use segstore::NoRoom;
+use segmodel::{DeleteAnswer, EvictAnswer, GetAnswer, KeepAnswer, RefillAnswer, WriteAnswer};
 use segword::{Key, Shape, Value};
 use std::alloc::Global;
 use std::test::Fail;
@@ -38,54 +35,6 @@ pub fn refill(board: &Board, pass: &mut Pass, segment: u32, deadline: u32) -> Re
     ensures quiet { IsQuiet board.now pass.new }
 {
     segstore::refill(board, pass, segment, deadline)
-}
-
-/// Whether nobody reads in a segment that isn't in use, and which deadline it has after that.
-/// The pass, which doesn't know the segment as filled, is given up.
-pub fn none_reading(
-    board: &Board,
-    mut pass: Pass,
-    segment: u32,
-    deadline: u32,
-) -> (bool, Option<u32>)
-    requires quiet { IsQuiet board.now pass }
-{
-    let Some(state) = pass.state(segment) else {
-        return (false, None);
-    };
-    if state == SegState::InUse {
-        return (false, None);
-    }
-    let none = board.none_reading(&mut pass, segment, deadline);
-    (none, pass.deadline(segment))
-}
-
-/// Writes the pair into the row that the pass stores into next.
-/// The pass, which doesn't count the row as used, is given up.
-pub fn write_row(
-    board: &Board,
-    mut pass: Pass,
-    key: &Key,
-    value: &Value,
-) -> Result<(u32, u32), NoRoom>
-    requires quiet { IsQuiet board.now pass }
-{
-    segstore::write_row(board, &mut pass, key, value)
-}
-
-/// Writes the pair so, and reads it out of its row, or returns None if there is no room.
-pub fn write_and_read(
-    board: &Board,
-    mut pass: Pass,
-    key: &Key,
-    value: &Value,
-) -> Option<(Key, Value)>
-    requires quiet { IsQuiet board.now pass }
-{
-    let Ok((segment, row)) = segstore::write_row(board, &mut pass, key, value) else {
-        return None;
-    };
-    segstore::pair_of_row(board, &mut pass, segment, row)
 }
 
 /// Stores the value.

@@ -19,12 +19,8 @@ mod same;
 #[cfg(test)]
 mod spans;
 #[cfg(test)]
-mod storing;
-#[cfg(test)]
 mod table;
 #[cfg(test)]
 mod values_in_place;
 #[cfg(test)]
 mod words;
-#[cfg(test)]
-mod worked_spans;

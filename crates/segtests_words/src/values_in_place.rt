@@ -19,20 +19,6 @@ fn pattern() -> [u8; BYTES] {
     bytes
 }
 
-#[test]
-fn as_many_bytes_as_a_value_has_are_one(rt: HostRuntime) {
-    let bytes = pattern();
-    for length in LENGTHS {
-        let bytes = bytes.get(..length).expect(&rt, "bytes");
-        let value = ValueBytes::new(bytes);
-        same(&rt, &value.is_some(), &(length <= VALUE_BYTES));
-        same(&rt, &value.is_some(), &Value::new(bytes).is_some());
-        if let Some(value) = value {
-            same(&rt, &value.len(), &length);
-        }
-    }
-}
-
 // The words of the item of this key and a value, one by one.
 fn words_of(key: &Key, value: &ValueBytes<'_>) -> [u64; ITEM_WORDS] {
     let key = KeyWords::new(key);
@@ -57,8 +43,17 @@ fn check_words(rt: &impl Abort, key: &Key, bytes: &[u8]) {
 }
 
 #[test]
-fn words_of_an_item_one_by_one_are_those_of_its_rows(rt: HostRuntime) {
+fn values_in_place_have_the_words_of_their_rows(rt: HostRuntime) {
     let bytes = pattern();
+    for length in LENGTHS {
+        let bytes = bytes.get(..length).expect(&rt, "bytes");
+        let value = ValueBytes::new(bytes);
+        same(&rt, &value.is_some(), &(length <= VALUE_BYTES));
+        same(&rt, &value.is_some(), &Value::new(bytes).is_some());
+        if let Some(value) = value {
+            same(&rt, &value.len(), &length);
+        }
+    }
     for key in [1, 8, 24, 25, 250] {
         let Some(key) = Key::new(bytes.get(..key).expect(&rt, "bytes")) else {
             continue;

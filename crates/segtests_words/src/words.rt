@@ -28,10 +28,7 @@ fn keys_have_their_published_hashes(rt: HostRuntime) {
             &(full, tag, bucket),
         );
     }
-}
-
-#[test]
-fn a_hash_with_no_top_bits_has_the_tag_1(rt: HostRuntime) {
+    // A hash with no top bits has the tag 1.
     let none = hash(&key(&rt, b"t94880"));
     let one = hash(&key(&rt, b"t39290"));
     same(&rt, &(none >> 52, one >> 52), &(0, 1));
@@ -40,10 +37,7 @@ fn a_hash_with_no_top_bits_has_the_tag_1(rt: HostRuntime) {
         &[tag_of(none), tag_of(one), tag_of(u64::MAX)],
         &[1, 1, 4095],
     );
-}
-
-#[test]
-fn a_bucket_is_what_is_left_of_the_hash(rt: HostRuntime) {
+    // A bucket is what is left of the hash.
     let buckets = [
         bucket_of(u64::MAX, 65_536),
         bucket_of(u64::MAX, 1),
@@ -53,7 +47,8 @@ fn a_bucket_is_what_is_left_of_the_hash(rt: HostRuntime) {
 }
 
 #[test]
-fn item_words_tell_items_apart_but_for_the_frequency(rt: HostRuntime) {
+fn words_have_their_parts(rt: HostRuntime) {
+    // Items are told apart but for the frequency.
     let item = Item {
         tag: 0xaf6,
         freq: 1,
@@ -82,10 +77,7 @@ fn item_words_tell_items_apart_but_for_the_frequency(rt: HostRuntime) {
     same(&rt, &are_same, &[true, false, false, false, false]);
     let unpacked = (Item::unpack(word), Item::unpack(0x000f_ffff_ffff_ffff));
     same(&rt, &unpacked, &(Some(item), None));
-}
-
-#[test]
-fn information_words_have_no_bit_between(rt: HostRuntime) {
+    // Information has no bit between.
     let held = Info {
         version: 5,
         held: true,
@@ -97,10 +89,7 @@ fn information_words_have_no_bit_between(rt: HostRuntime) {
         Info::unpack(0x0000_0001_8000_0000),
     ];
     same(&rt, &unpacked, &[Some(held), None, None]);
-}
-
-#[test]
-fn segment_words_have_the_deadline_above_the_readers(rt: HostRuntime) {
+    // A deadline stands above the readers.
     let segment = SegmentWord {
         deadline: 7,
         readers: 3,
@@ -110,7 +99,7 @@ fn segment_words_have_the_deadline_above_the_readers(rt: HostRuntime) {
 }
 
 #[test]
-fn chain_words_stop_at_the_last_overflow_bucket(rt: HostRuntime) {
+fn a_word_has_one_of_three_readings_or_none(rt: HostRuntime) {
     let unpacked = [
         Chain::unpack(0),
         Chain::unpack(1),
@@ -120,10 +109,6 @@ fn chain_words_stop_at_the_last_overflow_bucket(rt: HostRuntime) {
     ];
     same(&rt, &unpacked, &[None, Some(0), Some(65_535), None, None]);
     same(&rt, &Chain::pack(65_535), &0x0001_0000);
-}
-
-#[test]
-fn a_word_has_one_of_three_readings_or_none(rt: HostRuntime) {
     let item = Item {
         tag: 1,
         freq: 0,
