@@ -13,13 +13,25 @@ from crates import ROOT, below, read_crates
 
 LOGS = ROOT / "out/gate"
 ARCHIVE, WIDE = "bindings/c/out/libsegcache.a", "bindings/c/out/wide/libsegcachewide.a"
-# What bindings/archive makes of segcache and the crates below it, and its note of what it is made of.
-RAW = ["crates/segcache/out/libsegcache.a", "crates/segcache/out/made_of"]
 PROGRAMS = "crates/segrun/out/segrun crates/segrun/out/segrun.by-rattle"
-RAW_WIDE = "out/wide/crates/segcache/out/libsegcache.a"
 CARGO = "cargo test --offline --quiet --manifest-path bindings/rust/Cargo.toml"
 EXAMPLE = "cargo run --offline --quiet --manifest-path bindings/rust/Cargo.toml --example"
 CORES = min(os.cpu_count() or 1, 4)
+
+
+class Raw(NamedTuple):
+    """What bindings/archive makes of segcache and the crates below it: the archive, and a note of what it is made of."""
+
+    folder: str
+    made_by: list
+
+    def files(self):
+        return [f"{self.folder}/libsegcache.a", f"{self.folder}/made_of"]
+
+
+# By the names of the parts that make them.
+RAWS = {"the archive": Raw("crates/segcache/out", ["bindings/archive"]),
+        "the wide archive": Raw("out/wide/crates/segcache/out", ["bindings/archive", "tools/wide"])}
 
 
 class Part(NamedTuple):
@@ -93,16 +105,16 @@ OVER_WIDE = [
 
 def of_bindings():
     """The parts over what the proofs left: the library for C, header, crate, server, package, program."""
-    wide = OVER_WIDE if (ROOT / RAW_WIDE).exists() else []
+    wide = OVER_WIDE if (ROOT / RAWS["the wide archive"].files()[0]).exists() else []
     return [*FORK[2:], *BUILT[:-2], *wide, *BUILT[-2:]]
 
 
-def key_of_archive():
+def key_of_archive(raw):
     crates = read_crates()
     names = [*below("segcache", crates), "segcache"]
     places = [f"crates/{name}/{part}" for name in names for part in ("src", "specs", "proofs")]
     return kept.digest(kept.said_by(["rt", "version"]), [crates[name] for name in names],
-                       kept.sum_of("bindings/archive", "tools/crates.py", *places))
+                       kept.sum_of(*raw.made_by, "tools/crates.py", *places))
 
 
 def every():
@@ -153,12 +165,13 @@ class Run:
             self.rows.append((part.name, None, None))
             print(f"gate: {part.name}: kept, as the same passed on this machine", flush=True)
         else:
-            if part.group == "archive":
+            raw = RAWS.get(part.name)
+            if raw:
                 # It is proved as it is built. Where it is back, bindings/archive finds that nothing is left to do.
-                kept.give(key_of_archive(), RAW)
+                kept.give(key_of_archive(raw), raw.files())
             said = self.done(part)
-            if part.group == "archive" and said is not None:
-                kept.keep_files(key_of_archive(), RAW)
+            if raw and said is not None:
+                kept.keep_files(key_of_archive(raw), raw.files())
             if None not in (said, key) and self.key(part) == key:  # unless a file was changed meanwhile
                 kept.keep(key, said)
         for line in said or ():
