@@ -5,10 +5,8 @@ use crate::replay::Rules;
 use crate::sets::Set;
 use std::mem;
 
-/// How many buckets a chain has at most.
-const WIDEST: u32 = 4;
-
-/// How many words a bucket of a chain has for keys. The last of the chain has one more.
+/// How many words a bucket of a chain has for keys. The last of the chain has one more. A chain can have four
+/// buckets, which so few keys never need.
 const WORDS: u32 = 6;
 
 /// The highest cutoff that a keep can have here. Frequencies from it on count as this one.
@@ -246,7 +244,7 @@ impl State {
         if self.has_no_word_for(key) {
             self.width += 1;
         }
-        self.write(key, Some(Standing { item, frequency: self.first })) && self.width <= WIDEST
+        self.write(key, Some(Standing { item, frequency: self.first }))
     }
 
     /// Writes a key, and returns whether that is allowed: whether the bucket isn't locked.

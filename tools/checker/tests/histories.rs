@@ -289,6 +289,11 @@ fn moved() {
                 Err(NoOrder(25)),
                 &["0 24 25 refill 1 100 Refilled"],
             ),
+            (
+                "a store into the segment before, which has the same deadline",
+                Err(NoSegment(15)),
+                &["0 12 15 set 0 1 0 9 0 100 Stored"],
+            ),
             ("a move that changes the version", Err(NoOrder(17)), &["1 16 17 gets 0 0 0 Found 1 9"]),
             ("a Miss once the key moved", Err(NoOrder(17)), &["1 16 17 get 0 0 0 Miss"]),
             ("a Miss while the key moves", Err(NoOrder(14)), &["1 13 14 get 1 0 0 Miss"]),
@@ -556,6 +561,19 @@ fn ends_late() {
     judge_rows(PASSES, release, &[("a release that ends after the refill that it refuses", Ok(()), &[])]);
 }
 
+#[test]
+fn comes_late() {
+    let refill = "
+0 0 1 refill 0 100 Refilled
+1 2 15 get 0 0 0 Miss
+0 4 5 set 0 0 0 1 0 100 Stored
+0 6 7 evict 0 Evicted(1)
+0 8 9 refill 0 100 Held
+";
+    let row = ("a get that began before the item stood there, and was inside afterwards", Ok(()), &[][..]);
+    judge_rows(PASSES, refill, &[row]);
+}
+
 // Thread 0 stores seven keys in bucket 0, which fill its words, and then one more.
 // Thread 1 looks for a key beside the last set.
 const FILLED: &str = "
@@ -593,6 +611,7 @@ fn full() {
             ("a chain that grows by none", Err(NoOrder(23)), &[]),
             ("a refused key with none left", Ok(()), &[FULL]),
             ("a refused key before a delete", Ok(()), &[FULL, DELETE, GONE]),
+            ("a Busy beside a refused key", Ok(()), &[FULL, "1 19 20 delete 0 8 0 Busy"]),
             ("a refused key after a delete", Err(NoOrder(23)), &["1 16 17 delete 0 0 0 Deleted", FULL, GONE]),
             ("a refused key that stands", Err(NoOrder(23)), &["0 18 23 set 0 6 0 9 0 100 BucketFull"]),
         ],

@@ -115,6 +115,24 @@ fn any_cache() {
     );
 }
 
+#[test]
+fn late_miss() {
+    let log = "
+0 0 1 put 0 7 Stored
+0 2 9 get 0 Miss
+1 4 5 get 0 Found 7
+0 10 11 get 0 Miss
+";
+    judge_rows(
+        ANY,
+        log,
+        &[
+            ("a key that is evicted after another read it", Ok(()), &[]),
+            ("a key that is read after another missed it", Err(NoOrder(7)), &["0 10 11 get 0 Found 7"]),
+        ],
+    );
+}
+
 /// The log of two callers in turn over a cache of one thread that evicts at random, and where one get of so
 /// many returns the value before the last.
 fn simulated(calls: u64, stale: u64) -> String {
