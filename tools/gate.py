@@ -73,6 +73,7 @@ CORE = [
     # At most one job for each proof: others would read the libraries again, a third more processor time.
     Part("core", "proofs, and tests in Rattle", f"RT_JOBS={CORES} rt ci", "", "rt"),
     Part("cases", "cases of the program", "tools/cases", f"tests tools/cases {PROGRAMS}"),
+    Part("program", "hit rates over fifty turnovers", "tools/turnovers", f"tools/turnovers {PROGRAMS}"),
     Part("core", "edits", "tools/edits", "", "rt"),
 ]
 
