@@ -1,5 +1,5 @@
 //! What a watch sees of a load or a replay, and the line of progress.
-use crate::cli_runs::{Ended, check_ended, check_same, run_watched, writes};
+use crate::cli_runs::{Ended, check_same, run_watched};
 use segcli::{Watch, progress_line};
 use std::alloc::AllocGlobal;
 use std::process::Abort;
@@ -172,55 +172,6 @@ fn a_watch_sees_the_commands_of_a_replay(rt: HostRuntime) {
     check_same(&rt, &words, ended.status, 0);
     check_same(&rt, &words, seen.calls.load(SeqCst), 1);
     check_same(&rt, &words, seen.told(), [(3, 0), (0, 0), (0, 0), (0, 0)]);
-}
-
-/// Checks the totals of a load of one pass, with a watch.
-fn check_totals<R: Threads + Wait + AllocGlobal + Abort + Sync>(
-    rt: &R,
-    words: &[&str],
-    totals: &str,
-) {
-    let ended = run_seen(rt, words, &Seen::new());
-    check_ended(rt, words, &ended, writes(totals.as_bytes()));
-    check_same(rt, words, ended.flushes, (1, 0));
-}
-
-// The totals are those of another program, with the option and without it.
-#[test]
-fn a_watch_changes_no_totals(rt: HostRuntime) {
-    let short =
-        "p0 commands=500 hit=113 miss=204 stored=85 not_stored=25 exists=6 not_found=45 deleted=22 noroom=0 bucketfull=0 busy=0\ntotal commands=500 keys=36\n";
-    let shape = ["load", "--buckets=16", "--segments=2", "--rows=128"];
-    let [load, buckets, segments, rows] = shape;
-    let words = [
-        load,
-        buckets,
-        segments,
-        rows,
-        "--commands=500",
-        "--seed=7",
-        "--progress",
-    ];
-    check_totals(&rt, &words[..6], short);
-    check_totals(&rt, &words, short);
-    let usual =
-        "p0 commands=1000 hit=303 miss=311 stored=165 not_stored=53 exists=18 not_found=95 deleted=55 noroom=0 bucketfull=0 busy=0\ntotal commands=1000 keys=37\n";
-    check_totals(&rt, &shape, usual);
-    check_totals(&rt, &[load, buckets, segments, rows, "--progress"], usual);
-}
-
-// More commands than a watch is called after, with the option and without it.
-#[test]
-fn a_watch_that_is_called_changes_no_totals(rt: HostRuntime) {
-    let shape = ["load", "--commands=5000", "--buckets=8", "--rows=64"];
-    let plain = run_seen(&rt, &shape, &Seen::new());
-    let [load, commands, buckets, rows] = shape;
-    let seen = Seen::new();
-    let words = [load, commands, buckets, rows, "--progress"];
-    let watched = run_seen(&rt, &words, &seen);
-    check_same(&rt, &shape, plain.status, 0);
-    check_ended(&rt, &words, &watched, writes(plain.written.as_slice()));
-    check_same(&rt, &words, seen.calls.load(SeqCst), 4);
 }
 
 fn check_line<R: AllocGlobal + Abort>(

@@ -191,11 +191,6 @@ pub fn run<R: Threads + Wait + AllocGlobal + Abort + Sync>(
     run_with(rt, words, script, SOUND)
 }
 
-/// The text that a run wrote.
-pub fn text_of<'e>(rt: &impl Abort, ended: &'e Ended) -> &'e str {
-    str::from_utf8(ended.written.as_slice()).expect(rt, "a text")
-}
-
 /// Checks one thing that a run with these words came to.
 pub fn check_same<T: Copy + PartialEq + Debug>(
     rt: &impl Abort,
@@ -224,17 +219,4 @@ pub fn check_program<R: Threads + Wait + AllocGlobal + Abort + Sync>(
     let ended = run(rt, words, script);
     check_ended(rt, words, &ended, end);
     check_same(rt, words, ended.flushes, (1, u64::from(end.status != 0)));
-}
-
-/// Checks that the bytes are a text that has this part.
-pub fn check_part(rt: &impl Abort, words: &[&str], bytes: &[u8], part: &str) {
-    assert!(rt; has(bytes, part), "{words:?}: {part}");
-}
-
-// Whether the bytes are a text that has this part.
-fn has(bytes: &[u8], part: &str) -> bool {
-    match str::from_utf8(bytes) {
-        Ok(text) => text.contains(part),
-        Err(_) => false,
-    }
 }

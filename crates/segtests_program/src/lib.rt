@@ -1,4 +1,4 @@
-//! Tests of the program: its command line, and what it does without memory.
+//! Tests of the program: devices that fail, a watch that looks on, and what it does without memory.
 #![tactic(auto)]
 
 #[cfg(test)]
@@ -6,21 +6,9 @@ mod cli_devices;
 #[cfg(test)]
 mod cli_given;
 #[cfg(test)]
-mod cli_help;
-#[cfg(test)]
-mod cli_hints;
-#[cfg(test)]
-mod cli_lives;
-#[cfg(test)]
-mod cli_loads;
-#[cfg(test)]
-mod cli_options;
-#[cfg(test)]
 mod cli_order;
 #[cfg(test)]
 mod cli_progress;
-#[cfg(test)]
-mod cli_reasons;
 #[cfg(test)]
 mod cli_replays;
 #[cfg(test)]
@@ -29,8 +17,6 @@ mod cli_runs;
 mod cli_scripts;
 #[cfg(test)]
 mod cli_stats;
-#[cfg(test)]
-mod cli_words;
 #[cfg(test)]
 mod memory_program;
 #[cfg(test)]
