@@ -110,6 +110,14 @@ pub fn check(rules: Rules, threads: &[Vec<Call>]) -> Result<Replay, Fault> {
     }
 }
 
+/// The buckets that an operation bears on.
+fn concerned<'a>(buckets: &'a mut [Bucket], operation: &Operation) -> &'a mut [Bucket] {
+    match operation.only_bucket() {
+        Some(number) => &mut buckets[number..=number],
+        None => buckets,
+    }
+}
+
 impl Replay {
     fn new(rules: Rules) -> Replay {
         Replay {
@@ -150,22 +158,13 @@ impl Replay {
         Ok(is_under_way)
     }
 
-    /// The buckets that an operation bears on.
-    fn buckets_of(&mut self, operation: &Operation) -> &mut [Bucket] {
-        match operation.only_bucket() {
-            Some(number) => &mut self.buckets[number..=number],
-            None => &mut self.buckets,
-        }
-    }
-
     fn begin(&mut self, thread: usize, operation: &Operation) {
         if operation.taken().is_some() {
             self.forget(thread);
         }
         self.pending[thread] = Some(*operation);
-        let pending = self.pending;
-        for bucket in self.buckets_of(operation) {
-            bucket.begin(thread, &pending);
+        for bucket in concerned(&mut self.buckets, operation) {
+            bucket.begin(thread, &self.pending);
         }
     }
 
@@ -195,7 +194,7 @@ impl Replay {
         if !self.has_reason(thread, operation) {
             return Err(Fault::NoReason(call.returned));
         }
-        for bucket in self.buckets_of(operation) {
+        for bucket in concerned(&mut self.buckets, operation) {
             bucket.end(thread, operation);
         }
         self.pending[thread] = None;
@@ -284,9 +283,8 @@ impl Replay {
 
     /// The operation is taken at the latest now. Returns whether that is possible.
     fn answer(&mut self, thread: usize, operation: &Operation) -> Result<bool, Fault> {
-        let pending = self.pending;
-        for bucket in self.buckets_of(operation) {
-            if operation.is_of(bucket.number()) && !bucket.answer(thread, &pending)? {
+        for bucket in concerned(&mut self.buckets, operation) {
+            if operation.is_of(bucket.number()) && !bucket.answer(thread, &self.pending)? {
                 return Ok(false);
             }
         }
