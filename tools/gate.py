@@ -91,7 +91,7 @@ BUILT = [
          f"bindings/rust {ARCHIVE}", "cargo"),
     Part("package", "the package", "bindings/package && bindings/try-package",
          f"bindings server tools crates crates.txt LICENSE {ARCHIVE} {WIDE}", "rt make cc c++ cargo"),
-    Part("program", "the program", "bindings/check-program", f"bindings {PROGRAMS}"),
+    Part("program", "the program", "bindings/check-program", f"bindings tools/devices tools/devices.c {PROGRAMS}"),
 ]
 OVER_WIDE = [
     Part("wide", "the wide archive", "tools/wide bindings/archive && make -C bindings/c WIDE=1 "
