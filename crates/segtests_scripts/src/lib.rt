@@ -1,4 +1,4 @@
-//! Tests of what the program runs: the plain cache, scripts and loads.
+//! Tests of scripts and loads: devices that fail, passes at the same time, and a run of the plain cache.
 #![tactic(auto)]
 
 #[cfg(test)]
@@ -14,34 +14,12 @@ mod model_run;
 #[cfg(test)]
 mod same;
 #[cfg(test)]
-mod script_bad_lines;
-#[cfg(test)]
-mod script_evicting;
-#[cfg(test)]
-mod script_expiring;
-#[cfg(test)]
-mod script_growing;
-#[cfg(test)]
-mod script_holding;
-#[cfg(test)]
 mod script_hostile;
 #[cfg(test)]
-mod script_keeping;
-#[cfg(test)]
-mod script_lines;
-#[cfg(test)]
-mod script_locking;
-#[cfg(test)]
 mod script_making;
-#[cfg(test)]
-mod script_moments;
 #[cfg(test)]
 mod script_order;
 #[cfg(test)]
 mod script_runs;
 #[cfg(test)]
-mod script_serving;
-#[cfg(test)]
 mod script_standard;
-#[cfg(test)]
-mod script_writing;

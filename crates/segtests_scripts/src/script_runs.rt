@@ -114,38 +114,3 @@ pub fn check<R: AllocGlobal + Abort>(
         check_same(rt, step, reader.ends <= 1, true);
     }
 }
-
-/// Checks a script without bad lines, whose devices don't fail.
-pub fn check_replies<R: AllocGlobal + Abort>(rt: &R, shape: Shape, script: &[u8], replies: &[u8]) {
-    let end = Ok(());
-    check(rt, shape, script, SOUND, Wanted { end, replies });
-}
-
-/// Checks a script whose devices don't fail.
-pub fn check_script<R: AllocGlobal + Abort>(
-    rt: &R,
-    rows: u32,
-    script: &[u8],
-    end: Result<(), RunFault>,
-    replies: &[u8],
-) {
-    check(rt, shape_of(rows), script, SOUND, Wanted { end, replies });
-}
-
-/// Checks a script without bad lines.
-/// The shape has no overflow bucket, and this many buckets, passes,
-/// segments of a pass and rows of a segment.
-pub fn check_turns<R: AllocGlobal + Abort>(
-    rt: &R,
-    [buckets, passes, segments_each, rows]: [u32; 4],
-    script: &[u8],
-    replies: &[u8],
-) {
-    let shape = Shape {
-        buckets,
-        passes,
-        segments_each,
-        ..shape_of(rows)
-    };
-    check_replies(rt, shape, script, replies);
-}
