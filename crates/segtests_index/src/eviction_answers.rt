@@ -55,15 +55,6 @@ fn evicting_the_current_segment_ends_it(rt: HostRuntime) {
     answers(&rt, TWO_EACH, script);
 }
 
-#[test]
-fn a_segment_of_nobody_or_another_is_not_yours(rt: HostRuntime) {
-    let script = "
-        p0 evict 2 -> NOT_YOURS
-        p0 evict 4 -> NOT_YOURS
-    ";
-    answers(&rt, TWO_EACH, script);
-}
-
 // A deadline is 0 before the first refilling, and an eviction leaves it.
 #[test]
 fn a_refilling_sets_the_deadline_of_its_segment(rt: HostRuntime) {
@@ -97,36 +88,6 @@ fn a_refilling_sets_the_deadline_of_its_segment(rt: HostRuntime) {
 }
 
 #[test]
-fn a_refused_refill_leaves_the_deadline(rt: HostRuntime) {
-    let script = "
-        p0 refill 0 9 -> REFILLED
-        p0 refill 0 5 -> NOT_EVICTED
-        p0 deadline 0 -> 9
-        p1 refill 0 5 -> NOT_YOURS
-        p0 deadline 0 -> 9
-        p1 deadline 0 -> NONE
-        p0 refill 2 5 -> NOT_YOURS
-        p1 deadline 2 -> 0
-    ";
-    answers(&rt, TWO_EACH, script);
-}
-
-#[test]
-fn an_eviction_leaves_the_version(rt: HostRuntime) {
-    let script = "
-        p0 refill 0 4294967295 -> REFILLED
-        p0 set a 1 @0 -> STORED
-        p0 evict 0 -> EVICTED 1
-        p0 gets a @0 -> MISS
-        p0 refill 0 4294967295 -> REFILLED
-        p0 set a 5 @0 -> STORED
-        // Two sets, and an eviction that isn't counted.
-        p0 gets a @0 -> VALUE 5 2
-    ";
-    answers(&rt, TWO_EACH, script);
-}
-
-#[test]
 fn an_eviction_stops_at_a_locked_bucket(rt: HostRuntime) {
     let script = "
         p0 refill 0 4294967295 -> REFILLED
@@ -146,35 +107,6 @@ fn an_eviction_stops_at_a_locked_bucket(rt: HostRuntime) {
         p0 evict 0 -> EVICTED 2
         p0 get b @0 -> MISS
         p0 get c @0 -> MISS
-    ";
-    answers(&rt, TWO_EACH, script);
-}
-
-#[test]
-fn a_lock_bars_its_own_pass(rt: HostRuntime) {
-    let script = "
-        p0 refill 0 4294967295 -> REFILLED
-        p0 set a 1 @0 -> STORED
-        p0 lock a -> LOCKED
-        p0 evict 0 -> BUSY 0
-        p0 unlock -> UNLOCKED
-        p0 evict 0 -> EVICTED 1
-    ";
-    answers(&rt, TWO_EACH, script);
-}
-
-#[test]
-fn a_key_that_is_gone_is_in_no_way(rt: HostRuntime) {
-    let script = "
-        p0 refill 0 4294967295 -> REFILLED
-        p0 set a 1 @0 -> STORED
-        p0 set b 1 @0 -> STORED
-        // The key b then stands in a segment of the other pass, which locks its bucket.
-        p1 refill 2 4294967295 -> REFILLED
-        p1 set b 2 @0 -> STORED
-        p1 lock b -> LOCKED
-        p0 evict 0 -> EVICTED 1
-        p0 get b @0 -> VALUE 2
     ";
     answers(&rt, TWO_EACH, script);
 }

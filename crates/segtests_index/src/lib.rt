@@ -16,8 +16,6 @@ mod eviction_answers;
 mod expiring;
 pub mod hoard;
 #[cfg(test)]
-mod holding;
-#[cfg(test)]
 mod holds;
 #[cfg(test)]
 mod memory_index;
@@ -69,5 +67,3 @@ mod threads_standing;
 mod threads_tables;
 #[cfg(test)]
 mod work;
-#[cfg(test)]
-mod write_answers;

@@ -62,23 +62,6 @@ pub fn first_wrong_line<'t>(
     None
 }
 
-/// The same for a script that only this pass serves, whatever pass a line names.
-pub fn first_wrong_alone<'t>(index: &Index, pass: &mut Pass, script: &'t str) -> Option<&'t str>
-    requires { IsQuiet (board_of index.now) pass.old }
-    ensures { IsQuiet (board_of index.now) pass.new }
-{
-    for line in script.lines() {
-        let is_well = match row_of(line) {
-            Some((text, wanted)) => is_answered(index, pass, text, wanted),
-            None => true,
-        };
-        if !is_well {
-            return Some(line);
-        }
-    }
-    None
-}
-
 // The row of a line, if it is neither empty nor a comment.
 // A line with no answer is a row that is wrong.
 fn row_of(line: &str) -> Option<Row<'_>> {

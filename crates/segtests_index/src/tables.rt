@@ -4,7 +4,7 @@ ghost use Rattle.segstore.specs.Words.{IsQuiet};
 
 use crate::calls::lists;
 use crate::passes::two_passes;
-use crate::rows::{first_wrong_alone, first_wrong_line};
+use crate::rows::first_wrong_line;
 use crate::same::same;
 use segindex::{Index, Pass};
 use segword::Shape;
@@ -35,13 +35,4 @@ pub fn answers_and_lists<R: AllocGlobal + Abort>(
 ) {
     let (index, first, _) = served(rt, shape, script);
     same(rt, &lists(rt.alloc(), index, first, pairs), &Ok(true));
-}
-
-/// Checks that each line has the answer that it wants of this pass.
-pub fn answers_alone(rt: &impl Abort, index: &Index, pass: &mut Pass, script: &str)
-    requires { IsQuiet (board_of index.now) pass.old }
-    ensures { IsQuiet (board_of index.now) pass.new }
-{
-    let wrong = first_wrong_alone(index, pass, script);
-    same(rt, &wrong, &None);
 }
