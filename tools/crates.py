@@ -1,6 +1,8 @@
 # SPDX-License-Identifier: MIT
 """The crates of the repository, by the lines of crates.txt, and the words by which the kit's compiler is called."""
 
+import importlib.machinery
+import importlib.util
 import subprocess
 from pathlib import Path
 from typing import NamedTuple
@@ -39,3 +41,11 @@ def call_of(kit, verb, name):
     yield from [kit / "bin/rattle", verb, "--crate-name", name, "--links", f"{name}="]
     yield from ["--antt-project", kit / "rattle/logic/antt-project.json", "--logic-built", kit / "logic_built"]
     yield from ["-L", f"dependency={kit / 'rlibs'}"]
+
+
+def load(script):
+    """A script, which has no ending, as a module."""
+    loader = importlib.machinery.SourceFileLoader(Path(script).name, str(ROOT / script))
+    module = importlib.util.module_from_spec(importlib.util.spec_from_loader(loader.name, loader))
+    loader.exec_module(module)
+    return module

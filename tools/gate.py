@@ -20,7 +20,7 @@ CORES = min(os.cpu_count() or 1, 4)
 
 
 class Raw(NamedTuple):
-    """What bindings/archive makes of segcache and the crates below it: the archive, and a note of what it is made of."""
+    """What bindings/archive makes of segcache and the crates below it: the archive, and a note of what it's made of."""
 
     folder: str
     made_by: list

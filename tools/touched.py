@@ -1,13 +1,11 @@
 # SPDX-License-Identifier: MIT
 """What a change touches, and what is run for it."""
 
-import importlib.machinery
-import importlib.util
 import re
 import subprocess
 
 import gate
-from crates import ROOT, below, read_crates
+from crates import ROOT, below, load, read_crates
 from gate import Part
 
 
@@ -32,25 +30,20 @@ def lines(since, file):
 
 
 def functions(since, changed):
-    """The functions of the crates that a changed line is in: the crate and the path below it."""
-    edits = of_edits()
+    """The functions that changed lines are in, by crate and path. The path is empty for what is in none."""
+    edits = load("tools/edits")
     for file in changed:
+        if it := re.match(r"crates/(\w+)/(specs|proofs)/", file):
+            yield it[1], ""
         if (it := re.fullmatch(r"crates/(\w+)/(src/.*\.rt)", file)) and (ROOT / file).exists():
             text = (ROOT / file).read_text()
-            starts = [0, *(at.end() for at in re.finditer("\n", text))]
+            rows = text.splitlines(keepends=True)
             for number in lines(since, file):
-                place = starts[min(number, len(starts)) - 1]
-                # A line above the body, as one of the contract, counts too.
-                if function := edits.function_at(ROOT / "crates" / it[1], it[2], text, max(place, 1)):
+                row = rows[min(number, len(rows)) - 1]
+                place = len("".join(rows[: min(number, len(rows)) - 1]))
+                function = edits.function_at(ROOT / "crates" / it[1], it[2], text, place)
+                if function or row.strip() and not row.lstrip().startswith("//"):
                     yield it[1], function
-
-
-def of_edits():
-    """The script that tries edits, which knows of what function a line is."""
-    loader = importlib.machinery.SourceFileLoader("edits", str(ROOT / "tools/edits"))
-    module = importlib.util.module_from_spec(importlib.util.spec_from_loader("edits", loader))
-    loader.exec_module(module)
-    return module
 
 
 def of_crates(since, changed):
@@ -60,19 +53,22 @@ def of_crates(since, changed):
     sources = [name for name in names if any(re.match(rf"crates/{name}/(src|specs|proofs)/", file) for file in changed)]
     for name in sources:
         yield Part("crates", f"{name}: layout", f"cd crates/{name} && rt fmt --check", needs="rt")
+    if {"segrun", *below("segrun", crates)} & {*sources}:
+        yield Part("crates", "cases, unproved", "tools/unproved.py", needs="rt")
     tests = [name for name in crates if name.startswith("segtests_")]
     for name in tests:
         if name in sources or {*below(name, crates)} & {*sources}:
             command = f"cd crates/{name} && rt try --test --seconds 300"
             yield Part("crates", f"{name}: tests, unproved", command, needs="rt")
     found = list(dict.fromkeys(functions(since, changed)))
+    # What is changed outside functions can matter to each of them.
+    whole = [crate for crate, path in found if not path]
     for name in sources:
-        paths = [path for crate, path in found if crate == name]
-        if paths:
-            only = " ".join(f"--only {path}" for path in paths)
-            yield Part("core", f"{name}: changed functions", f"cd crates/{name} && rt check {only}", needs="rt")
-    edited = [it[1] for file in changed if (it := re.match(r"crates/(\w+)/edits/", file))]
-    words = [*dict.fromkeys(edited), *(f"{crate}::{path}" for crate, path in found if crate not in edited)]
+        only = "" if name in whole else "".join(f" --only {path}" for crate, path in found if crate == name)
+        if only or name in whole:
+            yield Part("core", f"{name}: what changed", f"cd crates/{name} && rt check{only}", needs="rt")
+    whole += [it[1] for file in changed if (it := re.match(r"crates/(\w+)/edits/", file))]
+    words = [*dict.fromkeys(whole), *(f"{crate}::{path}" for crate, path in found if crate not in whole)]
     words = [word for word in words if (ROOT / "crates" / word.partition("::")[0] / "edits").is_dir()]
     if words:
         yield Part("core", "edits of what changed", f"tools/edits {' '.join(words)}", needs="rt")
@@ -86,10 +82,15 @@ def is_archive_of_these():
 
 def parts(since, changed):
     yield gate.FORK[0]
-    touches = {part: any(file.startswith(part) for file in changed) for part in ("bindings/", "server/", "crates/")}
+    places = ("bindings/", "server/", "crates/", "tests/", "tools/cases", "tools/trial", "tools/checker/")
+    touches = {part: any(file.startswith(part) for file in changed) for part in places}
     if any(touches.values()):
         yield from (part for part in gate.FORK if part.group in ("compare", "faults"))
     yield from of_crates(since, changed)
+    if touches["tests/"] or touches["tools/cases"]:
+        yield from (part for part in gate.CORE if part.group == "cases")
+    if touches["tools/trial"] or touches["tools/checker/"]:
+        yield from (part for part in gate.FORK if part.group == "checker")
     over_library = (touches["bindings/"] or touches["server/"]) and is_archive_of_these()
     if touches["bindings/"]:
         yield from (part for part in [*gate.FORK, *(gate.BUILT if over_library else [])] if part.group in ("c", "rust"))
