@@ -1,6 +1,6 @@
 // SPDX-License-Identifier: MIT
 //! Judges a log of calls, which README.md describes.
-use checker::{Failure, Fault, Refused, Verdict, judge_all};
+use checker::{Failure, Fault, Refused, Unread, Verdict, judge_all};
 use std::io::{self, BufReader};
 use std::path::PathBuf;
 use std::process::ExitCode;
@@ -114,7 +114,7 @@ fn tell_refused(options: &Options, Refused { round, failure }: &Refused) -> Exit
         eprintln!("error: {}: {error}", path.display());
     }
     match failure {
-        Failure::BadLine(bad) if bad.why != checker::Unread::NoAnswer => BAD_USAGE,
+        Failure::BadLine(bad) if bad.why == Unread::NotAsWritten => BAD_USAGE,
         Failure::History { fault: Fault::TooMany, .. } => FAILED,
         _ => UNEXPLAINED,
     }
