@@ -4,11 +4,13 @@ use mathlib.Core.Option.{some}
 use lib.ListN.{get_elem?}
 use Rattle.atomic_table.specs.Table.{State, Me, keeps, stepped, Allows}
 use Rattle.atomic_table.proofs.Lists.{at_set, set_here, set_else}
-use Rattle.segword.specs.Words.{Shape}
-use Rattle.segcore.specs.Words.{address, adds, becomes, cell, Event, IsLawful, May, Step, Told}
+use Rattle.segcore.specs.Words.{address, adds, AreWithin, becomes, cell, Event, IsLawful, LinksWithin, May, seen, Step, Told}
 use Rattle.segcore.specs.Words.{steps_of, View, word}
 use Rattle.segcore.proofs.KeepsLaw.{steps, inside_list}
 use Rattle.segcore.proofs.Schedules.{kept_at}
+use Rattle.segcore.proofs.Within.{steps_within}
+use Rattle.segbase.specs.declared.law.Constants.{Constants}
+use Rattle.segbase.specs.Constants.{constants}
 use Rattle.segbase.specs.declared.law.Sight.{Sight}
 use Rattle.segbase.specs.Words.{Board, Pass}
 use Rattle.segbase.specs.declared.place.Spot.{Spot}
@@ -38,10 +40,10 @@ apart_kept views id x u one at pass same i j a b ai bj pa pb e = ⊎_elim
 
 module _ {S : Type 0} where
   -- a pass whose view alone changes, with its number kept, keeps what the rule says of the seats
-  sights_kept : (z : Shape) (s : State S Sight) (rule : Rule z s) (id : ℕ) (x : Sight) (w : View) (es : List Event)
+  sights_kept : (c : Constants) (s : State S Sight) (rule : Rule c s) (id : ℕ) (x : Sight) (w : View) (es : List Event)
       → get_elem? s.views id ≡ some x → x.is_pass ≡ true → w.number ≡ x.view.number → w.trace ≡ es ++ rule.trace
       → (j : ℕ) (y : Sight) → get_elem? (set s.views id (record x { view = w })) j ≡ some y → IsSight (set rule.views x.view.number w) (es ++ rule.trace) y
-  sights_kept z s rule id x w es at pass same all j y is =
+  sights_kept c s rule id x w es at pass same all j y is =
       let old = rule.sights id x at in ⊎_elim
       (λ t. subst (IsSight (set rule.views x.view.number w) (es ++ rule.trace)) t.1 (record {
         seen = ([], sym all);
@@ -58,9 +60,11 @@ module _ {S : Type 0} where
       (at_set s.views id j (record x { view = w }) y is)
 
   -- the function f is the step's, as the table's own contract writes it
-  pub allows : (z : Shape) (st : Step) (slots id i : ℕ) (me : Me S Sight) (f : ℕ → ℕ) → me.0.is_pass ≡ true → May z me.0.view.trace me.0.view.number st → i ≡ address z (cell st) → becomes st ≡ f
-      → Allows (Rule z) slots id me i f (λ found me'. Learns z st found me.0 me'.0 × (me'.1 ≡ me.1))
-  allows z st slots id i me f pass may place same s rule _ at _ =
+  pub allows : (c : Constants) (st : Step) (slots id i : ℕ) (me : Me S Sight) (f : ℕ → ℕ) → me.0.is_pass ≡ true → May c.shape me.0.view.trace me.0.view.number st
+      → LinksWithin c.limits st → i ≡ address c.shape (cell st) → becomes st ≡ f
+      → Allows (Rule c) slots id me i f (λ found me'. Learns c st found me.0 me'.0 × (me'.1 ≡ me.1))
+  allows c st slots id i me f pass may links place same s rule _ at _ =
+      let z = c.shape in
       let v : View = me.0.view in
       let p = v.number in
       let old = rule.sights id me.0 at in
@@ -74,12 +78,14 @@ module _ {S : Type 0} where
       let x : Sight = record me.0 { view = w } in
       let after = steps z s.words rule.views rule.trace p v st l here kept in
       let is : found ≡ word z rule.trace (cell st) = rw place (l.each (cell st) kept.inside) in
-      let ruled : Rule z (stepped s i (f found) id me.1 x keeps) = record {
+      let within : AreWithin c.limits (seen (es ++ rule.trace)) = steps_within c.limits st p found rule.trace links rule.within in
+      let ruled : Rule c (stepped s i (f found) id me.1 x keeps) = record {
         trace = es ++ rule.trace;
         views = set rule.views p w;
         lawful = rw (← same, place) after;
+        within = within;
         few = subst (λ n. n ≤ z.passes) (sym (length-set rule.views p w)) rule.few;
-        sights = sights_kept z s rule id me.0 w es at pass refl refl;
+        sights = sights_kept c s rule id me.0 w es at pass refl refl;
         held = λ n u is. ⊎_elim
             (λ t. subst (IsHeld (set s.views id x)) t.1 (id, x, set_here s.views id x (inside_list s.views id me.0 at), inl (pass, refl)))
             (λ t. held_moved s.views id me.0 x u at (λ has. absurd (t.0 (sym (l.knows n u t.1).number ∙ ap (λ (y : View). y.number) (sym (pass_only me.0 u pass has))))) (rule.held n u t.1))
@@ -103,6 +109,7 @@ module _ {S : Type 0} where
         (
           record {
             told = told;
+            within = within;
             met = begins_on es me.0.met rule.trace old.met;
             among = λ n past. ruled.lawful.later n (let few = ruled.few in omega arith);
             is_pass = refl;
@@ -121,7 +128,7 @@ step_of b p st spot i f can place within = (
   can.pass.table,
   within,
   subst (λ k. Allows (Rule k) b.table.shared.table_id.slots p.seat.id p.seat.me i f (λ found me'. Learns k st found p.seat.me.0 me'.0 × (me'.1 ≡ p.seat.me.1))) (sym b.same)
-      (allows b.shape st b.table.shared.table_id.slots p.seat.id i p.seat.me f can.pass.is_pass can.may (place ∙ ap (address b.shape) (sym can.at)) can.by),
+      (allows (constants b.shape b.limits) st b.table.shared.table_id.slots p.seat.id i p.seat.me f can.pass.is_pass can.may can.links (place ∙ ap (address b.shape) (sym can.at)) can.by),
 )
 
 pub store_of : (b : Board) (p : Pass) (st : Step) (spot : Spot) (i : ℕ) (f : ℕ → ℕ) → CanStep b p st spot f → i ≡ address b.shape (cell_of b.shape spot) → i < b.table.shared.table_id.words

@@ -7,9 +7,9 @@ use mathlib.Core.Option.{some}
 use lib.ListN.{get_elem?}
 use Rattle.atomic_table.specs.Table.{Me, Splits, Joins}
 use Rattle.atomic_table.proofs.Lists.{at_set, at_snoc}
-use Rattle.segword.specs.Words.{Shape}
 use Rattle.segmodel.specs.Words.{AreOne, Begins}
-use Rattle.segcore.specs.Words.{AllBy, Event, IsLawful, May, row_load, View}
+use Rattle.segcore.specs.Words.{AllBy, AreWithin, Event, IsLawful, May, row_load, seen, View}
+use Rattle.segbase.specs.declared.law.Constants.{Constants}
 use Rattle.segbase.specs.Words.{Board, Memo, Pass}
 use Rattle.segbase.specs.declared.law.Sight.{Sight}
 use Rattle.segbase.specs.declared.pass.PlainPart.{PlainPart}
@@ -47,14 +47,16 @@ pub begins_all : (h : List Event) → Begins [] h
 begins_all h = (h, sym (append-nil h))
 
 -- a seat is split off that carries what a pass has seen; the pass may keep another thing in mind
-pub carries : (S : Type 0) (z : Shape) (id : ℕ) (x u : Sight) → x.is_pass ≡ true → u.view ≡ x.view → u.met ≡ x.met → u.is_pass ≡ true → u.ended ≡ x.ended → Splits {S = S} (Rule z) id x u (witness x)
-carries S z id x u pass view met is_pass ended s rule at =
+pub carries : (S : Type 0) (k : Constants) (id : ℕ) (x u : Sight) → x.is_pass ≡ true → u.view ≡ x.view → u.met ≡ x.met → u.is_pass ≡ true → u.ended ≡ x.ended
+    → Splits {S = S} (Rule k) id x u (witness x)
+carries S k id x u pass view met is_pass ended s rule at =
     let old = rule.sights id x at in
     let one = apart_kept s.views id x u rule.one at pass (ap (λ v. v.number) view) in
     record {
       trace = rule.trace;
       views = rule.views;
       lawful = rule.lawful;
+      within = rule.within;
       few = rule.few;
       sights = λ j y is. ⊎_elim
           (λ t. ⊎_elim
@@ -82,8 +84,8 @@ same_there views id x at j y is = ⊎_elim
     (at_set views id j x y is)
 
 -- a seat of no pass is split in two of the same
-pub copies : (S : Type 0) (z : Shape) (id : ℕ) (x : Sight) → x.is_pass ≡ false → x.ended ≡ [] → Splits {S = S} (Rule z) id x x x
-copies S z id x off none s rule at =
+pub copies : (S : Type 0) (k : Constants) (id : ℕ) (x : Sight) → x.is_pass ≡ false → x.ended ≡ [] → Splits {S = S} (Rule k) id x x x
+copies S k id x off none s rule at =
     let there = same_there s.views id x at in
     let one : IsOne (set s.views id x) = λ i j a b ai bj pa pb e. rule.one i j a b (there i a ai) (there j b bj) pa pb e in
     let apart : AreApart (set s.views id x) = λ i j a b ai bj pb. rule.apart i j a b (there i a ai) (there j b bj) pb in
@@ -91,6 +93,7 @@ copies S z id x off none s rule at =
       trace = rule.trace;
       views = rule.views;
       lawful = rule.lawful;
+      within = rule.within;
       few = rule.few;
       sights = λ j y is. ⊎_elim
           (λ t. rule.sights j y (there j y t))
@@ -101,8 +104,8 @@ copies S z id x off none s rule at =
       apart = apart_longer (set s.views id x) x apart off none;
     }
 
-pub tells : (S : Type 0) (z : Shape) (id other : ℕ) (x w : Sight) → x.is_pass ≡ true → w.is_pass ≡ false → w.ended ≡ [] → Joins {S = S} (Rule z) id x other w (meets x w) spent
-tells S z id other x w pass off none s rule at apart at' =
+pub tells : (S : Type 0) (k : Constants) (id other : ℕ) (x w : Sight) → x.is_pass ≡ true → w.is_pass ≡ false → w.ended ≡ [] → Joins {S = S} (Rule k) id x other w (meets x w) spent
+tells S k id other x w pass off none s rule at apart at' =
     let old = rule.sights id x at in
     let u : Sight = meets x w in
     let views = set s.views id u in
@@ -112,6 +115,7 @@ tells S z id other x w pass off none s rule at apart at' =
       trace = rule.trace;
       views = rule.views;
       lawful = rule.lawful;
+      within = rule.within;
       few = rule.few;
       sights = λ j y is. ⊎_elim
           (λ t. subst (IsSight rule.views rule.trace) t.1 (record { seen = begins_all rule.trace; met = begins_all rule.trace; own = λ yes. absurd (false≢true yes); ended = tt }))
@@ -156,6 +160,7 @@ same_pass b p q is table bare same pass minds plain =
       is_pass = pass ∙ is.is_pass;
       valid = is.valid;
       lawful = subst (λ (v : View). IsLawful b.shape v.trace) (sym same) is.lawful;
+      within = subst (λ (v : View). AreWithin b.limits (seen v.trace)) (sym same) is.within;
       one_of = rw of is.one_of;
       alone = λ one. subst (λ (v : View). AllBy v.number v.trace) (sym same) (is.alone one);
       minds = subst (λ (v : View). Minds b.shape v.trace v.number (sight q).memo) (sym same) minds;

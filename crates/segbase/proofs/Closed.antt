@@ -4,6 +4,8 @@ use mathlib.Core.Option.{some, some-injective, some-ne-none}
 use lib.ListN.{get_elem?}
 use Rattle.atomic_table.specs.Table.{Final, Seen}
 use Rattle.segword.specs.Words.{Shape}
+use Rattle.segbase.specs.declared.law.Constants.{Constants}
+use Rattle.segbase.specs.Constants.{constants}
 use Rattle.segcore.specs.Words.{address, AllBy, Cell, Event, IsCell, NoneBy, word}
 use Rattle.segbase.specs.Words.{Board, Pass}
 use Rattle.segbase.specs.declared.closing.Words.{Words}
@@ -27,7 +29,7 @@ pub closes : (b : Board) (p : Pass) (words : Words) (xs : List (Unit {0})) → I
     → Final {S = Unit {0}} (Seen (Rule b.table.shared.key) p.seat.id (sight p)) (slots_items words.closed.words) xs → (now : List Event) × Closes b p words now
 closes b p words xs is of final =
     let z = b.shape in let n = number p in let ws = slots_items words.closed.words in
-    let ruled : Rule z final.0 = subst (λ (k : Shape). Rule k final.0) b.same final.1.0 in
+    let ruled : Rule (constants b.shape b.limits) final.0 = subst (λ (k : Constants). Rule k final.0) b.same final.1.0 in
     let now = ruled.trace in let l = ruled.lawful in
     let known = l.knows n (sight p).view ((ruled.sights p.seat.id (sight p) final.1.1).own is.is_pass) in
     let few = ruled.few in

@@ -6,6 +6,7 @@ use Rattle.atomic_table.specs.Table.{opening, Splits}
 use Rattle.atomic_table.proofs.Lists.{at_set, at_longer, at_last, set_here, set_else}
 use Rattle.segword.specs.Words.{IsValid, Shape}
 use Rattle.segcore.specs.Words.{Event, Knows, Lawful, NoneBy, View}
+use Rattle.segbase.specs.declared.law.Constants.{Constants}
 use Rattle.segbase.specs.declared.law.Sight.{Sight}
 use Rattle.segbase.specs.Opening.{IsOpened}
 use Rattle.segbase.specs.Ruled.{AreViews, IsHeld, NoneNumbered, Rule, IsSight, first_sight, dealer, newcomer}
@@ -39,8 +40,8 @@ untimed : (p : ℕ) (v : View) → get_elem? (first_sight.view ∷ []) p ≡ som
 untimed zero v at = let same = sym (some-injective first_sight.view v at) in (ap (λ (u : View). u.looks) same, ap (λ (u : View). u.turn) same)
 untimed (suc p) v at = absurd (some-ne-none v (sym at))
 
-pub rule_opens : (S : Type 0) (z : Shape) (words : List ℕ) → IsValid z → IsOpened z words → Rule {S = S} z (opening words [] first_sight)
-rule_opens S z words valid opened = record {
+pub rule_opens : (S : Type 0) (k : Constants) (words : List ℕ) → IsValid k.shape → IsOpened k.shape words → Rule {S = S} k (opening words [] first_sight)
+rule_opens S k words valid opened = record {
   trace = [];
   views = first_sight.view ∷ [];
   lawful = record {
@@ -53,6 +54,7 @@ rule_opens S z words valid opened = record {
     dealt = λ v at. ap (λ (u : View). u.dealt) (sym (some-injective first_sight.view v at));
     timed = timed_first (first_sight.view ∷ []) untimed;
   };
+  within = tt;
   few = valid.0.0.0.1.0;
   sights = one_sight;
   held = held_first;
@@ -99,8 +101,9 @@ more_views z words views h v l at =
       timed = timed_longer there new (timed_same views 0 v w l.timed at refl refl refl) refl refl refl;
     }
 
-pub deals : (S : Type 0) (z : Shape) (id : ℕ) (x : Sight) → x.is_pass ≡ true → x.view.number ≡ 0 → x.view.dealt < z.passes → Splits {S = S} (Rule z) id x (dealer x) (newcomer x)
-deals S z id x pass first fewer s rule at =
+pub deals : (S : Type 0) (k : Constants) (id : ℕ) (x : Sight) → x.is_pass ≡ true → x.view.number ≡ 0 → x.view.dealt < k.shape.passes → Splits {S = S} (Rule k) id x (dealer x) (newcomer x)
+deals S k id x pass first fewer s rule at =
+    let z = k.shape in
     let h = rule.trace in let l = rule.lawful in
     let v : View = x.view in
     let old = rule.sights id x at in
@@ -130,6 +133,7 @@ deals S z id x pass first fewer s rule at =
       trace = h;
       views = views;
       lawful = more_views z s.words rule.views h v l here;
+      within = rule.within;
       few = let more : length views ≡ length rule.views + 1 = length-append there (new ∷ []) ∙ ap (λ n. n + 1) long in omega arith;
       sights = λ j y is. ⊎_elim
           (λ t. ⊎_elim

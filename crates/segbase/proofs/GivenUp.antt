@@ -9,6 +9,8 @@ use Rattle.atomic_table.specs.Table.{Me, Enters, Final, Joins, Seen}
 use Rattle.atomic_table.proofs.Lists.{at_set, at_snoc}
 use Rattle.std.specs.Slots.{slots_items}
 use Rattle.segword.specs.Words.{Shape}
+use Rattle.segbase.specs.declared.law.Constants.{Constants}
+use Rattle.segbase.specs.Constants.{constants}
 use Rattle.segmodel.proofs.ListPlaces.{front_of, last_of}
 use Rattle.segcore.specs.Words.{address, by, Cell, Event, IsCell, Knows, NoneBy, View, word}
 use Rattle.segbase.specs.Words.{Board, Pass}
@@ -27,13 +29,14 @@ spent_sight : (views : List View) (trace : List Event) → IsSight views trace s
 spent_sight views trace = record { seen = begins_all trace; met = begins_all trace; own = λ yes. absurd (false≢true yes); ended = tt }
 
 -- a seat of no pass comes to the table
-pub enters : (S : Type 0) (z : Shape) (slots place : ℕ) → Enters {S = S} (Rule z) slots place (λ _ w. ◌≡◌ {A = Me S Sight} (w, []) (spent, []))
-enters S z slots place s rule _ _ = (
+pub enters : (S : Type 0) (k : Constants) (slots place : ℕ) → Enters {S = S} (Rule k) slots place (λ _ w. ◌≡◌ {A = Me S Sight} (w, []) (spent, []))
+enters S k slots place s rule _ _ = (
   spent,
   record {
     trace = rule.trace;
     views = rule.views;
     lawful = rule.lawful;
+    within = rule.within;
     few = rule.few;
     sights = λ j y is. ⊎_elim (λ t. rule.sights j y t) (λ t. subst (IsSight rule.views rule.trace) t (spent_sight rule.views rule.trace)) (at_snoc s.views spent y j is);
     held = λ n v is. held_longer s.views spent v (rule.held n v is);
@@ -44,8 +47,8 @@ enters S z slots place s rule _ _ = (
 )
 
 -- a pass is given up to a seat of no pass
-pub gives : (S : Type 0) (z : Shape) (id other : ℕ) (x w : Sight) → x.is_pass ≡ false → w.is_pass ≡ true → Joins {S = S} (Rule z) id x other w (ends x w) spent
-gives S z id other x w off pass s rule at apart at' =
+pub gives : (S : Type 0) (k : Constants) (id other : ℕ) (x w : Sight) → x.is_pass ≡ false → w.is_pass ≡ true → Joins {S = S} (Rule k) id x other w (ends x w) spent
+gives S k id other x w off pass s rule at apart at' =
     let old = rule.sights id x at in
     let u : Sight = ends x w in
     let sights = set s.views id u in
@@ -54,6 +57,7 @@ gives S z id other x w off pass s rule at apart at' =
       trace = rule.trace;
       views = rule.views;
       lawful = rule.lawful;
+      within = rule.within;
       few = rule.few;
       sights = λ j y is. ⊎_elim
           (λ t. subst (IsSight rule.views rule.trace) t.1 (spent_sight rule.views rule.trace))
@@ -124,7 +128,7 @@ module _ (b : Board) (passes : List Pass) (all : AreAll b passes) where
       → Final {S = Unit {0}} (Seen (Rule b.table.shared.key) id sight) (slots_items words.closed.words) xs → ClosesAll b passes words
   closes_all id sight words xs of ended final =
       let z = b.shape in
-      let ruled : Rule z final.0 = subst (λ (k : Shape). Rule k final.0) b.same final.1.0 in
+      let ruled : Rule (constants b.shape b.limits) final.0 = subst (λ (k : Constants). Rule k final.0) b.same final.1.0 in
       let now = ruled.trace in let l = ruled.lawful in let few = ruled.few in
       let are = subst (AreViews ruled.views) ended (ruled.sights id sight final.1.1).ended in
       let knows : (place : ℕ) (p : Pass) → slice_get passes place ≡ Some p → Knows (number p) (view p) now = λ place p at. l.knows (number p) (view p) (view_of ruled.views passes place p are at) in

@@ -21,6 +21,7 @@ still_pass b p x is same = record {
   is_pass = is.is_pass;
   valid = is.valid;
   lawful = is.lawful;
+  within = is.within;
   one_of = is.one_of;
   alone = is.alone;
   minds = is.minds;

@@ -39,6 +39,7 @@ new_pass b n p x valid few table me pass of nothing none free plain =
         is_pass = ap (λ (y : Sight). y.is_pass) is ∙ pass;
         valid = valid;
         lawful = rw no tt;
+        within = rw no tt;
         one_of = rw same few;
         alone = λ one. rw no tt;
         minds = nothing_minded b.shape (trace p) (number p) (sight p).memo (ap (λ (y : Sight). y.memo.holding) is ∙ none) (ap (λ (y : Sight). y.memo.locked) is ∙ free);

@@ -5,12 +5,12 @@ use mathlib.Core.Option.{some, some-injective, some-ne-none}
 use lib.ListN.{get_elem?}
 use Rattle.atomic_table.specs.Table.{State}
 use Rattle.atomic_table.proofs.Lists.{at_set, set_here, set_else}
-use Rattle.segword.specs.Words.{Shape}
 use Rattle.segmodel.specs.Words.{Begins}
 use Rattle.segcore.specs.Words.{Event, IsStepOf, Step, View}
 use Rattle.segcore.proofs.Facts.Passes.{in_list}
 use Rattle.segcore.proofs.KeepsLaw.{inside_list}
 use Rattle.segcore.proofs.Whole.{all_seen, both_begin}
+use Rattle.segbase.specs.declared.law.Constants.{Constants}
 use Rattle.segbase.specs.declared.law.Sight.{Sight}
 use Rattle.segbase.specs.Ruled.{AreViews, HasView, IsAmong, IsHeld, IsSight, Learns, Rule}
 use Rattle.segbase.specs.Running.{world_of}
@@ -38,7 +38,7 @@ has_view views h x v is has = ⊎_elim
     (λ t. among views x.ended v is.ended t.1)
     has
 
-module _ (z : Shape) (st : Step) (found : ℕ) (before after : State (Unit {0}) Sight) (id : ℕ) (x y : Sight) (was : Rule z before) (is : Rule z after)
+module _ (z : Constants) (st : Step) (found : ℕ) (before after : State (Unit {0}) Sight) (id : ℕ) (x y : Sight) (was : Rule z before) (is : Rule z after)
     (at : get_elem? before.views id ≡ some x) (pass : x.is_pass ≡ true) (one : after.views ≡ set before.views id y) (learns : Learns z st found x y) where
   abbrev p : ℕ
   p = x.view.number
@@ -69,7 +69,7 @@ module _ (z : Shape) (st : Step) (found : ℕ) (before after : State (Unit {0}) 
       (λ ne. sym (is.lawful.dealt first.0 (kept 0 first.0 ne first.1)) ∙ all)
       (cases_eq 0 p)
 
-  pub running : IsStepOf z p (world_of was) (world_of is)
+  pub running : IsStepOf z.shape p (world_of was) (world_of is)
   running = record {
     old = x.view;
     new = y.view;
@@ -86,7 +86,7 @@ module _ (z : Shape) (st : Step) (found : ℕ) (before after : State (Unit {0}) 
 
 -- ---- seats beside steps
 
-still_there : (z : Shape) (before after : State (Unit {0}) Sight) (was : Rule z before) (is : Rule z after) → ((v : View) → IsHeld before.views v → IsHeld after.views v)
+still_there : (z : Constants) (before after : State (Unit {0}) Sight) (was : Rule z before) (is : Rule z after) → ((v : View) → IsHeld before.views v → IsHeld after.views v)
     → (n : ℕ) (v : View) → get_elem? was.views n ≡ some v → get_elem? is.views n ≡ some v
 still_there z before after was is still n v at =
     let held = still v (was.held n v at) in
@@ -101,12 +101,12 @@ same_views (x ∷ xs) (y ∷ ys) a b =
     let rest : xs ≡ ys = same_views xs ys (λ n v at. a (suc n) v at) (λ n v at. b (suc n) v at) in (λ j. first j ∷ rest j)
 
 -- the world of the longer trace has seen no more
-goes_on : (z : Shape) (before after : State (Unit {0}) Sight) (was : Rule z before) (is : Rule z after)
+goes_on : (z : Constants) (before after : State (Unit {0}) Sight) (was : Rule z before) (is : Rule z after)
     → ((n : ℕ) (v : View) → get_elem? was.views n ≡ some v → get_elem? is.views n ≡ some v)
     → Begins was.trace is.trace
-goes_on z before after was is still = all_seen z (world_of was) is.trace was.lawful (λ n v at. let k = is.lawful.knows n v (still n v at) in (k.more, k.rest))
+goes_on z before after was is still = all_seen z.shape (world_of was) is.trace was.lawful (λ n v at. let k = is.lawful.knows n v (still n v at) in (k.more, k.rest))
 
-pub beside : (z : Shape) (before after : State (Unit {0}) Sight) (was : Rule z before) (is : Rule z after)
+pub beside : (z : Constants) (before after : State (Unit {0}) Sight) (was : Rule z before) (is : Rule z after)
     → after.words ≡ before.words → ((v : View) → IsHeld before.views v ↔ IsHeld after.views v)
     → world_of is ≡ world_of was
 beside z before after was is words held =

@@ -1,11 +1,12 @@
 -- What a pass that took a step has done.
 use Rattle.std.proofs.Common.{◌≡◌, ℕ, ◌*◌, ◌≤◌, List, [], ◌++◌, length, inl, refl, sym, ap, ◌∙◌, subst, append_assoc, append-nil}
 use Rattle.segword.specs.Words.{Shape}
-use Rattle.segcore.specs.Words.{adds, AllBy, Event, IsCell, IsLawful, May, NoneBy, Step, Told, View}
+use Rattle.segcore.specs.Words.{adds, AllBy, AreWithin, Event, IsCell, IsLawful, May, NoneBy, seen, Step, Told, View}
 use Rattle.segcore.proofs.Quiet.{quiet_inside}
 use Rattle.segcore.proofs.Entered.{no_refill}
 use Rattle.segcore.proofs.StepKinds.{keeps}
 use Rattle.segbase.specs.Words.{Board, Pass}
+use Rattle.segbase.specs.declared.law.Constants.{Constants}
 use Rattle.segbase.specs.declared.pass.PlainPart.{PlainPart}
 use Rattle.segbase.specs.PlainPart.{segments_of}
 use Rattle.segbase.specs.declared.place.Spot.{Spot}
@@ -68,7 +69,7 @@ pub stepped : (b : Board) (st : Step) (spot : Spot) (f : ℕ → ℕ) (found : �
     × (q.seat.me.1 ≡ p.seat.me.1) → q.plain ≡ p.plain → Stepped b st found p q
 stepped b st spot f found p q can table learns plain =
     let is = can.pass in
-    let told : Told b.shape st found (view p) (view q) = subst (λ k. Told k st found (view p) (view q)) b.same learns.0.told in
+    let told : Told b.shape st found (view p) (view q) = subst (λ (k : Constants). Told k.shape st found (view p) (view q)) b.same learns.0.told in
     let same : number q ≡ number p = ap (λ (v : View). v.number) told.now in
     let is' : IsPassOf b q = record {
       table = table ∙ is.table;
@@ -76,8 +77,9 @@ stepped b st spot f found p q can table learns plain =
       is_pass = learns.0.is_pass ∙ is.is_pass;
       valid = is.valid;
       lawful = told.legal;
+      within = subst (λ (k : Constants). AreWithin k.limits (seen (trace q))) b.same learns.0.within;
       one_of = rw same is.one_of;
-      alone = λ one. only_by b.shape.passes (number q) (trace q) one (rw same is.one_of) (subst (λ (z : Shape). (n : ℕ) → z.passes ≤ n → NoneBy n (trace q)) b.same learns.0.among);
+      alone = λ one. only_by b.shape.passes (number q) (trace q) one (rw same is.one_of) (subst (λ (k : Constants). (n : ℕ) → k.shape.passes ≤ n → NoneBy n (trace q)) b.same learns.0.among);
       minds = subst (λ m. Minds b.shape (trace q) (number q) m) (sym learns.0.memo)
           (subst (λ n. Minds b.shape (trace q) n (sight p).memo) (sym same)
           (minded_on b.shape (trace p) (trace q) (number p) (sight p).memo (

@@ -1,5 +1,6 @@
 pub mod Ahead
 pub mod Closing
+pub mod Constants
 pub mod Made
 pub mod Minding
 pub mod Notes

@@ -1,6 +1,6 @@
 -- A board that was just created, and its passes.
 use Rattle.std.specs.Prelude.{◌≡◌, ℕ, ◌*◌, List, [], length, replicate, Some, None, false, slice_get}
-use Rattle.segword.specs.Words.{IsFirstFault, IsValid, Shape}
+use Rattle.segword.specs.Words.{IsFirstFault, IsValid, Limits, Shape}
 use Rattle.segmodel.specs.declared.answer.SegState.TheVariants.{Empty}
 use Rattle.segbase.specs.declared.fault.MakeFault.{MakeFault}
 use Rattle.segbase.specs.declared.fault.MakeFault.TheVariants as fault
@@ -42,8 +42,9 @@ pub record IsDealt (b : Board) (count : ℕ) (passes : List Pass) : Type 0 where
   pub long : length passes ≡ count
   pub each : (n : ℕ) (p : Pass) → slice_get passes n ≡ Some p → IsNewPass b n p
 
--- a board that was created with this shape, with all its passes
-pub record IsMade (shape : Shape) (b : Board) (all : List Pass) : Type 0 where
+-- a board that was created with this shape and these limits, with all its passes
+pub record IsMade (shape : Shape) (limits : Limits) (b : Board) (all : List Pass) : Type 0 where
   pub valid : IsValid shape
   pub of : b.shape ≡ shape
+  pub with_limits : b.limits ≡ limits
   pub dealt : IsDealt b shape.passes all

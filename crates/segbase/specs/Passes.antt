@@ -1,8 +1,8 @@
 -- A pass as contracts see it, and what its steps and calls do.
 use Rattle.std.specs.Prelude.{◌≡◌, ℕ, ◌+◌, ◌*◌, ◌<◌, ◌==◌, ◌⊎◌, List, [], ◌∷◌, ◌++◌, length, Option, true, if◌then◌else◌}
 use Rattle.segword.specs.Words.{IsValid}
-use Rattle.segcore.specs.Words.{adds, AllBy, becomes, cell, Counted, Event, inside, IsLawful, Mark}
-use Rattle.segcore.specs.Words.{May, NoneBy, NoneRefills, Step, Told, View}
+use Rattle.segcore.specs.Words.{adds, AllBy, AreWithin, becomes, cell, Counted, Event, inside}
+use Rattle.segcore.specs.Words.{IsLawful, LinksWithin, Mark, May, NoneBy, NoneRefills, Step, Told, View}
 use Rattle.segcore.specs.Count as traces
 use Rattle.segcore.specs.Event as event
 use Rattle.segcore.specs.Mark as mark
@@ -73,6 +73,8 @@ pub record IsPassOf (b : Board) (p : Pass) : Type 0 where
   pub is_pass : (sight p).is_pass ≡ true
   pub valid : IsValid b.shape
   pub lawful : IsLawful b.shape (trace p)
+  -- nothing that was stored is longer than the table's limits allow
+  pub within : AreWithin b.limits (seen p)
   pub one_of : number p < b.shape.passes
   -- if the pass is the only one, all that has happened is its own
   pub alone : b.shape.passes ≡ 1 → AllBy (number p) (trace p)
@@ -89,6 +91,7 @@ pub record CanStep (b : Board) (p : Pass) (step : Step) (spot : Spot) (f : ℕ �
   pub at : cell step ≡ cell_of b.shape spot
   pub by : becomes step ≡ f
   pub may : May b.shape (trace p) (number p) step
+  pub links : LinksWithin b.limits step
 
 -- This is what the first step between two views of a pass saw: others went on to it from what the
 -- pass had seen.

@@ -4,7 +4,7 @@ use Rattle.std.proofs.Props.{props}
 use Rattle.atomic_table.specs.Seated.{table_id_coded}
 use Rattle.segword.specs.Words.{IsValid-prop, Shape}
 use Rattle.segmodel.specs.Words.{Begins, Begins-prop, IsStanding-prop}
-use Rattle.segcore.specs.Words.{AllBy-prop, Event, Event-set, IsLawful-prop}
+use Rattle.segcore.specs.Words.{AllBy-prop, AreWithin-prop, Event, Event-set, IsLawful-prop}
 use Rattle.segbase.specs.declared.law.Held.{Held}
 use Rattle.segbase.specs.declared.law.Locked.{Locked}
 use Rattle.segbase.specs.declared.law.Memo.{Memo}
@@ -35,7 +35,7 @@ Minds-prop shape trace pass memo = hlevel (HasHeld-prop, HasLocked-prop)
 
 pub IsPassOf-prop : (b : Board) (p : Pass) → IsProp (IsPassOf b p)
 IsPassOf-prop b p =
-    hlevel (props, table_id_coded, IsValid-prop, IsLawful-prop, AllBy-prop, Minds-prop)
+    hlevel (props, table_id_coded, IsValid-prop, IsLawful-prop, AreWithin-prop, AllBy-prop, Minds-prop)
 
 pub IsNoteOf-prop : (b : Board) (note : Note) → IsProp (IsNoteOf b note)
 IsNoteOf-prop b note = hlevel (props, table_id_coded)

@@ -4,8 +4,8 @@ use Rattle.std.specs.Prelude.{◌≡◌, ◌≢◌, ℕ, ◌+◌, ◌≤◌, ◌
 use mathlib.Core.Option.{some}
 use lib.ListN.{get_elem?}
 use Rattle.atomic_table.specs.Table.{State, Me, Step as TableStep}
-use Rattle.segword.specs.Words.{Shape}
-use Rattle.segcore.specs.Words.{Event, Lawful, NoneBy, Step, Told, View}
+use Rattle.segcore.specs.Words.{AreWithin, Event, Lawful, NoneBy, seen, Step, Told, View}
+use Rattle.segbase.specs.declared.law.Constants.{Constants}
 use Rattle.segbase.specs.declared.law.Memo.{Memo}
 use Rattle.segbase.specs.declared.law.Sight.{Sight}
 use Rattle.segmodel.specs.Words.{Begins}
@@ -53,12 +53,14 @@ AreApart sights = (i j : ℕ) (x y : Sight)
     → NoneNumbered y.view.number x.ended
 
 -- the views are those of the passes, by their numbers
-pub record Rule {S : Type 0} (shape : Shape) (state : State S Sight) : Type 0 where
+pub record Rule {S : Type 0} (constants : Constants) (state : State S Sight) : Type 0 where
   pub trace : List Event
   pub views : List View
-  pub lawful : Lawful shape state.words views trace
+  pub lawful : Lawful constants.shape state.words views trace
+  -- nothing that was stored is longer than the limits allow
+  pub within : AreWithin constants.limits (seen trace)
   -- no more passes than the shape has
-  pub few : length views ≤ shape.passes
+  pub few : length views ≤ constants.shape.passes
   pub sights : (id : ℕ) (sight : Sight)
       → get_elem? state.views id ≡ some sight
       → IsSight views trace sight
@@ -123,20 +125,22 @@ abbrev pub minding : Memo → Sight → Sight
 minding memo sight = record sight { memo = memo }
 
 -- what a seat learns from a step of its pass
-pub record Learns (shape : Shape) (step : Step) (found : ℕ) (x y : Sight) : Type 0 where
-  pub told : Told shape step found x.view y.view
+pub record Learns (constants : Constants) (step : Step) (found : ℕ) (x y : Sight) : Type 0 where
+  pub told : Told constants.shape step found x.view y.view
+  pub within : AreWithin constants.limits (seen y.view.trace)
   pub met : Begins x.met y.view.trace
   -- nothing is of a pass that the shape doesn't have
-  pub among : (pass : ℕ) → shape.passes ≤ pass → NoneBy pass y.view.trace
+  pub among : (pass : ℕ) → constants.shape.passes ≤ pass → NoneBy pass y.view.trace
   pub is_pass : y.is_pass ≡ x.is_pass
   pub memo : y.memo ≡ x.memo
 
-abbrev pub IsStepOutcome : {S : Type 0} → Shape → Step → TableStep S → Me S Sight → ℕ → Me S Sight
-    → Type 0
-IsStepOutcome shape step _ me found me' = Learns shape step found me.0 me'.0 × (me'.1 ≡ me.1)
+abbrev pub IsStepOutcome : {S : Type 0} → Constants → Step → TableStep S → Me S Sight → ℕ
+    → Me S Sight → Type 0
+IsStepOutcome constants step _ me found me' =
+    Learns constants step found me.0 me'.0 × (me'.1 ≡ me.1)
 
 -- a store isn't told what it found
-abbrev pub ReturnsStored : {S : Type 0} → Shape → Step → TableStep S → Me S Sight → ℕ → Me S Sight
-    → Type 0
-ReturnsStored shape step _ me _ me' =
-    ((found : ℕ) × Learns shape step found me.0 me'.0) × (me'.1 ≡ me.1)
+abbrev pub ReturnsStored : {S : Type 0} → Constants → Step → TableStep S → Me S Sight → ℕ
+    → Me S Sight → Type 0
+ReturnsStored constants step _ me _ me' =
+    ((found : ℕ) × Learns constants step found me.0 me'.0) × (me'.1 ≡ me.1)

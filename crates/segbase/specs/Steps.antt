@@ -1,14 +1,14 @@
 -- What the steps of a pass find and do, in the words of their callers.
 use Rattle.std.specs.Prelude.{◌≡◌, ◌≢◌, ℕ, ◌+◌, ◌*◌, ◌/◌, ◌%◌, ◌^◌, ◌<◌, ◌≤◌, ◌==◌, Bool, true, false, if◌then◌else◌, List, [], ◌∷◌, None, Some}
 use prog.Atomic.{either}
-use Rattle.segword.specs.Words.{chain_word, Info, IsSameItem, Item, item_word, tag_part}
+use Rattle.segword.specs.Words.{chain_word, Info, IsSameItem, IsWithin, Item, item_word, tag_part}
 use Rattle.segcore.specs.declared.cell.Cell.TheVariants.{OfCounter}
 use Rattle.segcore.specs.declared.event.Event.TheVariants.{Took, Bounced, Glanced, Linked, Relinked, Unlinked}
 use Rattle.segcore.specs.Words.{bucket_after, bump, chain, clear, Content, copy, draw, drawn_in, Leaving}
 use Rattle.segcore.specs.Words.{Event, fill, glance, HasBit, is, IsItemAt, IsWordOf, item, link}
 use Rattle.segcore.specs.Words.{look, May, next, none_reading, nothing, relink, Slot, Step, take, unless_own, word}
 use Rattle.segcore.specs.Lawful as lawful
-use Rattle.segmodel.specs.Words.{bucket_of, Request}
+use Rattle.segmodel.specs.Words.{bucket_of, key_of, Request, value_of}
 use Rattle.segbase.specs.declared.place.Place.{Place}
 use Rattle.segbase.specs.declared.pass.Pass.{Pass}
 use Rattle.segbase.specs.declared.board.Board.{Board}
@@ -18,8 +18,12 @@ use Rattle.segbase.specs.Spots.{cell_at, home_bucket, home_bucket_of, position}
 
 -- ---- any step
 
--- the pass may take the step, by what it has seen
+-- The pass may take the step, by what it has seen.
+-- What a link stores is no longer than the table's limits allow.
 abbrev pub MayTake : Board → Pass → Step → Type 0
+MayTake b p (link request segment row position of old) =
+    May b.shape (trace p) (number p) (link request segment row position of old)
+    × IsWithin b.limits (key_of request) (value_of request)
 MayTake b p step = May b.shape (trace p) (number p) step
 
 -- the pass took the step, which found some word

@@ -1,27 +1,29 @@
 //! The board: the table of the index's words, and how it is created.
 ghost use Rattle.std.specs.Prelude.{◌≡◌, ◌<◌, ◌≤◌, ◌^◌, [], IfOk, IfErr, replicate};
 ghost use Rattle.std.specs.Box.{boxed_slice_items};
-ghost use Rattle.segword.specs.Words.{word_count};
+ghost use Rattle.segword.specs.Words.{longest, word_count};
+ghost use Rattle.segbase.specs.Constants.{constants};
 ghost use Rattle.segbase.specs.Spots.{IsLayoutOf};
 
 use crate::fault::MakeFault;
-use crate::law::{Deal, Law, Sight};
+use crate::law::{Constants, Deal, Law, Sight};
 use crate::layout::Layout;
 use crate::opening::opening_words;
 use crate::pass::{OwnSegment, Pass, PlainPart};
 use atomic_table::{Seat, Table};
 use segmodel::SegState;
-use segword::Shape;
+use segword::{Limits, Shape};
 use std::alloc::{AllocError, Global};
 use std::boxed::BoxedSlice;
 
 /// The words of an index, which its passes change in single atomic steps.
 #[derive(Drop)]
 pub struct Board {
-    pub(crate) table: Table<(), Sight, Shape, Law, Global>,
+    pub(crate) table: Table<(), Sight, Constants, Law, Global>,
     pub(crate) shape: Shape,
+    pub(crate) limits: Limits,
     pub(crate) layout: Layout,
-    ghost same: { table.shared.key ≡ shape },
+    ghost same: { table.shared.key ≡ constants shape limits },
     ghost long: { table.shared.table_id.words ≡ word_count shape },
     ghost slots: { table.shared.table_id.slots ≡ 0 },
     ghost small: { word_count shape ≤ 2 ^ 26 },
@@ -33,30 +35,43 @@ impl Board {
     ghost use Rattle.segbase.specs.Ruled.{first_sight};
     ghost use Rattle.segbase.specs.Made.{IsDealt, IsNewPlain, IsMade, IsMakeFault, unfilled};
 
-    /// A board of this shape with its passes, in the order of their numbers.
-    /// The calls that use them take no allocator.
+    /// A board of this shape with its passes, in the order of their numbers. It takes the longest
+    /// keys and values. The calls that use them take no allocator.
     pub fn new(alloc: Global, shape: Shape) -> Result<(Board, Vec<Pass>), MakeFault>
-        ensures made { IfOk result (λ made. IsMade shape made.0 made.1.items) }
+        ensures made { IfOk result (λ made. IsMade shape longest made.0 made.1.items) }
+        ensures fault { IfErr result (IsMakeFault shape) }
+    {
+        Board::with_limits(alloc, shape, Limits::longest())
+    }
+
+    /// The same with limits of its own: a write asks for a key and a value that are within them.
+    pub fn with_limits(
+        alloc: Global,
+        shape: Shape,
+        limits: Limits,
+    ) -> Result<(Board, Vec<Pass>), MakeFault>
+        ensures made { IfOk result (λ made. IsMade shape limits made.0 made.1.items) }
         ensures fault { IfErr result (IsMakeFault shape) }
     {
         if let Err(fault) = shape.check() {
             return Err(MakeFault::Shape(fault));
         }
-        match Board::make(alloc, shape) {
+        match Board::make(alloc, shape, limits) {
             Ok(made) => Ok(made),
             Err(AllocError) => Err(MakeFault::OutOfMemory),
         }
     }
 
-    fn make(alloc: Global, shape: Shape) -> Result<(Board, Vec<Pass>), AllocError>
+    fn make(alloc: Global, shape: Shape, limits: Limits) -> Result<(Board, Vec<Pass>), AllocError>
         requires { IsValid shape }
-        ensures { IfOk result (λ made. IsMade shape made.0 made.1.items) }
+        ensures { IfOk result (λ made. IsMade shape limits made.0 made.1.items) }
     {
         let words = opening_words(alloc, shape)?;
-        let (table, seat) = Table::of_words(alloc, words.as_slice(), &shape)?;
+        let (table, seat) = Table::of_words(alloc, words.as_slice(), &Constants { shape, limits })?;
         let board = Board {
             table,
             shape,
+            limits,
             layout: Layout::new(&shape),
         };
         let passes = board.deal(alloc, seat)?;
@@ -119,5 +134,12 @@ impl Board {
         ensures { result ≡ self.now.shape }
     {
         self.shape
+    }
+
+    /// The limits of the board's keys and values.
+    pub fn limits(&self) -> Limits
+        ensures { result ≡ self.now.limits }
+    {
+        self.limits
     }
 }

@@ -52,6 +52,7 @@ impl Board {
         let Board {
             table,
             shape,
+            limits: _,
             layout,
         } = self;
         Words {
@@ -70,6 +71,7 @@ impl Board {
         let Board {
             table,
             shape,
+            limits: _,
             layout,
         } = self;
         Words {

@@ -1,7 +1,7 @@
 //! What the seats of the table know, the table's rule, and how seats are dealt.
 use atomic_table::{Join, Play, Split, TableRule};
 use segcore::{Event, View};
-use segword::{Key, Shape, Value};
+use segword::{Key, Limits, Shape, Value};
 use std::collections::LinkedList;
 use std::marker::Brand;
 
@@ -41,10 +41,17 @@ pub struct Sight {
     pub ended: LinkedList<View>,
 }
 
+/// What the rule fixes for as long as the table is there.
+#[derive(Clone, Copy)]
+pub struct Constants {
+    pub shape: Shape,
+    pub limits: Limits,
+}
+
 /// The rule of the table.
 pub struct Law;
 
-impl TableRule<(), Sight, Shape> for Law {
+impl TableRule<(), Sight, Constants> for Law {
     ghost use Rattle.segbase.specs.Ruled.{Rule, first_sight};
 
     ghost holds = { Rule };

@@ -38,3 +38,4 @@ pub mod Meanwhile
 pub mod Changed
 pub mod ChainWords
 pub mod KeyCounts
+pub mod Within

@@ -20,6 +20,7 @@ pub mod Scan
 pub mod Search
 pub mod Segment
 pub mod Standing
+pub mod Within
 pub mod Word
 pub mod World
 pub mod Words

@@ -1,13 +1,14 @@
 -- Facts of traces that have at most one proof, so that a struct may keep them in a ghost field.
-use Rattle.std.specs.Prelude.{◌≡◌, ℕ, Bool, List, [], ◌∷◌, Option, Some}
+use Rattle.std.specs.Prelude.{◌≡◌, ℕ, Bool, List, [], ◌∷◌, Option, None, Some}
 use Rattle.std.specs.Coded.{×_prop, Unit-prop}
 use Rattle.std.proofs.Common.{sym, ap, ◌∙◌, subst, arith}
 use Rattle.std.proofs.Props.{props}
 use Rattle.std.proofs.lemmas.Option.{same_Some}
 use Rattle.segword.specs.Words.{either-prop, IsKey-prop, IsValue-prop, pair-prop, quadruple-prop}
-use Rattle.segword.specs.Words.{Shape, triple-prop}
+use Rattle.segword.specs.Words.{Limits, Shape, triple-prop}
 use Rattle.segmodel.specs.declared.request.Reply.TheVariants.{Stored, NotStored, Exists, NotFound, Deleted}
-use Rattle.segmodel.specs.Words.{Cached, Cached-set, Follows-prop, Reply, Reply-set, Request-set}
+use Rattle.segmodel.specs.declared.entry.Entry.TheVariants as entry
+use Rattle.segmodel.specs.Words.{Cached, Cached-set, Entry, Follows-prop, Reply, Reply-set, Request-set}
 use Rattle.segcore.specs.declared.event.Event.{Event}
 use Rattle.segcore.specs.declared.event.Event.TheVariants.{Took, Bounced, Glanced, Freed, Replied, Filled, Linked, Relinked, Unlinked, Drew, Put, Chained, Bumped, Entered, Left, Refilled}
 use Rattle.segcore.specs.Event.{AllBy}
@@ -15,6 +16,7 @@ use Rattle.segcore.specs.Bucket.{Slot, slot, Content, nothing, item, copy}
 use Rattle.segcore.specs.ItemWord.{IsWordOf}
 use Rattle.segcore.specs.Row.{Row}
 use Rattle.segcore.specs.Segment.{NoneRefills}
+use Rattle.segcore.specs.Within.{AreWithin, StoresWithin}
 use Rattle.segcore.specs.Lawful.{HasItemOf, HasRoomFor, HoldsWhatStands, IsRefusal, MayLeave, IsOther, Suits, Fits, IsLawful, NoneAt}
 use Rattle.segcore.specs.declared.event.Leaving.TheVariants.{Deletes, Evicts}
 use Rattle.segcore.specs.declared.event.Leaving.{Leaving}
@@ -151,3 +153,17 @@ NoneAt-prop shape bucket (event ∷ trace) = ×_prop (hlevel props) (NoneAt-prop
 pub NoneRefills-prop : (segment : ℕ) (trace : List Event) → IsProp (NoneRefills segment trace)
 NoneRefills-prop segment [] = Unit-prop
 NoneRefills-prop segment (event ∷ trace) = ×_prop (hlevel props) (NoneRefills-prop segment trace)
+
+-- ---- of all entries
+
+StoresWithin-prop : (limits : Limits) (stored : Entry) → IsProp (StoresWithin limits stored)
+StoresWithin-prop limits (entry.Wrote pass request reply (Some segment)) = hlevel props
+StoresWithin-prop limits (entry.Wrote pass request reply None) = Unit-prop
+StoresWithin-prop limits (entry.Evicted pass key segment) = Unit-prop
+StoresWithin-prop limits (entry.Refilled pass segment deadline) = Unit-prop
+StoresWithin-prop limits (entry.Moved pass key from to) = Unit-prop
+
+pub AreWithin-prop : (limits : Limits) (history : List Entry) → IsProp (AreWithin limits history)
+AreWithin-prop limits [] = Unit-prop
+AreWithin-prop limits (stored ∷ history) =
+    ×_prop (StoresWithin-prop limits stored) (AreWithin-prop limits history)

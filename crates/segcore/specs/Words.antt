@@ -18,14 +18,15 @@ pub use Rattle.segcore.specs.Mark.{all_drawn, chained_to, drawn, drawn_for, ente
 pub use Rattle.segcore.specs.Mark.{frequency_in, last_at, linked_in, Mark, marked, width}
 unfoldable pub use Rattle.segcore.specs.Mark.{same_key}
 pub use Rattle.segcore.specs.Overflow.{drawn_in, Home, home, home_of}
-pub use Rattle.segcore.specs.Props.{AllBy-prop, Event-set, IsLawful-prop, NoneAt-prop}
-pub use Rattle.segcore.specs.Props.{NoneRefills-prop}
+pub use Rattle.segcore.specs.Props.{AllBy-prop, AreWithin-prop, Event-set, IsLawful-prop}
+pub use Rattle.segcore.specs.Props.{NoneAt-prop, NoneRefills-prop}
 pub use Rattle.segcore.specs.Row.{frequency_of, Holds, is_of_row, Row, row_after, row_alone, row_at}
 pub use Rattle.segcore.specs.Row.{span_in, words_on, writes_row}
 pub use Rattle.segcore.specs.Run.{IsRun, IsSeenRun, IsSeenStep, IsSeenWorld, IsStepOf}
 pub use Rattle.segcore.specs.Search.{KeyAhead, KeyAt, KeyGone, RowAt, RowGone}
 pub use Rattle.segcore.specs.Segment.{inside, NoneRefills, readers, was_used}
 pub use Rattle.segcore.specs.Standing.{cached, ChainsOn, IsOfKey, Names}
+pub use Rattle.segcore.specs.Within.{AreWithin, LinksWithin}
 pub use Rattle.segcore.specs.Word.{address, bit_of, content_word, IsAt, IsCell, IsItemAt}
 pub use Rattle.segcore.specs.Word.{segment_size, segments_at, word}
 pub use Rattle.segcore.specs.World.{IsLawfulWorld, Knows, Lawful, steps_of, Told, World}

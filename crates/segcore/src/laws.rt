@@ -34,6 +34,7 @@ ghost use Rattle.segcore.specs.Laws.{UnwrittenWordHasTheVersion, VersionIsOfTheW
 ghost use Rattle.segcore.specs.Laws.{KeysAreAsManyAsItems, KeysFitTheirChain};
 ghost use Rattle.segcore.specs.Laws.{FullChainHasAllItsKeys, ChainIsAsLongAsWide};
 ghost use Rattle.segcore.specs.Laws.{FilledWordHasContent};
+ghost use Rattle.segcore.specs.Within.{ReadsAreWithin, StepsStayWithin};
 
 /// Whatever steps the passes take, in whatever order, the world that they reach is lawful, and has
 /// all that a lawful world has. What each pass has seen only grows,
@@ -154,6 +155,13 @@ pub fn keys_of_bucket()
     ensures full { FullChainHasAllItsKeys }
     ensures wide { ChainIsAsLongAsWide }
     ensures filled { FilledWordHasContent }
+{}
+
+/// In a table with limits each step that links only what is within them keeps all that is stored
+/// within them. So whatever a get reads at any moment is within them, too.
+pub fn stays_within()
+    ensures steps { StepsStayWithin }
+    ensures reads { ReadsAreWithin }
 {}
 
 /// The example is lawful, and its words are those of the format. A scan for a key that moves on,

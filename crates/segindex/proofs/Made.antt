@@ -3,7 +3,7 @@ use Rattle.std.proofs.Common.{refl, ◌≡◌, ℕ, zero, suc, ◌-◌, ◌≤�
 use Rattle.std.specs.Prelude.{IsSome}
 use Rattle.std.proofs.lemmas.Bool.{cases_Bool, cond-true, cond-false, false≢true, le-ltb}
 use Rattle.std.proofs.lemmas.Option.{none-some, same_Some, slice_get-get_or}
-use Rattle.segword.specs.Words.{Shape}
+use Rattle.segword.specs.Words.{Limits, Shape}
 use Rattle.segmodel.specs.declared.answer.SegState.TheVariants.{Empty}
 use Rattle.segmodel.specs.Words.{after, NoneStandsIn, owner, SegState}
 use Rattle.segcore.specs.Event as event
@@ -78,8 +78,8 @@ new_quiet b n p new = record {
   hold = λ hold is. absurd (none-some hold (sym new.holding ∙ is));
 }
 
-pub all_quiet : (shape : Shape) (b : Board) (passes : List Pass) → IsMade shape b passes → All (IsQuiet b) passes
-all_quiet shape b passes made n p within = let q = get_or passes n p in new_quiet b n q (made.dealt.each n q (slice_get-get_or passes n p within))
+pub all_quiet : (shape : Shape) (limits : Limits) (b : Board) (passes : List Pass) → IsMade shape limits b passes → All (IsQuiet b) passes
+all_quiet shape limits b passes made n p within = let q = get_or passes n p in new_quiet b n q (made.dealt.each n q (slice_get-get_or passes n p within))
 
 -- each pass of a new index has seen nothing, and is quiet
 pub each_new : (shape : Shape) (index : Index) (passes : List Pass) → IsNew shape index passes → (n : ℕ) (p : Pass) → slice_get passes n ≡ Some p

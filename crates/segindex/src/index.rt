@@ -1,5 +1,6 @@
 //! The index, and how one is created.
 ghost use Rattle.std.specs.Prelude.{◌≡◌, IfOk, IfErr};
+ghost use Rattle.segword.specs.Words.{longest};
 
 use segbase::{Board, MakeFault, Pass};
 use segword::Shape;
@@ -9,6 +10,7 @@ use std::alloc::Global;
 #[derive(Drop)]
 pub struct Index {
     pub(crate) board: Board,
+    ghost limits: { board.limits ≡ longest },
 }
 
 impl Index {

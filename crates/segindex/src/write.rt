@@ -1,4 +1,5 @@
 //! The calls that store a value or take out a key.
+ghost use Rattle.segword.specs.Words.{IsWithin};
 ghost use Rattle.segmodel.specs.declared.request.Request.TheVariants.{Set, Add, Replace, Cas};
 
 use crate::index::Index;
@@ -19,6 +20,7 @@ impl Index {
             pass.old pass.new }
         ensures set { IsSetAnswer result }
     {
+        self.takes(key, value);
         segwrite::set(&self.board, pass, key, value, now)
     }
 
@@ -35,6 +37,7 @@ impl Index {
             pass.old pass.new }
         ensures set { IsSetAnswer result }
     {
+        self.takes_bytes(key, value);
         segwrite::set_bytes(&self.board, pass, key, value, now)
     }
 
@@ -53,6 +56,7 @@ impl Index {
             pass.old pass.new }
         ensures set { IsSetAnswer result.0 }
     {
+        self.takes_bytes(key, value);
         segwrite::set_bytes_and_tell(&self.board, pass, key, value, now)
     }
 
@@ -62,6 +66,7 @@ impl Index {
         ensures writes { Writes (board_of self.now) (Add key.now value.now now) result
             pass.old pass.new }
     {
+        self.takes(key, value);
         segwrite::add(&self.board, pass, key, value, now)
     }
 
@@ -77,6 +82,7 @@ impl Index {
         ensures writes { Writes (board_of self.now) (Add key.now value.now now) result
             pass.old pass.new }
     {
+        self.takes_bytes(key, value);
         segwrite::add_bytes(&self.board, pass, key, value, now)
     }
 
@@ -93,6 +99,7 @@ impl Index {
         ensures writes { Writes (board_of self.now) (Add key.now value.now now) result.0
             pass.old pass.new }
     {
+        self.takes_bytes(key, value);
         segwrite::add_bytes_and_tell(&self.board, pass, key, value, now)
     }
 
@@ -102,6 +109,7 @@ impl Index {
         ensures writes { Writes (board_of self.now) (Replace key.now value.now now) result
             pass.old pass.new }
     {
+        self.takes(key, value);
         segwrite::replace(&self.board, pass, key, value, now)
     }
 
@@ -117,6 +125,7 @@ impl Index {
         ensures writes { Writes (board_of self.now) (Replace key.now value.now now) result
             pass.old pass.new }
     {
+        self.takes_bytes(key, value);
         segwrite::replace_bytes(&self.board, pass, key, value, now)
     }
 
@@ -133,6 +142,7 @@ impl Index {
         ensures writes { Writes (board_of self.now) (Replace key.now value.now now) result.0
             pass.old pass.new }
     {
+        self.takes_bytes(key, value);
         segwrite::replace_bytes_and_tell(&self.board, pass, key, value, now)
     }
 
@@ -150,6 +160,7 @@ impl Index {
         ensures writes { Writes (board_of self.now) (Cas key.now value.now expected now) result
             pass.old pass.new }
     {
+        self.takes(key, value);
         segwrite::cas(&self.board, pass, key, value, expected, now)
     }
 
@@ -166,6 +177,7 @@ impl Index {
         ensures writes { Writes (board_of self.now) (Cas key.now value.now expected now) result
             pass.old pass.new }
     {
+        self.takes_bytes(key, value);
         segwrite::cas_bytes(&self.board, pass, key, value, expected, now)
     }
 
@@ -183,6 +195,7 @@ impl Index {
         ensures writes { Writes (board_of self.now) (Cas key.now value.now expected now) result.0
             pass.old pass.new }
     {
+        self.takes_bytes(key, value);
         segwrite::cas_bytes_and_tell(&self.board, pass, key, value, expected, now)
     }
 
@@ -207,5 +220,21 @@ impl Index {
         ensures deletes { Deletes (board_of self.now) key.now now result.0 pass.old pass.new }
     {
         segwrite::delete_and_tell(&self.board, pass, key, now)
+    }
+
+    // The limits of the index are those of the longest keys and values.
+    #[inline(always)]
+    fn takes(&self, key: &Key, value: &Value)
+        ensures { IsWithin (board_of self.now).limits key.now value.now }
+    {
+        let _lengths = key.as_bytes().len() + value.as_bytes().len();
+    }
+
+    // The same of a value in place.
+    #[inline(always)]
+    fn takes_bytes(&self, key: &Key, value: &ValueBytes<'_>)
+        ensures { IsWithin (board_of self.now).limits key.now value.now }
+    {
+        let _lengths = key.as_bytes().len() + value.len();
     }
 }

@@ -22,3 +22,4 @@ pub mod HoldCalls
 pub mod ReadsFacts
 pub mod RowFacts
 pub mod Copied
+pub mod NeverShort

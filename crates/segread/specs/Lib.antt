@@ -3,6 +3,7 @@ pub mod Gets
 pub mod Hits
 pub mod Holds
 pub mod Into
+pub mod Limits
 pub mod Loads
 pub mod Looking
 pub mod Props

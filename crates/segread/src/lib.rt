@@ -4,6 +4,7 @@
 
 mod held;
 mod into;
+mod limits;
 mod read;
 mod scan;
 mod version;
@@ -13,5 +14,6 @@ pub use held::{
     release_row, row_value,
 };
 pub use into::{GetsIntoAnswer, IntoAnswer, get_into, gets_into, held_into, row_into};
+pub use limits::never_short;
 pub use read::get;
 pub use version::gets;

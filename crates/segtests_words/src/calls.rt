@@ -37,11 +37,17 @@ pub fn refill(board: &Board, pass: &mut Pass, segment: u32, deadline: u32) -> Re
     segstore::refill(board, pass, segment, deadline)
 }
 
-/// Stores the value.
+/// Stores the value. A pair that is longer than the board's limits allow is NoRoom.
 pub fn set(board: &Board, pass: &mut Pass, key: &Key, value: &Value) -> WriteAnswer
     requires { IsQuiet board.now pass.old }
     ensures { IsQuiet board.now pass.new }
 {
+    let limits = board.limits();
+    let has_key = key.as_bytes().len() <= limits.key as usize;
+    let has_value = value.as_bytes().len() <= limits.value as usize;
+    if !has_key || !has_value {
+        return WriteAnswer::NoRoom;
+    }
     segwrite::set(board, pass, key, value, MOMENT)
 }
 

@@ -8,6 +8,7 @@ pub use Rattle.segword.specs.ChainWord.{chain_word, IsChainWord}
 pub use Rattle.segword.specs.Fnv.{hash_of, tag_from_hash, with_byte}
 pub use Rattle.segword.specs.InfoWord.{info_word}
 pub use Rattle.segword.specs.ItemWord.{item_word, tag_part}
+pub use Rattle.segword.specs.Limits.{IsWithin, longest}
 pub use Rattle.segword.specs.Props.{either-prop, IsKey-prop, IsValid-prop, IsValue-prop, pair-prop}
 pub use Rattle.segword.specs.Props.{quadruple-prop, triple-prop}
 pub use Rattle.segword.specs.Reading.{IsProperReading, reading_word}
@@ -19,6 +20,7 @@ pub use Rattle.segword.specs.Spans.{covers, place_behind, row_behind, span, span
 pub use Rattle.segword.specs.Spans.{value_place}
 use Rattle.segword.specs.declared.info.Info as declared_info
 use Rattle.segword.specs.declared.item.Item as declared_item
+use Rattle.segword.specs.declared.limits.Limits as declared_limits
 use Rattle.segword.specs.declared.reading.Reading as declared_reading
 use Rattle.segword.specs.declared.segment.SegmentWord as declared_segment
 use Rattle.segword.specs.declared.shape.Shape as declared_shape
@@ -29,6 +31,9 @@ Info = declared_info.Info
 
 abbrev pub Item : Type 0
 Item = declared_item.Item
+
+abbrev pub Limits : Type 0
+Limits = declared_limits.Limits
 
 abbrev pub Reading : Type 0
 Reading = declared_reading.Reading

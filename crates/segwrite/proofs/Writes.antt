@@ -2,7 +2,7 @@
 use Rattle.std.proofs.Common.{◌≡◌, ◌≢◌, ℕ, ◌+◌, ◌^◌, ◌<◌, true, false, is_some, List, [], ◌∷◌, Option, Some, None, refl, sym, ap, ◌∙◌, subst, inl, inr, ⊎_elim, arith}
 use Rattle.std.proofs.lemmas.Bool.{false≢true}
 use Rattle.std.proofs.lemmas.Option.{same_Some, none-some}
-use Rattle.segword.specs.Words.{IsKey, span_of}
+use Rattle.segword.specs.Words.{IsKey, IsWithin, span_of}
 use Rattle.segmodel.specs.declared.request.Reply.TheVariants.{Stored}
 use Rattle.segmodel.specs.declared.answer.WriteAnswer.TheVariants as write
 use Rattle.segmodel.specs.Words.{adds_key, after, bucket_of, key_of, reply_of_write}
@@ -251,11 +251,12 @@ module _ (b : Board) (w : When) (request : Request) (key value words : List ℕ)
         -- what storing asks for
         pub may_store : (segment row tag : ℕ) → refusal ≡ None
             → (current_of p ≡ Some segment) × (used_of p segment ≡ Some row) × AreRows b.shape row (span_of words value)
-            → IsKey words → tag ≡ tag_of words
+            → IsKey words → tag ≡ tag_of words → IsWithin b.limits words value
             → IsPassOf b r × (KeepsSegments b r × (IsNextRow b request segment row r
             × (Requests b request words value r × (IsKey words
-            × (tag ≡ tag_of words × (HasCleanBit b r k × IsTarget b (key_of request) target r))))))
-        may_store segment row tag unrefused next key_of_words tagged =
+            × (tag ≡ tag_of words × (HasCleanBit b r k × (IsTarget b (key_of request) target r
+            × IsWithin b.limits (key_of request) (value_of request))))))))
+        may_store segment row tag unrefused next key_of_words tagged within =
             let same = there.ready.plain ∙ had.plain in let a = asks w key value now request asked in
             let stored = sym (subst (IsToldBy (reply_now b g request)) unrefused told) in
             let rows : rows_of request ≡ span_of words value = asks_rows w key value now request asked ∙ ap (λ k. span_of k value) (sym copied) in
@@ -264,13 +265,15 @@ module _ (b : Board) (w : When) (request : Request) (key value words : List ℕ)
               used = same_used p r segment same ∙ next.1;
               fits = subst (AreRows b.shape row) (sym rows) next.2;
             } in
+            let asked_within : IsWithin b.limits (key_of request) (value_of request) =
+            subst (λ x. IsWithin b.limits x (value_of request)) (copied ∙ sym a.0) (subst (IsWithin b.limits words) (sym a.1) within) in
             let requests : Requests b request words value r = record {
               of = (a.0 ∙ sym copied, a.1);
               stored = stored
                   ∙ (λ i. reply_to request (is_some ((sym (there.same.finds (moment_of request))) i))
                   ((sym there.same.version) i));
             } in
-            (there.ready.moved.pass, (keeps, (row_is, (requests, (key_of_words, (tagged, (there.ready.clean, there.target_is)))))))
+            (there.ready.moved.pass, (keeps, (row_is, (requests, (key_of_words, (tagged, (there.ready.clean, (there.target_is, asked_within))))))))
 
         pub ends_stored : ¬ (has_room_for b.shape (span_of key value) p ≡ false) → refusal ≡ None → (segment row : ℕ) (t s : Pass)
             → StoresUnderBit b request segment row r t → KeepsSegments b t → UsesRows segment (rows_of request) r t

@@ -1,6 +1,6 @@
 //! Writes of keys, each under the bit of its key's bucket.
 ghost use Rattle.std.specs.Prelude.{◌≡◌, ◌+◌, ◌^◌, ◌<◌, is_some};
-ghost use Rattle.segword.specs.Words.{IsKey};
+ghost use Rattle.segword.specs.Words.{IsKey, IsWithin};
 ghost use Rattle.segmodel.specs.declared.request.Request.{Request};
 ghost use Rattle.segmodel.specs.declared.request.Request.TheVariants.{Set, Add, Replace, Cas};
 ghost use Rattle.segmodel.specs.Words.{after, bucket_of, key_of, present, tag_of, value_of};
@@ -51,6 +51,7 @@ struct WriteCall<'v> {
 #[inline(always)]
 pub fn set(board: &Board, pass: &mut Pass, key: &Key, value: &Value, now: u32) -> WriteAnswer
     requires quiet { IsQuiet board.now pass.old }
+    requires within { IsWithin board.now.limits key.now value.now }
     ensures writes { Writes board.now (Set key.now value.now now) result pass.old pass.new }
     ensures set { IsSetAnswer result }
 {
@@ -67,6 +68,7 @@ pub fn set_bytes(
     now: u32,
 ) -> WriteAnswer
     requires quiet { IsQuiet board.now pass.old }
+    requires within { IsWithin board.now.limits key.now value.now }
     ensures writes { Writes board.now (Set key.now value.now now) result pass.old pass.new }
     ensures set { IsSetAnswer result }
 {
@@ -84,6 +86,7 @@ pub fn set_bytes_and_tell(
     now: u32,
 ) -> (WriteAnswer, Option<RowRef>)
     requires quiet { IsQuiet board.now pass.old }
+    requires within { IsWithin board.now.limits key.now value.now }
     ensures writes { Writes board.now (Set key.now value.now now) result.0 pass.old pass.new }
     ensures set { IsSetAnswer result.0 }
 {
@@ -100,6 +103,7 @@ pub fn set_bytes_and_tell(
 #[inline(always)]
 pub fn add(board: &Board, pass: &mut Pass, key: &Key, value: &Value, now: u32) -> WriteAnswer
     requires quiet { IsQuiet board.now pass.old }
+    requires within { IsWithin board.now.limits key.now value.now }
     ensures writes { Writes board.now (Add key.now value.now now) result pass.old pass.new }
 {
     add_bytes(board, pass, key, &ValueBytes::of(value), now)
@@ -115,6 +119,7 @@ pub fn add_bytes(
     now: u32,
 ) -> WriteAnswer
     requires quiet { IsQuiet board.now pass.old }
+    requires within { IsWithin board.now.limits key.now value.now }
     ensures writes { Writes board.now (Add key.now value.now now) result pass.old pass.new }
 {
     add_bytes_and_tell(board, pass, key, value, now).0
@@ -130,6 +135,7 @@ pub fn add_bytes_and_tell(
     now: u32,
 ) -> (WriteAnswer, Option<RowRef>)
     requires quiet { IsQuiet board.now pass.old }
+    requires within { IsWithin board.now.limits key.now value.now }
     ensures writes { Writes board.now (Add key.now value.now now) result.0 pass.old pass.new }
 {
     let add = WriteCall {
@@ -145,6 +151,7 @@ pub fn add_bytes_and_tell(
 #[inline(always)]
 pub fn replace(board: &Board, pass: &mut Pass, key: &Key, value: &Value, now: u32) -> WriteAnswer
     requires quiet { IsQuiet board.now pass.old }
+    requires within { IsWithin board.now.limits key.now value.now }
     ensures writes { Writes board.now (Replace key.now value.now now) result pass.old pass.new }
 {
     replace_bytes(board, pass, key, &ValueBytes::of(value), now)
@@ -160,6 +167,7 @@ pub fn replace_bytes(
     now: u32,
 ) -> WriteAnswer
     requires quiet { IsQuiet board.now pass.old }
+    requires within { IsWithin board.now.limits key.now value.now }
     ensures writes { Writes board.now (Replace key.now value.now now) result pass.old pass.new }
 {
     replace_bytes_and_tell(board, pass, key, value, now).0
@@ -175,6 +183,7 @@ pub fn replace_bytes_and_tell(
     now: u32,
 ) -> (WriteAnswer, Option<RowRef>)
     requires quiet { IsQuiet board.now pass.old }
+    requires within { IsWithin board.now.limits key.now value.now }
     ensures writes { Writes board.now (Replace key.now value.now now) result.0 pass.old pass.new }
 {
     let replace = WriteCall {
@@ -198,6 +207,7 @@ pub fn cas(
     now: u32,
 ) -> WriteAnswer
     requires quiet { IsQuiet board.now pass.old }
+    requires within { IsWithin board.now.limits key.now value.now }
     ensures writes { Writes board.now (Cas key.now value.now expected now) result
         pass.old pass.new }
 {
@@ -215,6 +225,7 @@ pub fn cas_bytes(
     now: u32,
 ) -> WriteAnswer
     requires quiet { IsQuiet board.now pass.old }
+    requires within { IsWithin board.now.limits key.now value.now }
     ensures writes { Writes board.now (Cas key.now value.now expected now) result
         pass.old pass.new }
 {
@@ -232,6 +243,7 @@ pub fn cas_bytes_and_tell(
     now: u32,
 ) -> (WriteAnswer, Option<RowRef>)
     requires quiet { IsQuiet board.now pass.old }
+    requires within { IsWithin board.now.limits key.now value.now }
     ensures writes { Writes board.now (Cas key.now value.now expected now) result.0
         pass.old pass.new }
 {
@@ -255,6 +267,7 @@ fn write(board: &Board, pass: &mut Pass, write: &WriteCall<'_>) -> (WriteAnswer,
     requires versions { board.now.shape.first_version < 2 ^ 32 }
     requires request { request
         ≡ request_of write.now.when write.now.sought.key write.now.value.now write.now.clock }
+    requires within { IsWithin board.now.limits write.now.sought.key write.now.value.now }
     ensures writes { Writes board.now request result.0 pass.old pass.new }
 {
     let Ok(row) = next_row(board, pass, &write.sought.key, write.value) else {
@@ -366,6 +379,7 @@ fn store(board: &Board, pass: &mut Pass, target: Target, row: RowRef, write: &Wr
     requires tag { write.now.sought.tag ≡ tag_of write.now.sought.key }
     requires bit { HasCleanBit board.now pass.old (bucket_of board.now.shape (key_of request)) }
     requires target { IsTarget board.now (key_of request) target pass.old }
+    requires within { IsWithin board.now.limits (key_of request) (value_of request) }
     ensures stores { StoresUnderBit board.now request row.segment row.row pass.old pass.new }
     ensures steps { TakesAtMost (most_steps_of_row + most_tries_to_exchange) pass.old pass.new }
     ensures segments { KeepsSegments board.now pass.new }
@@ -393,6 +407,7 @@ fn link(board: &Board, pass: &mut Pass, target: Target, item: Item)
     requires fits { Fits board.now.shape (trace pass.old)
         (Linked (number pass.old) request item.seg item.row
         (position_at board.now target.place pass.old)) }
+    requires within { IsWithin board.now.limits (key_of request) (value_of request) }
     ensures did { AddsLink board.now target.place request item pass.old pass.new }
     ensures steps { TakesAtMost most_tries_to_exchange pass.old pass.new }
     ensures same { (pass.new.plain ≡ pass.old.plain) × (memo pass.new ≡ memo pass.old) }

@@ -8,7 +8,7 @@ use Rattle.segwrite.proofs.write.link.Goals as goal
 pub loop-found-init : goal.loop-found-init
 loop-found-init g c = let b = c.args.board.now in let r = c.requires in let item = c.args.item in let target = c.args.target in
     let own = own_item b (key_of g.request) target c.args.pass.now r.1.1.0 c.if-target-eq0.false in record {
-      linking = retry_first b (key_of g.request) (link_event g.request item.seg item.row) target.place target.word c.args.pass.now r.0 r.1.1.1.guarded r.1.1.1 r.1.1.0.chain own.0 own.1;
+      linking = retry_first b (key_of g.request) (link_event g.request item.seg item.row) target.place target.word c.args.pass.now r.0 r.1.1.1.0.guarded r.1.1.1.0 r.1.1.0.chain own.0 own.1;
       tried = tried_first target.word c.args.pass.now;
       plain = refl;
       memo = refl;

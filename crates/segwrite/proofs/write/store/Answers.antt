@@ -49,7 +49,7 @@ pair_of b request key value places segment row p q k v m holds is_key is_value =
 pub link-requires : goal.link-requires
 link-requires g c = let b = c.args.board.now in let r = c.requires in let w = c.fill_row.ensures in
     let s = c.args.row.segment in let row = c.args.row.row in
-    let asks = r.1.1.1.0 in let clean = r.1.1.1.1.1.1.0 in let found = r.1.1.1.1.1.1.1 in
+    let asks = r.1.1.1.0 in let clean = r.1.1.1.1.1.1.0 in let found = r.1.1.1.1.1.1.1.0 in
     let pair = pair_of b g.request c.args.write.now.sought.key c.args.write.now.value.now w.moved.0 s row _ _ asks.of.0 asks.of.1 w.moved.1 w.holds r.1.1.1.1.0 w.valid in
     let own = fills (number c.args.pass.now) s row (row_of (key_of g.request) (value_of g.request)) w.moved.0 in
     let none = fills_nowhere b.shape (bucket_of b.shape (key_of g.request)) (number c.args.pass.now) s row (row_of (key_of g.request) (value_of g.request)) w.moved.0 in
@@ -57,7 +57,7 @@ link-requires g c = let b = c.args.board.now in let r = c.requires in let w = c.
     let clean_now = clean_later b own _ _ (key_of g.request) pair.0 r.0 clean.bit none clean in
     let stored = reply_later b own _ _ (key_of g.request) pair.0 r.0 clean.bit none g.request refl asks.stored in
     let rows = subst (AreOwnRows b.shape (trace c.fill_row.new.pass) (number c.fill_row.new.pass) s row) (sym (rows_asked b g.request _ _ c.args.pass.now asks)) w.own in
-    (pair.0.pass, ((r.1.1.1.1.1.0 ∙ ap tag_of (sym asks.of.0), refl), (target, may_store b g.request c.args.target s row _ clean_now target stored rows pair.1 pair.2 pair.3)))
+    (pair.0.pass, ((r.1.1.1.1.1.0 ∙ ap tag_of (sym asks.of.0), refl), (target, (may_store b g.request c.args.target s row _ clean_now target stored rows pair.1 pair.2 pair.3, r.1.1.1.1.1.1.1.1))))
 
 pub use_rows-requires-clause-fits : goal.use_rows-requires-clause-fits
 use_rows-requires-clause-fits g c = let b = c.args.board.now in let r = c.requires in
@@ -74,7 +74,7 @@ returns-clause-stores g c = let b = c.args.board.now in let r = c.requires in le
     let none = fills_nowhere b.shape (bucket_of b.shape (key_of g.request)) (number c.args.pass.now) c.args.row.segment c.args.row.row (row_of (key_of g.request) (value_of g.request)) w.moved.0 in
     subst (StoresUnderBit b g.request c.args.row.segment c.args.row.row c.args.pass.now) counts
     (stores_all b g.request c.args.target c.args.row.segment c.args.row.row _ _ _ r.1.1.0 w.moved.0 pair.0 c.link.ensures.did
-    (clean_later b own _ _ (key_of g.request) pair.0 r.0 clean.bit none clean) (target_later b own _ _ (key_of g.request) pair.0 r.0 clean.bit none c.args.target r.1.1.1.1.1.1.1))
+    (clean_later b own _ _ (key_of g.request) pair.0 r.0 clean.bit none clean) (target_later b own _ _ (key_of g.request) pair.0 r.0 clean.bit none c.args.target r.1.1.1.1.1.1.1.0))
 
 pub returns-clause-segments : goal.returns-clause-segments
 returns-clause-segments g c = let b = c.args.board.now in let r = c.requires in let w = c.fill_row.ensures in

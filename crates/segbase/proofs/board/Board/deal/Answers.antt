@@ -1,5 +1,5 @@
 use Rattle.std.proofs.Common.{◌<◌, ap, sym, subst, ◌∙◌, arith}
-use Rattle.segword.specs.Words.{Shape}
+use Rattle.segbase.specs.declared.law.Constants.{Constants}
 use Rattle.segbase.proofs.Dealt.{deals}
 use Rattle.segbase.proofs.Passes.{get_first, one_more}
 use Rattle.segbase.proofs.board.Board.deal.Goals as goal
@@ -13,7 +13,7 @@ split_seat-seat-requires c =
       new.pass.table,
       some,
       deals (Unit {0}) b.table.shared.key x.seat.id x.seat.me.0 new.pass.is_pass new.number
-          (subst (λ (z : Shape). x.seat.me.0.view.dealt < z.passes) (sym b.same) (let dealt = inv.1 x first in
+          (subst (λ (k : Constants). x.seat.me.0.view.dealt < k.shape.passes) (sym b.same) (let dealt = inv.1 x first in
           let below = c.loop-number-test.true in omega arith)),
     )
 

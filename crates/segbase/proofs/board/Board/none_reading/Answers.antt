@@ -23,6 +23,7 @@ module _ (b : Board) (p : Pass) (s old d w v : ℕ) (is_old : w ≡ old * 2 ^ 32
     by = rw (old_back, new_back, is_old, is_new) refl;
     may = subst (λ m. MayTake b p (none_reading s m (v / 2 ^ 32))) (sym old_back)
         (subst (λ n. MayTake b p (none_reading s old n)) (sym new_back) may);
+    links = tt;
   }
 
   asked : (found : ℕ) (q : Pass) → Stepped b (none_reading s (w / 2 ^ 32) (v / 2 ^ 32)) found p q → Stepped b (none_reading s old d) found p q

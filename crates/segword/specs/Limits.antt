@@ -1,0 +1,13 @@
+-- The limits of a table, and the pairs that are within them.
+use Rattle.std.specs.Prelude.{ℕ, ◌≤◌, List, length}
+use Rattle.segword.specs.declared.key.TheConstants.{KEY_BYTES}
+use Rattle.segword.specs.declared.limits.Limits.{Limits}
+use Rattle.segword.specs.declared.value.TheConstants.{VALUE_BYTES}
+
+-- those of the longest keys and values that there are
+abbrev pub longest : Limits
+longest = record { key = KEY_BYTES; value = VALUE_BYTES }
+
+-- neither the key nor the value is longer than the limits allow
+abbrev pub IsWithin : Limits → List ℕ → List ℕ → Type 0
+IsWithin limits key value = (length key ≤ limits.key) × (length value ≤ limits.value)
