@@ -1,5 +1,5 @@
 -- How the commands of the program end, and what is reported then.
-use Rattle.std.specs.Prelude.{◌≡◌, ◌⊎◌, ◌++◌, ℕ, true, List, [], OnOk, Result, Ok, Err, string_bytes}
+use Rattle.std.specs.Prelude.{◌≡◌, ◌⊎◌, ◌++◌, ℕ, true, false, List, [], OnOk, Result, Ok, Err, string_bytes}
 use Rattle.std.specs.Int.NonZero.{non_zero_u32_get}
 use Rattle.segword.specs.Words.{IsFirstFault, IsValid, Shape}
 use Rattle.segcli.specs.Explained.{SpellsWord, explanation}
@@ -13,7 +13,7 @@ use Rattle.segreplay.specs.declared.fault.TraceFault.{TraceFault}
 use Rattle.segreplay.specs.declared.run.Replayed.{Replayed}
 use Rattle.segreplay.specs.declared.run.ReplayPlan.{ReplayPlan}
 use Rattle.segreplay.specs.Caches.{IsReplayFault}
-use Rattle.segreplay.specs.Replays.{IsReplay, planned}
+use Rattle.segreplay.specs.Replays.{IsReplay, is_memory_end, planned}
 use Rattle.segcli.specs.declared.asked.Replay.{Replay}
 use Rattle.segscript.specs.Words.{EachTurn, EndsOnce, is_make_fault, is_read_fault, is_write_fault, RunFault}
 use Rattle.segscript.specs.Words.{RunOutcome, ShapeIsAnswered}
@@ -102,7 +102,7 @@ end_of_replay (Err f) _ = Err f
 
 -- The trace of the reader was replayed, and its totals were shown.
 -- They are those of the commands before the trace's fault, if it has one.
--- If it has none, the reader came to its end.
+-- If it has none, the reader came to its end. If memory is wanted, no totals are shown.
 pub record ShowsReplay (asked : Replay) {R W : Type 0} (i : Input R) (o : Output W)
     (end : Result (Unit {0}) ProgramFault) : Type 0 where
   pub plan : ReplayPlan
@@ -113,6 +113,7 @@ pub record ShowsReplay (asked : Replay) {R W : Type 0} (i : Input R) (o : Output
   pub read : HandedOut i seen
   pub replays : IsReplay plan (i.source.is_at_end i.new) seen replayed
   pub whole : OnOk replayed.end (i.source.is_at_end i.new)
+  pub memory : is_memory_end replayed.end ≡ false
   pub shows : ShowOutcome (replay_text asked.format replayed.totals.items) o shown
   pub ended : end ≡ end_of_replay shown replayed.end
 

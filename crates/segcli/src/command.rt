@@ -173,10 +173,11 @@ fn load_text<R: Threads + Wait + AllocGlobal + Sync, V: Watch>(
     ensures fault { IfErr result (IsFaultOfLoad load.now.shape) }
 {
     let totals = totals_of(host, load)?;
+    let text = text_in(host.alloc, load.format, &totals)?;
     if load.stats {
         host.watch.ended(&totals);
     }
-    Ok(text_in(host.alloc, load.format, &totals)?)
+    Ok(text)
 }
 
 // Runs a load, at which the watch looks on if it is asked to.
@@ -221,8 +222,8 @@ fn perform_replay<R: Threads + Wait + AllocGlobal + Sync, S: Source, W: Sink, V:
         is_asked: asked.progress,
     };
     let replayed = replay(host.rt, host.alloc, source, &plan_of(asked), &follow)?;
-    host.watch.replayed(asked, replayed.totals.as_slice());
     let text = text_of_replay(host.alloc, asked.format, replayed.totals.as_slice())?;
+    host.watch.replayed(asked, replayed.totals.as_slice());
     let shown = show(text.as_slice(), writer);
     end_of_replay(shown, replayed.end)
 }

@@ -78,3 +78,7 @@ pub record IsReplay (plan : ReplayPlan) (Ends : Type 0) (seen : List ℕ) (r : R
 abbrev pub is_read_end : Result (Unit {0}) TraceFault → Bool
 is_read_end (Err fault.Read) = true
 is_read_end _ = false
+
+abbrev pub is_memory_end : Result (Unit {0}) TraceFault → Bool
+is_memory_end (Err fault.OutOfMemory) = true
+is_memory_end _ = false

@@ -4,8 +4,8 @@ ghost use Rattle.segreplay.specs.declared.player.Assignment.{Assignment};
 ghost use Rattle.segreplay.specs.declared.player.Player.{Player};
 ghost use Rattle.segreplay.specs.Caches.{IsReplayFault};
 ghost use Rattle.segreplay.specs.Playing.{CountsItems, Plays};
-ghost use Rattle.segreplay.specs.Replays.{AddsLives, AllCount, AllPlay, is_read_end, IsReplay};
-ghost use Rattle.segreplay.specs.Replays.{MakesSome, planned};
+ghost use Rattle.segreplay.specs.Replays.{AddsLives, AllCount, AllPlay, is_memory_end};
+ghost use Rattle.segreplay.specs.Replays.{is_read_end, IsReplay, MakesSome, planned};
 ghost use Rattle.segreplay.specs.Traces.{EndsTrace, HandsOn, HasRead};
 
 use crate::cache::{Made, Retention, caches_of, make_all, players_of};
@@ -188,6 +188,7 @@ fn run<R: Threads + Sync, S: Source, F: Follow>(
 /// Replays the trace that the reader hands out.
 /// Each cache of the plan has a client for each pass of its shape.
 /// If the replay's end is Ok, the reader had nothing more to hand out.
+/// A trace that ends for want of memory has no totals: the replay is out of memory then.
 ///
 /// The contract doesn't cover threads. Tests do.
 pub fn replay<R: Threads + Sync, S: Source, F: Follow>(
@@ -204,6 +205,7 @@ pub fn replay<R: Threads + Sync, S: Source, F: Follow>(
     ensures whole { IfOk result (λ replayed. OnOk replayed.end (S.is_at_end source.new)) }
     ensures read { IfOk result (λ replayed.
         S.has_failed source.new ≡ is_read_end replayed.end) }
+    ensures memory { IfOk result (λ replayed. is_memory_end replayed.end ≡ false) }
     ensures fault { IfErr result (IsReplayFault (planned plan.now) (source.new ≡ source.old)) }
 {
     let Ok(caches) = caches_of(alloc, plan.policies, plan.shape, plan.sizes) else {
@@ -230,6 +232,9 @@ pub fn replay<R: Threads + Sync, S: Source, F: Follow>(
     };
     let mut lives = Lives::new();
     let end = run(&crew, source, players.as_mut_slice(), &mut lives, reading);
+    if let Err(TraceFault::OutOfMemory) = end {
+        return Err(ReplayFault::OutOfMemory);
+    }
     match totals_of(alloc, caches.as_slice(), players.as_slice(), lives.count()) {
         Ok(totals) => Ok(Replayed { totals, end }),
         Err(AllocError) => Err(ReplayFault::OutOfMemory),

@@ -5,10 +5,10 @@ ghost use Rattle.std.specs.Prelude.{◌≡◌, false};
 use crate::progress::Teller;
 use segcli::{ExitStatus, Refusal, Streams, Task, bad_line_text, run_given};
 use segscript::{Explaining, ReadSource, Source, WriteSink};
-use std::alloc::AllocGlobal;
+use std::alloc::{AllocError, AllocGlobal};
 use std::fs::File;
 use std::io;
-use std::io::{IsTerminal, Read, Write};
+use std::io::{ErrorKind, IsTerminal, Read, Write};
 use std::sync::Wait;
 use std::thread::Threads;
 
@@ -18,6 +18,8 @@ const SCRIPT_HINT: &[u8] =
 
 const TRACE_HINT: &[u8] =
     b"segrun: reads a trace from the terminal (segrun replay --help has its lines, Ctrl-D ends it)\n";
+
+const MEMORY_IS_WANTED: &[u8] = b"out of memory\n";
 
 /// What was read from the words, and where it is carried out.
 #[derive(Drop)]
@@ -84,10 +86,10 @@ impl<T: Threads + Wait + AllocGlobal + Sync> Program<'_, T> {
         };
         match File::open(self.rt, path) {
             Ok(file) => self.run_lines(file, passes),
-            Err(error) => {
-                let _ = tell_why(self.rt, path, &error);
-                ExitStatus::Failed.code()
-            }
+            Err(error) => self.cant_open(
+                &error,
+                format!(in self.rt.alloc(); "read failed\n{path}: {error}\n"),
+            ),
         }
     }
 
@@ -98,11 +100,21 @@ impl<T: Threads + Wait + AllocGlobal + Sync> Program<'_, T> {
         };
         match File::open(self.rt, path) {
             Ok(file) => self.run_over(ReadSource::new(file)).0,
-            Err(error) => {
-                let _ = tell_in_a_line(self.rt, path, &error);
-                ExitStatus::Failed.code()
-            }
+            Err(error) => self.cant_open(
+                &error,
+                format!(in self.rt.alloc(); "read failed: {path}: {error}\n"),
+            ),
         }
+    }
+
+    // Prints why a file can't be opened: by this text, or that memory is wanted.
+    fn cant_open(&self, error: &io::Error, text: Result<String, AllocError>) -> u8 {
+        let line = match &text {
+            Ok(text) if error.kind() != ErrorKind::OutOfMemory => text.as_bytes(),
+            _ => MEMORY_IS_WANTED,
+        };
+        let _ = self.rt.stderr().write_all(line);
+        ExitStatus::Failed.code()
     }
 
     // Runs a script of these lines.
@@ -142,18 +154,6 @@ impl<T: Threads + Wait + AllocGlobal + Sync> Program<'_, T> {
 // The path of a file. `-` is none, but standard input.
 fn path_of(file: Option<&str>) -> Option<&str> {
     file.filter(|path| *path != "-")
-}
-
-// Prints that a trace can't be read, and why.
-fn tell_in_a_line(rt: &HostRuntime, path: &str, error: &io::Error) -> io::Result<()> {
-    let text = format!(in rt.alloc(); "read failed: {path}: {error}\n")?;
-    rt.stderr().write_all(text.as_bytes())
-}
-
-// Prints that a script can't be read, in the line of the fault, and why.
-fn tell_why(rt: &HostRuntime, path: &str, error: &io::Error) -> io::Result<()> {
-    let text = format!(in rt.alloc(); "read failed\n{path}: {error}\n")?;
-    rt.stderr().write_all(text.as_bytes())
 }
 
 // Explains the first bad line. A text that can't be written is left out.

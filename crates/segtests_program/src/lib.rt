@@ -1,4 +1,4 @@
-//! Tests of the program: devices that fail, a watch that looks on, and what it does without memory.
+//! Tests of the program: devices that fail, and a watch that looks on.
 #![tactic(auto)]
 
 #[cfg(test)]
@@ -17,7 +17,5 @@ mod cli_runs;
 mod cli_scripts;
 #[cfg(test)]
 mod cli_stats;
-#[cfg(test)]
-mod memory_program;
 #[cfg(test)]
 mod same;

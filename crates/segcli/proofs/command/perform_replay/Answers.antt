@@ -17,8 +17,9 @@ returns-clause-outcome g c =
       read = out.1;
       replays = out.2;
       whole = c.in_ok-replayed.ensures.whole;
+      memory = c.in_ok-replayed.ensures.memory;
       shows = subst (λ text. ShowOutcome text o c.show-shown.result) (c.as_slice-3.ensures.value
-          ∙ c.in_ok-text.ensures.text ∙ ap (replay_text c.args.asked.now.format) c.as_slice-2.ensures.value)
+          ∙ c.in_ok-text.ensures.text ∙ ap (replay_text c.args.asked.now.format) c.as_slice.ensures.value)
           c.show-shown.ensures.outcome;
       ended = c.end_of_replay.ensures.end;
     })
