@@ -14,6 +14,7 @@ from crates import ROOT, below, read_crates
 LOGS = ROOT / "out/gate"
 ARCHIVE, WIDE = "bindings/c/out/libsegcache.a", "bindings/c/out/wide/libsegcachewide.a"
 PROGRAMS = "crates/segrun/out/segrun crates/segrun/out/segrun.by-rattle"
+RECORDERS = "crates/segtrial/out/segtrial crates/segtrial/out/segtrial.by-rattle"
 CARGO = "cargo test --offline --quiet --manifest-path bindings/rust/Cargo.toml"
 EXAMPLE = "cargo run --offline --quiet --manifest-path bindings/rust/Cargo.toml --example"
 CORES = min(os.cpu_count() or 1, 4)
@@ -59,7 +60,7 @@ FORK = [
     Part("rust", "Rust over the stand-in",
          f"make -C bindings/c out/standin/libsegcachewide.a && SEGCACHE_LIB=$PWD/bindings/c/out/standin {CARGO} "
          "--features wide --lib --test wide", "bindings/rust bindings/c server/tests/standin.c", "make cc cargo"),
-    Part("checker", "the checker of histories", "tools/trial", "tools/trial tools/checker", "cargo"),
+    Part("checker", "the checker of histories", "tools/trial", f"tools/trial tools/checker {RECORDERS}", "cargo"),
     Part("compare", "header, crate and exports", "bindings/compare"),
     Part("faults", "the lists of faults", "tools/faults --list"),
 ]

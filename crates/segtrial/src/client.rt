@@ -6,17 +6,18 @@ ghost use Rattle.segbase.specs.Words.{holding};
 ghost use Rattle.segindex.specs.Words.{shape_of};
 ghost use Rattle.segread.specs.Words.{IsHoldOf};
 
-use crate::answers::{end_of_put, end_of_write, said_by_get_many, said_by_put};
-use crate::draws::{ClientTurn, Keeping};
-use crate::session::{Asked, Desk, Session};
-use crate::values::number_of;
-use segcheck::{
-    Access, BUCKETS, Current, EACH, Item, Notes, Operation, Place, Recycled, Refill, Refusal, Said,
-};
+use crate::draws::MOMENTS;
+use crate::keys::{BUCKETS, EACH, number_of};
+use crate::session::{Asked, Desk, Found, Notes, Session};
 use segclient::{Client, Hold, HoldAnswer, PutAnswer, Stats, hold_stays};
 use segmodel::{Answer, Command, GetAnswer, Request, WriteAnswer};
 use segword::{Key, Value};
 use std::alloc::{AllocError, Global};
+use std::fmt;
+use std::fmt::{Display, Formatter, Write};
+
+/// By queues a client needs so many segments.
+const FOR_QUEUES: u32 = 4;
 
 /// A client, and what its next calls depend on.
 #[derive(Drop)]
@@ -26,12 +27,28 @@ pub struct ClientCaller<'a> {
     number: u32,
     session: Session<'a>,
     time_to_live: u32,
-    /// The segment that the client stores into.
-    current: Current,
+    has_queues: bool,
+    /// So many rows are left, at least, of the segment that it stores into, and whether just so many.
+    left: u32,
+    is_sure: bool,
     /// Whether keys were evicted since the last look.
     has_evicted: bool,
     /// The answers to gets of all keys of a bucket.
     answers: Vec<GetAnswer>,
+}
+
+/// What a call recycled: the keys evicted, the items kept, and the segments refilled.
+#[derive(Clone, Copy)]
+struct Recycled {
+    evicted: u64,
+    kept: u64,
+    refilled: u64,
+}
+
+impl Display for Recycled {
+    fn fmt<W: Write>(&self, f: &mut Formatter<W>) -> fmt::Result {
+        write!(f, " {} {} {}", self.evicted, self.kept, self.refilled)
+    }
 }
 
 impl<'a> ClientCaller<'a> {
@@ -41,19 +58,22 @@ impl<'a> ClientCaller<'a> {
         desk: Desk<'a>,
         mut client: Client<'a>,
         number: u32,
-        seed: u64,
     ) -> Result<ClientCaller<'a>, AllocError> {
-        let mut session = Session::new(alloc, desk, number, seed);
-        let keeping = session.draws.keeping(desk.segments);
-        match keeping {
-            Keeping::ByQueues => {}
-            Keeping::From(cutoff) => client.keep_from(Some(cutoff)),
-            Keeping::Nothing => client.keep_nothing(),
+        let mut session = Session::new(alloc, desk, number);
+        let draw = session.draws.below(3);
+        let has_queues = draw == 0 && desk.segments >= FOR_QUEUES;
+        if draw == 2 {
+            client.keep_nothing();
+        } else if !has_queues {
+            client.keep_from(Some(session.draws.cutoff().saturating_add(1)));
         }
-        let time_to_live = session.draws.time_to_live();
+        let time_to_live = match session.draws.below(3) {
+            0 => MOMENTS / 2,
+            1 => MOMENTS,
+            _ => u32::MAX,
+        };
         client.set_time_to_live(time_to_live);
-        let has_one_open = matches!(keeping, Keeping::ByQueues) && time_to_live == u32::MAX;
-        let current = Current::new(desk.rows, has_one_open);
+        session.notes.add_client(time_to_live, has_queues);
         let mut answers = Vec::new(alloc);
         for _ in 0..EACH {
             answers.push(GetAnswer::Busy)?;
@@ -63,23 +83,25 @@ impl<'a> ClientCaller<'a> {
             number,
             session,
             time_to_live,
-            current,
+            has_queues,
+            left: 0,
+            is_sure: true,
             has_evicted: false,
             answers,
         })
     }
 
-    /// Waits until so many passes are there, and then makes so many turns.
-    pub fn work(&mut self, passes: u32, turns: u32) {
-        self.session.desk.start.wait_for(passes);
-        for _ in 0..turns {
+    /// Waits until all callers are there, and then makes its turns.
+    pub fn work(&mut self) {
+        self.session.meet();
+        for _ in 0..self.session.desk.turns {
             self.turn();
         }
     }
 
     /// What it noted of its calls.
     pub fn into_notes(self) -> Notes {
-        self.session.log.into_notes()
+        self.session.notes
     }
 
     /// Makes one turn, drawn at random. If keys were evicted before, it looks first which still stand:
@@ -88,15 +110,15 @@ impl<'a> ClientCaller<'a> {
         if self.has_evicted {
             self.look();
         }
-        match self.session.draws.client_turn() {
-            ClientTurn::Command => self.command(),
-            ClientTurn::Hold => self.hold(),
-            ClientTurn::MakeRoom => self.make_room(),
-            ClientTurn::GetMany => {
+        match self.session.draws.below(64) {
+            0 | 1 => self.hold(),
+            2 => self.make_room(),
+            3 | 4 => {
                 let bucket = self.session.draws.place().bucket;
                 let now = self.session.draws.moment();
                 self.get_many(bucket, now);
             }
+            _ => self.command(),
         }
     }
 
@@ -113,63 +135,65 @@ impl<'a> ClientCaller<'a> {
         ensures index { self.new.client.index.now ≡ self.old.client.index.now }
         ensures held { holding self.new.client.member.pass ≡ holding self.old.client.member.pass }
     {
-        let Some(mut asked) = self.session.ask(self.number, self.current.deadline()) else {
+        let Some(asked) = self.session.ask(self.number, 0) else {
             return;
         };
         match &asked.command {
-            Command::Write(request)
-                if self.session.draws.is_put(request) && self.current.is_known() => {
-                self.put(asked.place, asked.item, request);
+            Command::Write(Request::Set(key, value, now))
+                if self.session.draws.below(8) > 0 && self.is_row_known() => {
+                self.put(&asked, key, value, *now);
             }
-            _ => self.serve(&mut asked),
+            _ => self.serve(asked),
         }
     }
 
-    fn put(&mut self, place: Place, item: Item, request: &Request)
+    // Whether it is known if a row is left. Only by queues items are moved into the segment unseen.
+    fn is_row_known(&self) -> bool {
+        self.left > 0 || self.is_sure || !self.has_queues || self.time_to_live < u32::MAX
+    }
+
+    fn put(&mut self, asked: &Asked, key: &Key, value: &Value, now: u32)
         ensures index { self.new.client.index.now ≡ self.old.client.index.now }
         ensures held { holding self.new.client.member.pass ≡ holding self.old.client.member.pass }
     {
-        let Request::Set(key, value, now) = request else {
-            return;
-        };
-        set_now(&mut self.client, *now);
+        set_now(&mut self.client, now);
         let before = self.client.stats();
-        let called = self.session.log.stamp();
+        let called = self.session.stamp();
         let answer = put(&mut self.client, key, value);
-        let returned = self.session.log.stamp();
+        let stamps = (called, self.session.stamp());
         let recycled = self.recycled(before);
-        let refill = self.refill(before);
-        let is_timely = answer != PutAnswer::Stored || self.is_timely(refill.deadline, *now);
-        let is_allowed = self.current.was_put(end_of_put(answer), *now, refill) && is_timely;
-        self.current.were_moved(recycled.kept);
-        let deadline = self.current.deadline();
-        let said = said_by_put(answer, place, recycled, Item { deadline, ..item });
-        self.note_if(is_allowed, (called, returned), said);
+        let (place, number, until) = (asked.place, self.number, self.until());
+        self.session.notes.add(
+            stamps,
+            format_args!(
+                "put {place} {now} {} {number} {until} {answer:?}{recycled}",
+                asked.value
+            ),
+        );
+        if self.left == 0 && recycled.refilled > 0 {
+            self.left = self.session.desk.rows;
+        }
+        self.go_on(answer == PutAnswer::Stored, recycled);
     }
 
     // Makes a command as it is. What it stores comes into a segment that the client chooses then.
     // If there is no room for it, the client makes some.
-    fn serve(&mut self, asked: &mut Asked)
+    fn serve(&mut self, mut asked: Asked)
         ensures index { self.new.client.index.now ≡ self.old.client.index.now }
         ensures held { holding self.new.client.member.pass ≡ holding self.old.client.member.pass }
     {
         let before = self.client.stats();
-        let called = self.session.log.stamp();
+        let called = self.session.stamp();
         let Some(answer) = serve(&mut self.client, &asked.command) else {
             return;
         };
-        let returned = self.session.log.stamp();
+        let stamps = (called, self.session.stamp());
         let recycled = self.recycled(before);
-        asked.item.deadline = self.client.stores_until().unwrap_or(0);
-        self.session
-            .note_answer((called, returned), asked, &answer, recycled);
-        if let Answer::Write(told) = answer {
-            if !self.current.was_stored_into(end_of_write(told)) || self.is_late(asked, told) {
-                self.session.log.note((called, returned), Said::Wrong);
-            }
-            self.current.were_moved(recycled.kept);
-        }
+        asked.deadline = self.until();
+        self.session.note_answer(stamps, &asked, &answer, recycled);
+        self.go_on(answer == Answer::Write(WriteAnswer::Stored), recycled);
         if answer == Answer::Write(WriteAnswer::NoRoom) {
+            (self.left, self.is_sure) = (0, true);
             self.make_room();
         }
     }
@@ -181,80 +205,68 @@ impl<'a> ClientCaller<'a> {
         let now = self.session.draws.moment();
         set_now(&mut self.client, now);
         let before = self.client.stats();
-        let called = self.session.log.stamp();
+        let called = self.session.stamp();
         let is_made = make_room(&mut self.client);
-        let returned = self.session.log.stamp();
+        let stamps = (called, self.session.stamp());
         let recycled = self.recycled(before);
-        let refill = self.refill(before);
-        let is_allowed = self.current.was_made_room(is_made, refill);
-        self.current.were_moved(recycled.kept);
-        let room = Operation::MakeRoom { recycled, is_made };
-        self.note_if(is_allowed, (called, returned), Said::Operation(room));
-    }
-
-    // Notes what a call said, if the segment that the client stores into allows it.
-    fn note_if(&mut self, is_allowed: bool, stamps: (u64, u64), said: Said)
-        ensures index { self.new.client.index.now ≡ self.old.client.index.now }
-        ensures held { holding self.new.client.member.pass ≡ holding self.old.client.member.pass }
-    {
-        let said = if is_allowed { said } else { Said::Wrong };
-        self.session.log.note(stamps, said);
+        let answer = if is_made { "Made" } else { "NotMade" };
+        let number = self.number;
+        self.session.notes.add(
+            stamps,
+            format_args!("make_room {number} {answer}{recycled}"),
+        );
+        self.is_sure = is_made && (self.is_sure || recycled.refilled > 0);
+        if recycled.refilled > 0 {
+            self.left = self.session.desk.rows;
+        }
+        self.go_on(false, recycled);
     }
 
     // Gets of all keys of a bucket.
     fn get_many(&mut self, bucket: usize, now: u32) {
+        let first = bucket.saturating_mul(EACH);
         let all = self.session.desk.keys;
-        let Some(keys) = all.get(Place::all_of(bucket)) else {
+        let Some(keys) = all.get(first..first.saturating_add(EACH)) else {
             return;
         };
         set_now(&mut self.client, now);
-        let called = self.session.log.stamp();
+        let called = self.session.stamp();
         get_many(&mut self.client, keys, self.answers.as_mut_slice());
-        let returned = self.session.log.stamp();
-        let said = said_by_get_many(bucket, now, self.answers.as_slice());
-        self.session.log.note((called, returned), said);
+        let stamps = (called, self.session.stamp());
+        let answers = Several(&self.answers);
+        self.session
+            .notes
+            .add(stamps, format_args!("get_many {bucket} {now}{answers}"));
     }
 
-    // Whether a call refilled segments, by the counts before it, and what the client stores until.
-    fn refill(&self, before: Stats) -> Refill {
-        let after = self.client.stats();
-        Refill {
-            came_about: before.segments_refilled < after.segments_refilled,
-            deadline: self.client.stores_until().unwrap_or(0),
-        }
-    }
-
-    // Whether what was stored doesn't live as long as a put's.
-    fn is_late(&self, asked: &Asked, told: WriteAnswer) -> bool {
-        let Command::Write(request) = &asked.command else {
-            return false;
-        };
-        told == WriteAnswer::Stored && !self.is_timely(asked.item.deadline, request.moment())
-    }
-
-    // Whether what is stored at this moment and expires at the deadline lives seven eighths of its
-    // time or more, and no longer.
-    fn is_timely(&self, deadline: u32, now: u32) -> bool {
-        let latest = now.saturating_add(self.time_to_live);
-        if latest == u32::MAX {
-            return deadline == latest;
-        }
-        let earliest = latest.saturating_sub(self.time_to_live / 8);
-        (earliest..=latest).contains(&deadline)
+    // The deadline of what is stored now.
+    fn until(&self) -> u32 {
+        self.client.stores_until().unwrap_or(0)
     }
 
     // What a call recycled, by the counts before it.
-    fn recycled(&mut self, before: Stats) -> Recycled
+    fn recycled(&self, before: Stats) -> Recycled {
+        let after = self.client.stats();
+        Recycled {
+            evicted: after.keys_evicted.saturating_sub(before.keys_evicted),
+            kept: after.items_kept.saturating_sub(before.items_kept),
+            refilled: after
+                .segments_refilled
+                .saturating_sub(before.segments_refilled),
+        }
+    }
+
+    // Goes on with what is known of rows by a call that stored or not. Items that were kept can have come
+    // into the segment, or not.
+    fn go_on(&mut self, is_stored: bool, recycled: Recycled)
         ensures index { self.new.client.index.now ≡ self.old.client.index.now }
         ensures held { holding self.new.client.member.pass ≡ holding self.old.client.member.pass }
     {
-        let after = self.client.stats();
-        self.has_evicted = self.has_evicted || before.keys_evicted < after.keys_evicted;
-        Recycled {
-            segment: self.number,
-            taken: grown(before.keys_evicted, after.keys_evicted),
-            kept: grown(before.items_kept, after.items_kept),
-        }
+        let moved = u32::try_from(recycled.kept).unwrap_or(u32::MAX);
+        self.left = self.left.saturating_sub(u32::from(is_stored));
+        self.left = self.left.saturating_sub(moved);
+        self.is_sure = self.is_sure && moved == 0;
+        self.has_evicted = self.has_evicted || recycled.evicted > 0;
     }
 
     // Holds an item while other commands are made.
@@ -265,22 +277,23 @@ impl<'a> ClientCaller<'a> {
             return;
         };
         self.client.set_now(now);
-        let called = self.session.log.stamp();
+        let called = self.session.stamp();
         let answer = self.client.hold(key);
-        let log = &mut self.session.log;
-        let stamps = (called, log.stamp());
+        let stamps = (called, self.session.stamp());
+        let notes = &mut self.session.notes;
         match answer {
             HoldAnswer::Holding(hold) => {
                 hold_stays();
-                let value = self.client.held_value(&hold);
-                let read = Access::Hold(Some(number_of(&value)));
-                log.note(stamps, place.says(now, read));
+                let number = number_of(&self.client.held_value(&hold));
+                notes.add(stamps, format_args!("hold {place} {now} Found {number}"));
                 self.make_commands();
                 self.end_hold(place.bucket, hold);
             }
-            HoldAnswer::Miss => log.note(stamps, place.says(now, Access::Hold(None))),
-            HoldAnswer::Busy => log.note(stamps, place.refuses(Refusal::ReadBusy)),
-            HoldAnswer::AlreadyHolding => log.note(stamps, Said::Wrong),
+            HoldAnswer::Miss => notes.add(stamps, format_args!("hold {place} {now} Miss")),
+            HoldAnswer::Busy => notes.add(stamps, format_args!("hold {place} {now} Busy")),
+            HoldAnswer::AlreadyHolding => {
+                notes.add(stamps, format_args!("hold {place} {now} AlreadyHolding"));
+            }
         }
     }
 
@@ -297,14 +310,32 @@ impl<'a> ClientCaller<'a> {
     fn end_hold(&mut self, bucket: usize, hold: Hold<'_>)
         requires { IsHoldOf (shape_of self.old.client.index.now) hold self.old.client.member.pass }
     {
-        let called = self.session.log.stamp();
+        let called = self.session.stamp();
         let value = self.client.held_value(&hold);
-        let log = &mut self.session.log;
-        log.note_held((called, log.stamp()), bucket, number_of(&value));
-        let called = log.stamp();
+        let stamps = (called, self.session.stamp());
+        let number = number_of(&value);
+        self.session
+            .notes
+            .add(stamps, format_args!("held {bucket} {number}"));
+        let called = self.session.stamp();
         self.client.release(hold);
-        let log = &mut self.session.log;
-        log.note_release((called, log.stamp()), bucket);
+        let stamps = (called, self.session.stamp());
+        self.session
+            .notes
+            .add(stamps, format_args!("release {bucket}"));
+    }
+}
+
+// The answers to several gets.
+#[derive(Clone, Copy)]
+struct Several<'a>(&'a Vec<GetAnswer>);
+
+impl Display for Several<'_> {
+    fn fmt<W: Write>(&self, f: &mut Formatter<W>) -> fmt::Result {
+        for answer in self.0.iter() {
+            write!(f, " {}", Found(answer))?;
+        }
+        Ok(())
     }
 }
 
@@ -372,9 +403,4 @@ fn write(client: &mut Client<'_>, request: &Request) -> Answer
         Request::Cas(key, value, expected, _) => Answer::Write(client.cas(key, value, *expected)),
         Request::Delete(key, _) => Answer::Delete(client.delete(key)),
     }
-}
-
-// How much a count grew.
-fn grown(before: u64, after: u64) -> u32 {
-    u32::try_from(after.saturating_sub(before)).unwrap_or(u32::MAX)
 }

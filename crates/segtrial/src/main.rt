@@ -1,151 +1,186 @@
-//! Lets passes make calls at random, each on a thread of its own, and looks for an order that explains
-//! the answers. The checker is `segcheck`, which knows nothing of the index.
+//! Lets passes make calls at random, each on a thread of its own, and writes what each asked and was told.
+//! The program `tools/checker`, which knows nothing of the index, looks for an order that explains it.
 #![tactic(auto)]
 
-mod answers;
-mod arguments;
+ghost use Rattle.std.specs.Prelude.{All, IfSome};
+ghost use Rattle.segindex.specs.Words.{board_of};
+ghost use Rattle.segstore.specs.Words.{IsQuiet};
+
 mod caller;
 mod client;
 mod draws;
-mod ending;
 mod keys;
 mod pass;
-mod round;
 mod session;
-mod values;
 
-use arguments::{Options, read_options};
-use clap::error::{Error, ErrorKind};
-use round::{Counts, Failure, RoundFault, run_rounds};
-use segcheck::Fault;
+use caller::{work_of_clients, work_of_passes};
+use draws::Draws;
+use keys::{Place, colliding_keys, number_of};
+use segindex::{Index, Pass};
+use segword::{Key, Shape, Value};
+use session::{Desk, Notes};
+use std::alloc::AllocGlobal;
+use std::io::Print;
 use std::process::ExitCode;
+use std::sync::atomic::AtomicU64;
+use std::thread::Threads;
 use std::{env, io};
 
-const UNEXPLAINED: u8 = 1;
+const USAGE: &str = "Usage: segtrial passes|clients threads|in-turn ROUNDS TURNS PASSES SEED
+
+In each round a new index is made, and each of its PASSES (1 to 8), or a client of each, makes calls at random in
+TURNS turns: on a thread of its own, or in turn with the others. The keys are few, share four buckets, and have the
+same tag. How many rows, segments and overflow buckets there are is drawn. Each call is stamped before and after it
+by one counter. For example
+
+  segtrial clients threads 25 10000 4 1 | tools/checker/target/release/checker
+
+says whether a cache of one thread explains all that four clients were told in 25 rounds.";
 
 const BAD_USAGE: u8 = 2;
 
-const FAILED: u8 = 3;
+/// What the program is to do.
+#[derive(Clone, Copy)]
+struct Options {
+    has_clients: bool,
+    is_in_turn: bool,
+    rounds: u32,
+    turns: u32,
+    passes: u32,
+    /// The number from which the first round is drawn.
+    seed: u32,
+}
 
 fn main(rt: HostRuntime) -> io::Result<ExitCode> {
     let mut words = Vec::new(rt.alloc());
     for word in env::args(&rt)?.skip(1) {
         words.push(word)?;
     }
-    match read_options(rt.alloc(), &words) {
-        Ok(options) => tell(&rt, &options, run_rounds(&rt, rt.alloc(), &options)),
-        Err(error) => refuse(&rt, &error),
-    }
-}
-
-// Prints why there are no options, or the help or the version that was asked for.
-fn refuse(rt: &HostRuntime, error: &Error) -> io::Result<ExitCode> {
-    match error.kind() {
-        ErrorKind::DisplayHelp | ErrorKind::DisplayVersion => {
-            print!(rt; "{error}")?;
-            Ok(ExitCode::SUCCESS)
-        }
-        ErrorKind::OutOfMemory => {
-            eprintln!(rt; "error: out of memory")?;
-            Ok(ExitCode::from(FAILED))
-        }
-        _ => {
-            eprint!(rt; "{error}")?;
-            Ok(ExitCode::from(BAD_USAGE))
-        }
-    }
-}
-
-// Prints how the rounds ended.
-fn tell(
-    rt: &HostRuntime,
-    options: &Options,
-    ended: Result<Counts, Failure>,
-) -> io::Result<ExitCode> {
-    match ended {
-        Ok(counts) => tell_counts(rt, options, &counts),
-        Err(Failure { seed, fault }) => {
-            eprintln!(rt; "seed {seed}: {fault}")?;
-            Ok(ExitCode::from(status_of(fault)))
-        }
-    }
-}
-
-// Prints the counts, and whether enough calls were made beside others.
-fn tell_counts(rt: &HostRuntime, options: &Options, counts: &Counts) -> io::Result<ExitCode> {
-    let share = if options.passes > 1 {
-        options.beside
-    } else {
-        0
+    let Some(options) = read_options(&words) else {
+        eprintln!(rt; "{USAGE}")?;
+        return Ok(ExitCode::from(BAD_USAGE));
     };
-    tell_numbers(rt, counts)?;
-    if !counts.are_beside(share) {
-        eprintln!(rt; "error: under {share} in 1000 answers came beside other calls")?;
-        return Ok(ExitCode::from(UNEXPLAINED));
+    for round in 0..options.rounds {
+        let seed = u64::from(options.seed).wrapping_add(u64::from(round));
+        run_round(&rt, options, seed)?;
     }
-    println!(rt;
-        "{} rounds of {} passes, and {} in turn: every answer is explained, {}",
-        options.rounds,
-        options.passes,
-        options.in_turn,
-        moves_of(counts)
-    )?;
-    println!(rt;
-        "{} rounds of {} clients, and {} in turn: every answer is explained, {}",
-        options.clients,
-        options.passes,
-        options.clients_in_turn,
-        recycling_of(counts)
-    )?;
-    println!(rt;
-        "{share} in 1000 or more came beside other calls, and each index ended as they left it"
-    )?;
     Ok(ExitCode::SUCCESS)
 }
 
-// Prints how many answers there were of each sort.
-fn tell_numbers(rt: &HostRuntime, counts: &Counts) -> io::Result<()> {
-    let answers = &counts.answers;
-    eprintln!(rt;
-        "{} answers, {} on threads, {} beside other calls",
-        answers.all, counts.on_threads, answers.beside
-    )?;
-    eprintln!(rt;
-        "refused: {} Busy, {} NoRoom, {} BucketFull, {} Held",
-        answers.busy, answers.no_room, answers.bucket_full, answers.held
-    )?;
-    eprintln!(rt;
-        "{} items moved, accepted of altered{}",
-        answers.moved, counts.of_passes
-    )?;
-    eprintln!(rt;
-        "clients: {} answers, {} items kept, {} keys evicted, accepted of altered{}",
-        counts.to_clients, answers.kept, answers.evicted, counts.of_clients
+// Reads the words behind the program's name.
+fn read_options(words: &Vec<String>) -> Option<Options> {
+    let passes = number_at(words, 4)?;
+    let is_known = words.len() == 6 && 0 < passes && passes <= 8;
+    is_known.then_some(Options {
+        has_clients: is_second(words, 0, "passes", "clients")?,
+        is_in_turn: is_second(words, 1, "threads", "in-turn")?,
+        rounds: number_at(words, 2)?,
+        turns: number_at(words, 3)?,
+        passes,
+        seed: number_at(words, 5)?,
+    })
+}
+
+// Whether the word at a place is the second of two, or none if it is neither.
+fn is_second(words: &Vec<String>, place: usize, first: &str, second: &str) -> Option<bool> {
+    let word = words.get(place)?.as_str();
+    (word == first || word == second).then_some(word == second)
+}
+
+fn number_at(words: &Vec<String>, place: usize) -> Option<u32> {
+    words.get(place)?.parse().ok()
+}
+
+// Lets the passes of a new index make their calls. The index has one pass more, which makes no call and ends it.
+fn run_round<R: Threads + Sync + AllocGlobal + Print>(
+    rt: &R,
+    options: Options,
+    seed: u64,
+) -> io::Result<()> {
+    let alloc = rt.alloc();
+    let keys = colliding_keys(alloc)?;
+    let mut draws = Draws::new(seed, options.passes);
+    let shape = draws.shape(options.passes.saturating_add(1), options.has_clients);
+    tell_round(rt, options, seed, &shape)?;
+    let Ok((index, mut passes)) = Index::new(alloc, shape) else {
+        return Err(out_of_memory());
+    };
+    let Some(last) = pop(&index, &mut passes) else {
+        return Err(out_of_memory());
+    };
+    let clock = AtomicU64::new(0);
+    let there = AtomicU64::new(0);
+    let desk = Desk {
+        keys: &keys,
+        clock: &clock,
+        there: &there,
+        passes: options.passes,
+        turns: options.turns,
+        is_in_turn: options.is_in_turn,
+        segments: shape.segments_each,
+        rows: shape.rows,
+        seed,
+    };
+    let notes = if options.has_clients {
+        work_of_clients(rt, alloc, &index, passes, desk)?
+    } else {
+        work_of_passes(rt, alloc, &index, passes, desk)?
+    };
+    tell_notes(rt, &notes)?;
+    let Ok(content) = index.close(alloc, last) else {
+        return Err(out_of_memory());
+    };
+    tell_content(rt, &keys, &content)
+}
+
+fn out_of_memory() -> io::Error {
+    io::Error::other("out of memory")
+}
+
+// Takes the last pass out of the list.
+fn pop(index: &Index, passes: &mut Vec<Pass>) -> Option<Pass>
+    requires { All (IsQuiet (board_of index.now)) passes.old.items }
+    ensures last { IfSome result (IsQuiet (board_of index.now)) }
+    ensures others { All (IsQuiet (board_of index.now)) passes.new.items }
+{
+    passes.pop()
+}
+
+// Writes the head of a round.
+fn tell_round<R: Print>(rt: &R, options: Options, seed: u64, shape: &Shape) -> io::Result<()> {
+    let callers = if options.has_clients {
+        "clients"
+    } else {
+        "passes"
+    };
+    let way = if options.is_in_turn {
+        "in-turn"
+    } else {
+        "threads"
+    };
+    println!(rt;
+        "round {callers} {way} seed {seed} calling {} buckets {} overflow {} rows {} version {}",
+        options.passes, shape.buckets, shape.overflow, shape.rows, shape.first_version
     )
 }
 
-// Whether the order that explains the answers has moves of items.
-fn moves_of(counts: &Counts) -> &'static str {
-    if counts.answers.moved > 0 {
-        "with items that moved"
-    } else {
-        "and no item moved"
+fn tell_notes<R: Print>(rt: &R, notes: &Vec<Notes>) -> io::Result<()> {
+    for of_caller in notes.iter() {
+        if of_caller.is_short {
+            return Err(out_of_memory());
+        }
+        print!(rt; "{}", of_caller.text)?;
     }
+    Ok(())
 }
 
-// Whether clients kept and evicted anything.
-fn recycling_of(counts: &Counts) -> &'static str {
-    if counts.answers.kept > 0 && counts.answers.evicted > 0 {
-        "with items kept and keys evicted"
-    } else {
-        "but not with both items kept and keys evicted"
+// Writes what the index lists at its end. A key that is none of these comes into no bucket.
+fn tell_content<R: Print>(rt: &R, keys: &Vec<Key>, content: &Vec<(Key, Value)>) -> io::Result<()> {
+    println!(rt; "listed")?;
+    for (key, value) in content.iter() {
+        let number = keys.iter().position(|other| other == key);
+        let place = Place::of_number(number.unwrap_or(keys.len()));
+        println!(rt; "left {place} {}", number_of(value))?;
     }
-}
-
-fn status_of(fault: RoundFault) -> u8 {
-    match fault {
-        RoundFault::OutOfMemory | RoundFault::History(Fault::TooMany | Fault::OutOfMemory) =>
-            FAILED,
-        _ => UNEXPLAINED,
-    }
+    println!(rt; "close")
 }

@@ -5,11 +5,8 @@ ghost use Rattle.segindex.specs.Words.{board_of, shape_of};
 ghost use Rattle.segstore.specs.Words.{IsQuiet, IsQuiet-prop};
 ghost use Rattle.segread.specs.Words.{IsHoldOf};
 
-use crate::answers::{said_by_evict, said_by_keep, said_by_refill};
-use crate::draws::Turn;
-use crate::session::{Desk, Session};
-use crate::values::number_of;
-use segcheck::{Access, Draw, Notes, Operation, Place, Recycled, Refusal, Said};
+use crate::keys::{Place, number_of};
+use crate::session::{Desk, Notes, Session};
 use segindex::{Hold, HoldAnswer, Index, LockAnswer, Pass, hold_stays};
 use segmodel::{Answer, Command, EvictAnswer, KeepAnswer, RefillAnswer, WriteAnswer};
 use std::alloc::Global;
@@ -37,16 +34,10 @@ pub struct PassCaller<'a> {
 
 impl<'a> PassCaller<'a> {
     /// A caller whose pass has made no call.
-    pub fn new(
-        alloc: Global,
-        index: &'a Index,
-        desk: Desk<'a>,
-        pass: Pass,
-        seed: u64,
-    ) -> PassCaller<'a>
+    pub fn new(alloc: Global, index: &'a Index, desk: Desk<'a>, pass: Pass) -> PassCaller<'a>
         requires { IsQuiet (board_of index.now) pass }
     {
-        let session = Session::new(alloc, desk, pass.number(), seed);
+        let session = Session::new(alloc, desk, pass.number());
         PassCaller {
             index,
             pass,
@@ -59,30 +50,34 @@ impl<'a> PassCaller<'a> {
         }
     }
 
-    /// Waits until so many passes are there, and then makes so many turns. Returns what it noted.
-    pub fn work(mut self, passes: u32, turns: u32) -> Notes {
-        self.session.desk.start.wait_for(passes);
+    /// Waits until all passes are there, and then makes its turns. Returns what it noted.
+    pub fn work(mut self) -> Notes {
+        self.session.meet();
         self.refill();
-        for _ in 0..turns {
+        for _ in 0..self.session.desk.turns {
             self.turn();
         }
-        self.into_notes()
+        self.session.notes
     }
 
     /// What it noted of its calls.
     pub fn into_notes(self) -> Notes {
-        self.session.log.into_notes()
+        self.session.notes
     }
 
     /// Makes one turn, drawn at random.
     pub fn turn(&mut self) {
         self.go_on_with_lock();
-        match self.session.draws.turn() {
-            Turn::Command => self.command(),
-            Turn::Hold => self.hold(),
-            Turn::Lock => self.lock(),
-            Turn::Keep => self.keep(),
-            Turn::Refill => self.refill(),
+        match self.session.draws.below(64) {
+            0 | 1 => {
+                let place = self.session.draws.place();
+                let now = self.session.draws.moment();
+                self.hold_at(place, now, true);
+            }
+            2 | 3 => self.lock(),
+            4 => self.refill(),
+            5 => self.keep(),
+            _ => self.command(),
         }
     }
 
@@ -105,12 +100,10 @@ impl<'a> PassCaller<'a> {
             return;
         };
         let draw = self.session.draws.below(u32::MAX);
-        let called = self.session.log.stamp();
+        let called = self.session.stamp();
         let answer = serve(self.index, &mut self.pass, &asked.command, draw);
-        let returned = self.session.log.stamp();
-        let recycled = Recycled::nothing(self.segment);
-        self.session
-            .note_answer((called, returned), &asked, &answer, recycled);
+        let stamps = (called, self.session.stamp());
+        self.session.note_answer(stamps, &asked, &answer, "");
         if answer == Answer::Write(WriteAnswer::NoRoom) {
             self.refill();
         }
@@ -125,12 +118,15 @@ impl<'a> PassCaller<'a> {
         self.refill();
         let segment = self.next_segment();
         let cutoff = self.session.draws.cutoff();
-        let called = self.session.log.stamp();
+        let called = self.session.stamp();
         let answer = keep(self.index, &mut self.pass, segment, cutoff);
-        let returned = self.session.log.stamp();
-        let said = said_by_keep(segment, self.segment, cutoff, answer);
+        let stamps = (called, self.session.stamp());
+        let into = self.segment;
+        self.session.notes.add(
+            stamps,
+            format_args!("keep {segment} {into} {cutoff} {answer:?}"),
+        );
         self.is_unsure = true;
-        self.session.log.note((called, returned), said);
         self.evict(segment);
     }
 
@@ -145,13 +141,13 @@ impl<'a> PassCaller<'a> {
         ensures index { self.new.index.now ≡ self.old.index.now }
         ensures held { holding self.new.pass ≡ holding self.old.pass }
     {
-        let called = self.session.log.stamp();
+        let called = self.session.stamp();
         let answer = evict(self.index, &mut self.pass, segment);
-        let returned = self.session.log.stamp();
-        self.is_unsure = self.is_unsure || matches!(answer, EvictAnswer::Busy(_));
+        let stamps = (called, self.session.stamp());
         self.session
-            .log
-            .note((called, returned), said_by_evict(segment, answer));
+            .notes
+            .add(stamps, format_args!("evict {segment} {answer:?}"));
+        self.is_unsure = self.is_unsure || matches!(answer, EvictAnswer::Busy(_));
     }
 
     /// Evicts and refills the next segment. If that is done, the pass stores there from then on.
@@ -163,12 +159,12 @@ impl<'a> PassCaller<'a> {
         self.fillings = self.fillings.wrapping_add(1);
         self.evict(segment);
         let deadline = self.session.draws.deadline();
-        let called = self.session.log.stamp();
+        let called = self.session.stamp();
         let answer = refill(self.index, &mut self.pass, segment, deadline);
-        let returned = self.session.log.stamp();
-        self.session.log.note(
-            (called, returned),
-            said_by_refill(segment, deadline, answer),
+        let stamps = (called, self.session.stamp());
+        self.session.notes.add(
+            stamps,
+            format_args!("refill {segment} {deadline} {answer:?}"),
         );
         if answer == RefillAnswer::Refilled {
             self.segment = segment;
@@ -176,34 +172,29 @@ impl<'a> PassCaller<'a> {
         }
     }
 
-    // Holds an item while other commands are made.
-    fn hold(&mut self) {
-        let place = self.session.draws.place();
-        let now = self.session.draws.moment();
-        self.hold_at(place, now, true);
-    }
-
+    // Holds an item, while two commands are made if that is wanted.
     fn hold_at(&mut self, place: Place, now: u32, has_commands: bool) {
         let Some(key) = self.session.key(place) else {
             return;
         };
         let index = self.index;
-        let called = self.session.log.stamp();
+        let called = self.session.stamp();
         let answer = index.hold(&mut self.pass, key, now);
-        let log = &mut self.session.log;
-        let stamps = (called, log.stamp());
+        let stamps = (called, self.session.stamp());
+        let notes = &mut self.session.notes;
         match answer {
             HoldAnswer::Holding(hold) => {
                 hold_stays();
-                let value = index.held_value(&mut self.pass, &hold);
-                let read = Access::Hold(Some(number_of(&value)));
-                log.note(stamps, place.says(now, read));
+                let number = number_of(&index.held_value(&mut self.pass, &hold));
+                notes.add(stamps, format_args!("hold {place} {now} Found {number}"));
                 self.make_commands(has_commands);
                 self.end_hold(place.bucket, hold);
             }
-            HoldAnswer::Miss => log.note(stamps, place.says(now, Access::Hold(None))),
-            HoldAnswer::Busy => log.note(stamps, place.refuses(Refusal::ReadBusy)),
-            HoldAnswer::AlreadyHolding => log.note(stamps, Said::Wrong),
+            HoldAnswer::Miss => notes.add(stamps, format_args!("hold {place} {now} Miss")),
+            HoldAnswer::Busy => notes.add(stamps, format_args!("hold {place} {now} Busy")),
+            HoldAnswer::AlreadyHolding => {
+                notes.add(stamps, format_args!("hold {place} {now} AlreadyHolding"));
+            }
         }
     }
 
@@ -222,14 +213,19 @@ impl<'a> PassCaller<'a> {
     fn end_hold(&mut self, bucket: usize, hold: Hold<'_>)
         requires { IsHoldOf (shape_of self.old.index.now) hold self.old.pass }
     {
-        let called = self.session.log.stamp();
+        let called = self.session.stamp();
         let value = self.index.held_value(&mut self.pass, &hold);
-        let log = &mut self.session.log;
-        log.note_held((called, log.stamp()), bucket, number_of(&value));
-        let called = log.stamp();
+        let stamps = (called, self.session.stamp());
+        let number = number_of(&value);
+        self.session
+            .notes
+            .add(stamps, format_args!("held {bucket} {number}"));
+        let called = self.session.stamp();
         self.index.release(&mut self.pass, hold);
-        let log = &mut self.session.log;
-        log.note_release((called, log.stamp()), bucket);
+        let stamps = (called, self.session.stamp());
+        self.session
+            .notes
+            .add(stamps, format_args!("release {bucket}"));
     }
 
     // Locks a bucket for the next turns, unless the pass has one locked.
@@ -239,15 +235,12 @@ impl<'a> PassCaller<'a> {
         let (None, Some(key)) = (self.locked, self.session.key(place)) else {
             return;
         };
-        let called = self.session.log.stamp();
+        let called = self.session.stamp();
         let answer = self.index.lock_bucket(&mut self.pass, key);
-        let returned = self.session.log.stamp();
-        let said = match answer {
-            LockAnswer::Locked => Said::Operation(Operation::Lock { bucket }),
-            LockAnswer::Busy => place.refuses(Refusal::Busy),
-            LockAnswer::AlreadyLocked => Said::Wrong,
-        };
-        self.session.log.note((called, returned), said);
+        let stamps = (called, self.session.stamp());
+        self.session
+            .notes
+            .add(stamps, format_args!("lock {bucket} {answer:?}"));
         if answer == LockAnswer::Locked {
             self.locked = Some((bucket, MEANWHILE));
         }
@@ -263,12 +256,13 @@ impl<'a> PassCaller<'a> {
     }
 
     fn unlock(&mut self, bucket: usize) {
-        let called = self.session.log.stamp();
+        let called = self.session.stamp();
         let is_unlocked = self.index.unlock_bucket(&mut self.pass);
-        let returned = self.session.log.stamp();
-        let unlock = Said::Operation(Operation::Unlock { bucket });
-        let said = if is_unlocked { unlock } else { Said::Wrong };
-        self.session.log.note((called, returned), said);
+        let stamps = (called, self.session.stamp());
+        let answer = if is_unlocked { "Unlocked" } else { "NotLocked" };
+        self.session
+            .notes
+            .add(stamps, format_args!("unlock {bucket} {answer}"));
         self.locked = None;
     }
 }

@@ -1,51 +1,108 @@
-//! What a pass draws and notes, whether it makes its calls by itself or by a client.
-use crate::answers::said_by;
+//! What a caller draws and notes, whether it makes its calls by a pass itself or by a client.
 use crate::draws::Draws;
-use crate::values::value_of;
-use segcheck::{BUCKETS, Item, Log, Place, Recycled, Start};
-use segmodel::{Answer, Command, GetsAnswer};
+use crate::keys::{BUCKETS, Place, number_of, value_of};
+use segmodel::{Answer, Command, GetAnswer, GetsAnswer, Request};
 use segword::Key;
 use std::alloc::Global;
-use std::sync::atomic::AtomicU64;
+use std::fmt;
+use std::fmt::{Display, Formatter, Write};
+use std::sync::atomic::{AtomicU64, Ordering};
+use std::thread::yield_now;
 
-/// What all passes of a round use.
+/// How often a thread looks for the others. Then it goes on without them: one may not have begun.
+const LOOKS: u32 = 1 << 20;
+
+/// What all callers of a round use.
 #[derive(Clone, Copy)]
 pub struct Desk<'a> {
     pub keys: &'a [Key],
     /// The counter from which the stamps are drawn.
     pub clock: &'a AtomicU64,
-    pub start: &'a Start,
+    /// How many threads are there.
+    pub there: &'a AtomicU64,
+    pub passes: u32,
+    pub turns: u32,
+    /// Whether the callers take turns on one thread.
+    pub is_in_turn: bool,
     /// How many segments each pass has, and how many rows each segment.
     pub segments: u32,
     pub rows: u32,
+    pub seed: u64,
 }
 
-/// The draws and the notes of a pass.
+/// The lines of a caller, one for each of its calls.
+#[derive(Drop)]
+pub struct Notes {
+    pub text: String,
+    number: u32,
+    /// Whether there was no memory to note a call.
+    pub is_short: bool,
+}
+
+/// The draws and the notes of a caller.
 #[derive(Drop)]
 pub struct Session<'a> {
     pub desk: Desk<'a>,
     pub draws: Draws,
-    pub log: Log<'a>,
-    /// The version that the pass's last gets of each bucket found.
+    pub notes: Notes,
+    /// The version that the caller's last gets of each bucket found.
     versions: [u32; BUCKETS as usize],
 }
 
-/// A command on a key, and what it would store.
+/// A command on a key. What it stores comes into a segment with this number and deadline.
 #[derive(Drop)]
 pub struct Asked {
     pub place: Place,
-    pub item: Item,
+    pub value: u32,
+    pub segment: u32,
+    pub deadline: u32,
     pub command: Command,
 }
 
+impl Notes {
+    /// Notes what a client is like.
+    pub fn add_client(&mut self, time_to_live: u32, has_queues: bool) {
+        let keeping = if has_queues { "queues" } else { "other" };
+        let line = writeln!(self.text, "client {} {time_to_live} {keeping}", self.number);
+        self.is_short = self.is_short || line.is_err();
+    }
+
+    /// Notes a call with its answer, and the stamps before and after it.
+    pub fn add<C: Display + Drop>(&mut self, stamps: (u64, u64), call: C) {
+        let (called, returned) = stamps;
+        let line = writeln!(self.text, "{} {called} {returned} {call}", self.number);
+        self.is_short = self.is_short || line.is_err();
+    }
+}
+
 impl<'a> Session<'a> {
-    /// The session of a pass that has made no call.
-    pub fn new(alloc: Global, desk: Desk<'a>, number: u32, seed: u64) -> Session<'a> {
+    /// The session of a caller that has made no call.
+    pub fn new(alloc: Global, desk: Desk<'a>, number: u32) -> Session<'a> {
         Session {
             desk,
-            draws: Draws::new(seed, number),
-            log: Log::new(alloc, desk.clock),
+            draws: Draws::new(desk.seed, number),
+            notes: Notes {
+                text: String::new(alloc),
+                number,
+                is_short: false,
+            },
             versions: [0; BUCKETS as usize],
+        }
+    }
+
+    /// The next stamp: one is drawn before a call, and one after its return.
+    pub fn stamp(&self) -> u64 {
+        self.desk.clock.fetch_add(1, Ordering::SeqCst)
+    }
+
+    /// Counts the calling thread as there, and waits until all are.
+    pub fn meet(&self) {
+        self.desk.there.fetch_add(1, Ordering::SeqCst);
+        for _ in 0..LOOKS {
+            if self.desk.there.load(Ordering::SeqCst) >= u64::from(self.desk.passes) {
+                break;
+            }
+            yield_now();
         }
     }
 
@@ -54,40 +111,101 @@ impl<'a> Session<'a> {
         keys.get(place.number())
     }
 
-    /// Draws the next command. What it stores comes into a segment with this number and deadline.
+    /// Draws the next command.
     pub fn ask(&mut self, segment: u32, deadline: u32) -> Option<Asked> {
         let place = self.draws.place();
-        let item = Item {
-            value: self.draws.value(),
-            segment,
-            deadline,
-        };
-        let (Some(key), Some(value)) = (self.key(place), value_of(item.value)) else {
+        let number = self.draws.value();
+        let (Some(key), Some(value)) = (self.key(place), value_of(number)) else {
             return None;
         };
         let version = self.versions.get(place.bucket).copied().unwrap_or(0);
         let command = self.draws.command(key.copy(), value, version);
         Some(Asked {
             place,
-            item,
+            value: number,
+            segment,
+            deadline,
             command,
         })
     }
 
-    /// Notes the answer to a command, which recycled so much.
-    pub fn note_answer(
+    /// Notes the answer to a command, and what the call recycled.
+    pub fn note_answer<C: Display + Drop>(
         &mut self,
         stamps: (u64, u64),
         asked: &Asked,
         answer: &Answer,
-        recycled: Recycled,
+        recycled: C,
     ) {
-        let said = said_by(&asked.command, answer, asked.place, asked.item);
-        self.log.note(stamps, said.with_recycled(recycled));
-        if let Answer::Gets(GetsAnswer::Found(_, version)) = answer {
-            if let Some(last) = self.versions.get_mut(asked.place.bucket) {
-                *last = *version;
+        let notes = &mut self.notes;
+        match answer {
+            Answer::Get(answer) => {
+                notes.add(stamps, format_args!("{asked} {}{recycled}", Found(answer)));
             }
+            Answer::Gets(GetsAnswer::Found(value, version)) => {
+                let number = number_of(value);
+                notes.add(
+                    stamps,
+                    format_args!("{asked} Found {number} {version}{recycled}"),
+                );
+                if let Some(last) = self.versions.get_mut(asked.place.bucket) {
+                    *last = *version;
+                }
+            }
+            Answer::Gets(answer) => notes.add(stamps, format_args!("{asked} {answer:?}{recycled}")),
+            Answer::Write(answer) => {
+                notes.add(stamps, format_args!("{asked} {answer:?}{recycled}"));
+            }
+            Answer::Delete(answer) => {
+                notes.add(stamps, format_args!("{asked} {answer:?}{recycled}"));
+            }
+            Answer::Keep(_) | Answer::Evict(_) | Answer::Refill(_) => {}
+        }
+    }
+}
+
+impl Display for Asked {
+    fn fmt<W: Write>(&self, f: &mut Formatter<W>) -> fmt::Result {
+        let (verb, now) = match &self.command {
+            Command::Get(_, now) => ("get", *now),
+            Command::Gets(_, now) => ("gets", *now),
+            Command::Write(request) => (verb_of(request), request.moment()),
+            Command::Keep(_, _) | Command::Evict(_) | Command::Refill(_, _) => return Ok(()),
+        };
+        write!(f, "{verb} {} {now}", self.place)?;
+        match &self.command {
+            Command::Get(_, _) | Command::Gets(_, _) | Command::Write(Request::Delete(_, _)) => {
+                return Ok(());
+            }
+            _ => write!(f, " {} {} {}", self.value, self.segment, self.deadline)?,
+        }
+        match &self.command {
+            Command::Write(Request::Cas(_, _, expected, _)) => write!(f, " {expected}"),
+            _ => Ok(()),
+        }
+    }
+}
+
+fn verb_of(request: &Request) -> &'static str {
+    match request {
+        Request::Set(_, _, _) => "set",
+        Request::Add(_, _, _) => "add",
+        Request::Replace(_, _, _) => "replace",
+        Request::Cas(_, _, _, _) => "cas",
+        Request::Delete(_, _) => "delete",
+    }
+}
+
+/// The answer to a get, with the number of the value.
+#[derive(Clone, Copy)]
+pub struct Found<'a>(pub &'a GetAnswer);
+
+impl Display for Found<'_> {
+    fn fmt<W: Write>(&self, f: &mut Formatter<W>) -> fmt::Result {
+        match self.0 {
+            GetAnswer::Found(value) => write!(f, "Found {}", number_of(value)),
+            GetAnswer::Miss => write!(f, "Miss"),
+            GetAnswer::Busy => write!(f, "Busy"),
         }
     }
 }
