@@ -15,6 +15,7 @@ LOGS = ROOT / "out/gate"
 ARCHIVE, WIDE = "bindings/c/out/libsegcache.a", "bindings/c/out/wide/libsegcachewide.a"
 PROGRAMS = "crates/segrun/out/segrun crates/segrun/out/segrun.by-rattle"
 RECORDERS = "crates/segtrial/out/segtrial crates/segtrial/out/segtrial.by-rattle"
+CALLERS = "crates/segcalls/out/segcalls crates/segcalls/out/segcalls.by-rattle"
 CARGO = "cargo test --offline --quiet --manifest-path bindings/rust/Cargo.toml"
 EXAMPLE = "cargo run --offline --quiet --manifest-path bindings/rust/Cargo.toml --example"
 CORES = min(os.cpu_count() or 1, 4)
@@ -75,6 +76,7 @@ CORE = [
     Part("core", "proofs, and tests in Rattle", f"RT_JOBS={CORES} rt ci", "", "rt"),
     Part("cases", "cases of the program", "tools/cases", f"tests tools/cases {PROGRAMS}"),
     Part("program", "hit rates over fifty turnovers", "tools/turnovers", f"tools/turnovers {PROGRAMS}"),
+    Part("cases", "cases of clients", "tools/calls", f"tests/clients tools/calls tools/client_cases.py {CALLERS}"),
     Part("core", "edits", "tools/edits", "", "rt"),
 ]
 
