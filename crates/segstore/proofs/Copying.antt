@@ -1,7 +1,8 @@
 -- Bytes that go word by word from a row to a buffer.
-use Rattle.std.proofs.Common.{◌≡◌, ℕ, zero, suc, ◌+◌, ◌*◌, ◌/◌, ◌%◌, ◌^◌, ◌<◌, ◌≤◌, List, length, get_or, take, refl, sym, ap, ◌∙◌, arith}
+use Rattle.std.proofs.Common.{◌≡◌, ℕ, zero, suc, ◌+◌, ◌-◌, ◌*◌, ◌/◌, ◌%◌, ◌^◌, ◌<◌, ◌≤◌, List, ◌++◌, length, get_or, take, refl, sym, ap, ◌∙◌, ⊎_elim, arith}
 use Rattle.std.proofs.lemmas.Grind.{same_number_lists}
-use Rattle.std.proofs.lemmas.List.{get_or-append_right, get_or-drop, get_or-take, length-take-le}
+use Rattle.std.proofs.lemmas.Bool.{cases_lt}
+use Rattle.std.proofs.lemmas.List.{get_or_append_left, get_or-append_right, get_or-drop, get_or-take, length-take-le}
 use borrow.Rule.Slice.PartMut.{put_mid}
 use Rattle.std.proofs.lemmas.Slice.{take-put_mid}
 use Rattle.std.specs.Int.{to_le_bytes, w64}
@@ -12,6 +13,7 @@ use Rattle.segword.specs.Words.{IsKey, IsValue, row_width, span_of, value_place}
 use Rattle.segword.proofs.RowLemmas.{byte_at-split, byte_at-words_from, get_or-bytes_of, key_length-header, length-bytes_of, value_in_row, value_length-header, value_width-room, widths}
 use Rattle.segword.proofs.WordLemmas.{AreBytes-from_All}
 use Rattle.segcore.specs.Words.{Holds, Row}
+use Rattle.segstore.specs.Copying.{AreBytesOf}
 
 -- what stands behind a place once the rest was written over
 pub behind : (from count : ℕ) (xs ys zs : List ℕ) (i : ℕ) → ys ≡ take count zs → count ≤ length zs
@@ -37,6 +39,36 @@ byte_of w (suc (suc (suc (suc (suc zero))))) lt = omega arith
 byte_of w (suc (suc (suc (suc (suc (suc zero)))))) lt = omega arith
 byte_of w (suc (suc (suc (suc (suc (suc (suc zero))))))) lt = omega arith
 byte_of w (suc (suc (suc (suc (suc (suc (suc (suc i)))))))) lt = absurd (omega (arith, lt))
+
+-- those of a word that is 0
+pub no_byte : (i : ℕ) → i < 8 → 0 / 2 ^ (8 * i) % 256 ≡ 0
+no_byte i lt = sym (byte_of 0 i lt) ∙ none i lt
+  where
+    none : (i : ℕ) → i < 8 → get_or (to_le_bytes w64 0) i 0 ≡ 0
+    none zero lt = refl
+    none (suc zero) lt = refl
+    none (suc (suc zero)) lt = refl
+    none (suc (suc (suc zero))) lt = refl
+    none (suc (suc (suc (suc zero)))) lt = refl
+    none (suc (suc (suc (suc (suc zero))))) lt = refl
+    none (suc (suc (suc (suc (suc (suc zero)))))) lt = refl
+    none (suc (suc (suc (suc (suc (suc (suc zero))))))) lt = refl
+    none (suc (suc (suc (suc (suc (suc (suc (suc i)))))))) lt = absurd (omega (arith, lt))
+
+-- bytes that were loaded over a part of a buffer, behind those that were loaded before
+pub part_loaded : (words : ℕ → ℕ) (from start at count : ℕ) (bytes part : List ℕ) → start ≡ 8 * at → length part ≡ count → start + count ≤ length bytes
+    → AreBytesOf words from bytes start → AreBytesOf words (from + at) part count → AreBytesOf words from (put_mid start count bytes part) (start + count)
+part_loaded words from start at count bytes part is long inside before here k i few lt =
+    let n = 8 * k + i in let whole = put_mid start count bytes part in
+    let joined : take (start + length part) whole ≡ take start bytes ++ part = take-put_mid start count bytes part (start + length part) refl (omega (arith, inside)) in
+    sym (get_or-take (start + length part) whole n 0 (omega (arith, lt, long))) ∙ ap (λ (l : List ℕ). get_or l n 0) joined ∙ ⊎_elim
+    (λ low. get_or_append_left (take start bytes) part 0 n (omega (arith, low, length-take-le start bytes (omega (arith, inside)))) ∙ get_or-take start bytes n 0 low ∙ before k i few low)
+    (λ past. let j = k - at in let same : 8 * j + i ≡ n - start = omega (arith, past, is, few) in let on : from + at + j ≡ from + k = omega (arith, past, is, few) in
+    get_or-append_right (take start bytes) part start n 0 (length-take-le start bytes (omega (arith, inside))) past
+    ∙ ap (λ (m : ℕ). get_or part m 0) (sym same)
+    ∙ here j i few (omega (arith, same, past, lt))
+    ∙ ap (λ (m : ℕ). words m / 2 ^ (8 * i) % 256) on)
+    (cases_lt n start)
 
 -- the bytes of a row's value are those of its words from the value's place on
 module _ (row : Row) (key value : List ℕ) (header : ℕ) (is_key : IsKey key) (is_value : IsValue value) (holds : Holds row key value) (begins : header ≡ row.words 0) where

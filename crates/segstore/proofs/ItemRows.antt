@@ -165,6 +165,11 @@ head_inside header = omega arith
 pub value_ends : (header count : ℕ) → count ≤ word.value_width → count ≤ div_ceil (value_length header) 8 → value_place header + count ≤ row_width * span_of_header header
 value_ends header count few most = omega (arith, few, most)
 
+-- a word of an item, by how many rows behind the first one it stands
+pub in_row : (first behind word k header : ℕ) → word + k < row_width → row_width * behind + word + k < row_width * span_of_header header
+    → (row_behind first (row_width * behind + word + k) ≡ first + behind) × (place_behind (row_width * behind + word + k) ≡ word + k)
+in_row first behind word k header less inside = (omega (arith, less, inside), omega (arith, less, inside))
+
 -- a place before the end of the longest item is one in its row
 pub place_fits : (place : ℕ) → place < item_width → place_behind place < row_width
 place_fits place lt = omega (arith, lt)
