@@ -11,7 +11,8 @@ from collections import Counter
 from pathlib import Path
 
 import talk
-from talk import alone, check, connect, memory_of, read, read_to, running, say, stats_of, store_all
+from talk import (alone, check, connect, memory_of, read, read_to, running, say, stats_of, store_all,
+                  wait_until)
 
 
 def pieces(port):
@@ -111,11 +112,8 @@ def killed_program(command):
         say(connection, "set k 0 0 1\r\nx\r\n", "STORED\r\n")
         with subprocess.Popen([sys.executable, "-c", CLIENTS, str(port)], stdout=subprocess.PIPE) as program:
             program.stdout.readline()
-            for _ in range(200):
-                if (count := stats_of(connection)["curr_connections"]) == "51":
-                    break
-                time.sleep(0.05)
-            check(count == "51", f"fifty connections and this one are there: {count}")
+            are_there = wait_until(lambda: stats_of(connection)["curr_connections"] == "51")
+            check(are_there, "fifty connections and this one are there")
             say(connection, "get k\r\n", "VALUE k 0 1\r\nx\r\nEND\r\n")
             program.kill()
         pid = alone(connection)["pid"]
@@ -177,10 +175,8 @@ def memory_refused(command):
                 pass
             others.append(other)
         say(connection, "get m\r\n", "VALUE m 0 1\r\nx\r\nEND\r\n")
-        for _ in range(200):
-            if (refused := int(stats_of(connection)["read_buf_oom"])) > 0:
-                break
-            time.sleep(0.05)
+        wait_until(lambda: stats_of(connection)["read_buf_oom"] != "0")
+        refused = int(stats_of(connection)["read_buf_oom"])
         check(0 < refused < 300, f"some of 300 connections are refused memory: {refused}")
         for other in others:
             other.close()
@@ -242,10 +238,7 @@ def crowd_at_limit(command, count):
         check(said[b"MN\r\n"] >= count - 40 and said.total() == count, f"of {count} nearly all are served: {said}")
         for other in others[:100]:
             other.close()
-        for _ in range(200):
-            if int(stats_of(others[200])["curr_connections"]) <= count - 100:
-                break
-            time.sleep(0.05)
+        wait_until(lambda: int(stats_of(others[200])["curr_connections"]) <= count - 100)
         with connect(port) as late:
             say(late, "mn\r\n", "MN\r\n")
         for other in others[100:]:
@@ -299,22 +292,6 @@ def unread_gets(command):
                 check(grown < 5000, f"unread replies took {grown} KiB, of {len(wanted) >> 10}")
                 connection.setsockopt(socket.SOL_SOCKET, socket.SO_RCVBUF, 1 << 20)
                 check(read(connection, len(wanted)) == wanted, "once they are read, all of them come")
-
-
-def idle(command):
-    """A silent connection is closed, and one that isn't stays."""
-    with running(command, "--idle_timeout", "4", "-t", "1") as port, connect(port) as silent, connect(port) as other:
-        for _ in range(12):
-            time.sleep(0.5)
-            say(other, "mn\r\n", "MN\r\n")
-        check(silent.recv(1) == b"", "a silent connection is closed")
-        check(stats_of(other)["idle_kicks"] == "1", "and counted")
-    with running(command, "--idle_timeout", "100", "-t", "1") as port, connect(port) as quiet, connect(port) as other:
-        for _ in range(2):
-            say(other, "debugtime 60\r\nmn\r\n", "OK\r\nMN\r\n")
-            say(quiet, "mn\r\n", "MN\r\n")  # silent for 60 of 100 seconds
-        say(other, "debugtime 60\r\nmn\r\ndebugtime 60\r\nmn\r\n", "OK\r\nMN\r\n" * 2)
-        check(quiet.recv(1) == b"", "who was silent for less than the time stays, and nobody else")
 
 
 def counters(port):

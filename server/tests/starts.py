@@ -13,8 +13,8 @@ import threading
 import time
 from pathlib import Path
 
-from talk import (RIGHTS, alone, check, connect, free_port, read_to, running, say, shared_folder, start, stats_of,
-                  wait_for)
+from talk import (RIGHTS, alone, check, connect, free_port, read_to, running, said_by, say, served, shared_folder,
+                  start, stats_of, wait_until)
 
 FEW, MORE, MOST = 255, 2**31 - 1, 2**32 - 1
 SIZE = "an item's size is at least 1024, as in -I 1024, -I 512k or -I 1m"
@@ -44,7 +44,8 @@ BAD_OPTIONS = [
     *[(["-B", text], "-B: only the text protocol is served: -B auto or -B ascii") for text in ("binary", "asci")],
     (["-U", "11211"], "-U: there is no UDP: only -U 0"),
     *[(words.split(), f"{named}: isn't known; -h shows those that are") for words, named in (
-        ("-x", "-x"), ("-vx", "-x"), ("-m 64 -f1.25", "-f"), ("--memory-limit 64 -n48", "-n"), ("--daemon=1", "--daemon=1"))],
+        ("-x", "-x"), ("-vx", "-x"), ("-m 64 -f1.25", "-f"), ("--memory-limit 64 -n48", "-n"),
+        ("--daemon=1", "--daemon=1"))],
     (["--nonesuch"], "--nonesuch: isn't known; -h shows those that are"),
     (["-p"], "-p: needs an argument; -h shows them all"),
     (["--keys"], "--keys: needs an argument; -h shows them all"),
@@ -91,9 +92,10 @@ def bad_options(command):
     """Each gets one line that names it, and no server starts. At its bound a number is taken."""
     for words, line in BAD_OPTIONS:
         ends_with(command, ["-p", str(free_port()), *words], 64, line)
-    for words, shown in ((["-h"], "--memory-limit"), (["-V"], "segcache-server ")):
-        ran = subprocess.run([*command, *words], capture_output=True, text=True)
-        check(ran.returncode == 0 and shown in ran.stdout, f"{words} shows {shown}")
+    for word, shown in (("-h", "--memory-limit"), ("--help", "--memory-limit"),
+                        ("-V", "segcache-server 1.6.0-segcache\n"), ("--version", "segcache-server 1.6.0-segcache\n")):
+        ran = subprocess.run([*command, word], capture_output=True, text=True, timeout=60)
+        check(ran.returncode == 0 and shown in ran.stdout, f"{word} shows {shown}")
     for words, wanted in BOUNDS:
         with running(command, *words.split()) as port:
             settings = settings_of(port)
@@ -132,10 +134,7 @@ def bad_places(command):
 def serving_at(path):
     """A connection by a UNIX socket, once there is one."""
     connection = socket.socket(socket.AF_UNIX)
-    for _ in range(200):
-        if connection.connect_ex(str(path)) == 0:
-            break
-        time.sleep(0.05)
+    check(wait_until(lambda: connection.connect_ex(str(path)) == 0), f"a server listens at {path}")
     return connection
 
 
@@ -193,11 +192,7 @@ def background(command, names=("-d", "-P")):
             links = [Path(f"/proc/{pid}/fd/{i}").readlink() for i in range(3)]
             check(links == [Path("/dev/null")] * 3, f"-d leaves input and outputs: {links}")
         os.kill(pid, signal.SIGTERM)
-        for _ in range(200):
-            if not pid_file.exists():
-                break
-            time.sleep(0.05)
-        check(not pid_file.exists(), "and is taken away")
+        check(wait_until(lambda: not pid_file.exists()), "and is taken away")
 
 
 def told(command):
@@ -205,8 +200,7 @@ def told(command):
     for words, wanted in ((["-c", "2"], r""), (["-vv"], r"(?s).*<\d+ set told 0 0 1\n<\d+ stats settings\n.*"),
                           (["-v", "-c", "2"], r"(?:segcache-server: too many connections: [1-4] refused\n)+")):
         words = [*command, "-p", str(port := free_port()), "-o", "idle_timeout=600", "-b", "7", "-B", "ascii", *words]
-        with start(words, stderr=subprocess.PIPE, text=True) as server:
-            wait_for(port, server)
+        with served(words, port, stderr=subprocess.PIPE, text=True) as server:
             with connect(port) as connection:
                 say(connection, "set told 0 0 1\r\nx\r\n", "STORED\r\n")
                 settings = stats_of(connection, "settings")
@@ -220,8 +214,7 @@ def told(command):
                 if shutil.which("ss"):
                     shown = subprocess.run(["ss", "-Hltn", f"sport = :{port}"], capture_output=True, text=True).stdout
                     check(shown.split()[2] == "7", f"-b 7: {shown}")
-            server.send_signal(signal.SIGTERM)
-            text = server.stderr.read()
+            text = said_by(server)
         check(re.fullmatch(wanted, text), f"{words}: {text}")
 
 
@@ -276,12 +269,8 @@ def addresses(command):
         for last in range(1, 5):
             with socket.create_connection((f"127.0.0.{last}", port), timeout=60) as connection:
                 say(connection, "mn\r\n", "MN\r\n")
-                local = f"0{last}00007F:{port:04X}"
-                for _ in range(100):
-                    rows = [row.split() for row in Path("/proc/net/tcp").read_text().splitlines()]
-                    if is_asked := any(row[1] == local and row[3] == "01" and row[5].startswith("02:") for row in rows):
-                        break
-                    time.sleep(0.05)
+                asks = re.compile(rf" 0{last}00007F:{port:04X} \S+ 01 \S+ 02:")
+                is_asked = wait_until(lambda asks=asks: asks.search(Path("/proc/net/tcp").read_text()))
                 check(is_asked, "the kernel asks whether a client is there")
 
 
@@ -296,19 +285,14 @@ def closed_outputs(command):
             say(connection, "mn\r\n", "MN\r\n")
             os.kill(int(pid_file.read_text()), signal.SIGTERM)
             check(connection.recv(1) == b"", "it ends")
-        for _ in range(200):
-            if not pid_file.exists():
-                break
-            time.sleep(0.05)
-        check(not pid_file.exists(), "and takes its file away")
+        check(wait_until(lambda: not pid_file.exists()), "and takes its file away")
 
 
 def shutdown(command):
     with running(command) as port, connect(port) as connection:
         say(connection, "shutdown\r\n", "ERROR: shutdown not enabled\r\n")
     for words in ("shutdown", "shutdown graceful"):
-        with start([*command, "-l", "127.0.0.1", "-p", str(port := free_port()), "-A"]) as server:
-            wait_for(port, server)
+        with served([*command, "-l", "127.0.0.1", "-p", str(port := free_port()), "-A"], port) as server:
             with connect(port) as connection:
                 say(connection, "shutdown x\r\n", "CLIENT_ERROR invalid shutdown mode\r\n")
                 connection.sendall(f"{words}\r\n".encode())
@@ -319,8 +303,7 @@ def shutdown(command):
 def ends(command):
     """SIGINT and SIGUSR1 end the server as SIGTERM does. SIGHUP, and a reply to who is gone, end nothing."""
     for end in (signal.SIGINT, signal.SIGUSR1):
-        with start([*command, "-l", "127.0.0.1", "-p", str(port := free_port())]) as server:
-            wait_for(port, server)
+        with served([*command, "-l", "127.0.0.1", "-p", str(port := free_port())], port) as server:
             with connect(port) as connection:
                 say(connection, "mn\r\n", "MN\r\n")
                 ignored = int(re.search(r"SigIgn:\s*(\w+)", Path(f"/proc/{server.pid}/status").read_text())[1], 16)
@@ -359,8 +342,7 @@ def ends_amid_stats(command):
 
 def defaults(command):
     """Without options the server has what -h shows, and listens at one address."""
-    with start([*command, "-p", str(port := free_port())]) as server:
-        wait_for(port, server)
+    with served([*command, "-p", str(port := free_port())], port):
         with socket.socket() as other:
             check(other.connect_ex(("127.0.0.2", port)) != 0, "without -l only 127.0.0.1 is listened at")
         settings = settings_of(port)
@@ -369,8 +351,6 @@ def defaults(command):
                   "flush_enabled": "yes", "cas_enabled": "yes", "shutdown_command": "no",
                   "binding_protocol": "auto-negotiate", "inter": "127.0.0.1"}
         check(wanted.items() <= settings.items(), f"the settings are {settings}, and not {wanted}")
-        server.send_signal(signal.SIGTERM)
-        check(server.wait(timeout=60) == 0, "it ends well")
 
 
 def unopened(command):
@@ -383,8 +363,7 @@ def too_small(command):
     """Where a thread's share has no room for the longest items, the server says so, and what it says has room has."""
     for words, most in (("-m 1 -t 64", 60), ("-m 1 -t 16", 1000), ("-m 64 -t 32", 3500), ("-m 64 -t 4", None)):
         words_of_it = [*command, "-p", str(port := free_port()), *words.split()]
-        with start(words_of_it, stderr=subprocess.PIPE, text=True) as server:
-            wait_for(port, server)
+        with served(words_of_it, port, stderr=subprocess.PIPE, text=True) as server:
             with connect(port) as connection:
                 most_data = int(stats_of(connection)["most_data_bytes"])
                 told = server.stderr.readline() if most and most < most_data else ""
@@ -393,8 +372,7 @@ def too_small(command):
                 length = int(found[1]) if found else most_data
                 for i in range(50):
                     say(connection, f"set key{i} 0 0 {length}\r\n{'x' * length}\r\n", "STORED\r\n")
-            server.send_signal(signal.SIGTERM)
-            more = server.stderr.read()
+            more = said_by(server)
         check((found is not None and length < most) == bool(most and most < most_data) and more == "",
               f"{words}: {told} {more}")
 
@@ -418,19 +396,10 @@ def seen_by_all(command):
     anywhere = ["0.0.0.0", "::"] if len(families) == 2 else ["0.0.0.0"]
     for group in (addresses, [address for _, address in families], ["localhost"], anywhere):
         words = [*command, "-p", str(port := free_port()), "--listen", ",".join(group)]
-        with start(words) as server:
+        with served(words, port):
             for address in group:
-                for _ in range(200):
-                    try:
-                        with socket.create_connection((address, port), timeout=30) as connection:
-                            say(connection, "mn\r\n", "MN\r\n")
-                        break
-                    except ConnectionRefusedError:
-                        time.sleep(0.05)
-                else:
-                    check(False, f"nothing listens at {address}")
-            server.send_signal(signal.SIGTERM)
-        check(server.returncode == 0, f"{group}: {server.returncode}")
+                with socket.create_connection((address, port), timeout=30) as connection:
+                    say(connection, "mn\r\n", "MN\r\n")
 
 
 def descriptors_had(command):
@@ -438,13 +407,11 @@ def descriptors_had(command):
     for limits, had, line in (("40:4000", 400, ""), ("1000:4000", 1000, ""), ("400:400", 400, ""),
                               ("40:90", 90, "segcache-server: -c 100: only 90 descriptors may be had\n")):
         words = ["prlimit", f"--nofile={limits}", *command, "-p", str(port := free_port()), "-c", "100", "-t", "1"]
-        with start(words, stderr=subprocess.PIPE, text=True) as server:
-            wait_for(port, server)
+        with served(words, port, stderr=subprocess.PIPE, text=True) as server:
             with connect(port) as connection:
                 shown = Path(f"/proc/{stats_of(connection)['pid']}/limits").read_text()
             soft = int(re.search(r"Max open files\s+(\d+)", shown)[1])
-            server.send_signal(signal.SIGTERM)
-            text = server.stderr.read()
+            text = said_by(server)
         check(soft == had and text == line, f"--nofile={limits}: {soft} {text}")
     ends_with(["prlimit", "--nofile=12:12", *command], ["-p", "-1", "-t", "16", "-c", "1"], 1,
               lambda text: text == "segcache-server: -c 1: only 12 descriptors may be had\n"

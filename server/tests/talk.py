@@ -3,7 +3,6 @@
 
 import os
 import random
-import re
 import signal
 import socket
 import subprocess
@@ -15,6 +14,9 @@ from pathlib import Path
 
 # What each server is started with: root has to name a user. To others it says nothing.
 RIGHTS = ["-u", "nobody"]
+
+BAD = "CLIENT_ERROR bad command line format\r\n"
+TOO_LARGE = "SERVER_ERROR object too large for cache\r\n"
 
 faults = 0
 first = False  # the first fault ends the tests
@@ -84,13 +86,12 @@ def wait_for(port, server=None):
 
 
 @contextmanager
-def running(command, *options, port=None):
-    """A server at a port of this machine, which ends well when it is told to."""
-    port = port or free_port()
-    with start([*command, "-l", "127.0.0.1", "-p", str(port), *options]) as server:
+def served(words, port, **more):
+    """The process of a server that listens at a port, and ends well when it is told to or before."""
+    with start(words, **more) as server:
         try:
             wait_for(port, server)
-            yield port
+            yield server
         finally:
             server.send_signal(signal.SIGTERM)
             try:
@@ -98,7 +99,30 @@ def running(command, *options, port=None):
             except subprocess.TimeoutExpired:
                 server.kill()
                 status = "no end"
-            check(status == 0, f"{command[0]} ended with {status}")
+            check(status == 0, f"{words} ended with {status}")
+
+
+@contextmanager
+def running(command, *options, port=None):
+    """A server at a port of this machine: its port."""
+    port = port or free_port()
+    with served([*command, "-l", "127.0.0.1", "-p", str(port), *options], port):
+        yield port
+
+
+def said_by(server):
+    """Tells a server to end, and returns what it has said on standard error."""
+    server.send_signal(signal.SIGTERM)
+    return server.stderr.read()
+
+
+def wait_until(is_so):
+    """Whether something is so within ten seconds."""
+    for _ in range(200):
+        if is_so():
+            return True
+        time.sleep(0.05)
+    return False
 
 
 def connect(port):
@@ -125,32 +149,12 @@ def read_to(connection, end):
     return got
 
 
-LEFT = re.compile(rb"(?<= t)\d+")
-LATE = 5  # seconds that may pass between a command and the next one that asks how many are left
-
-
-def same(got, wanted):
-    """Whether a reply is the wanted one, but for times to live that are a little less, in as many digits."""
-    times = [(int(a), int(b)) for a, b in zip(LEFT.findall(got), LEFT.findall(wanted))]
-    return LEFT.sub(b"", got) == LEFT.sub(b"", wanted) and all(b - LATE <= a <= b for a, b in times)
-
-
 def say(connection, sent, wanted):
     """Sends a line or more, and reads as much as is wanted."""
     sent, wanted = sent.encode(), wanted.encode()
     connection.sendall(sent)
     got = read(connection, len(wanted))
-    check(same(got, wanted), f"{sent[:80]} is answered {wanted[:120]}, and not {got[:120]}")
-
-
-def converse(port, lines):
-    """A conversation, after which nothing more comes, and quit ends the connection."""
-    with connect(port) as connection:
-        for sent, wanted in lines:
-            say(connection, sent, wanted)
-        connection.sendall(b"quit\r\n")
-        rest = connection.recv(100)
-        check(rest == b"", f"nothing comes behind the last reply of {lines[-1][0][:40]!r}: {rest}")
+    check(got == wanted, f"{sent[:80]} is answered {wanted[:120]}, and not {got[:120]}")
 
 
 def stats_of(connection, part=""):
@@ -161,24 +165,15 @@ def stats_of(connection, part=""):
 
 def alone(connection):
     """The stats, once this connection is the only one: others end when their worker sees it."""
-    for _ in range(200):
-        counts = stats_of(connection)
-        if counts["curr_connections"] == "1":
-            return counts
-        time.sleep(0.05)
-    check(False, f"the others have ended: {counts}")
+    wait_until(lambda: stats_of(connection)["curr_connections"] == "1")
+    counts = stats_of(connection)
+    check(counts["curr_connections"] == "1", f"the others have ended: {counts}")
     return counts
 
 
 def memory_of(pid, name="VmRSS"):
     """The resident memory of a process, in KiB. VmHWM: the most that it ever was."""
     return int(Path(f"/proc/{pid}/status").read_text().split(f"{name}:")[1].split()[0])
-
-
-def unique_of(connection, key):
-    """The unique version that gets gives."""
-    connection.sendall(f"gets {key}\r\n".encode())
-    return read_to(connection, b"END\r\n").split(b"\r\n")[0].split()[4].decode()
 
 
 def store_all(connection, count, value="x"):
