@@ -2,7 +2,7 @@
 """Two programs beside each other, turn by turn, and what may be claimed of them."""
 
 from collections import defaultdict
-from dataclasses import dataclass, replace
+from dataclasses import asdict, dataclass, replace
 
 from programs import Cell
 
@@ -60,6 +60,11 @@ def own_comparisons(samples, program):
             if name == program and other != cell and (name, other) in samples:
                 found.append(compare(name, beside, cell, ours, samples[name, other]))
     return found
+
+
+def lines_of(compared):
+    """The comparisons as they are written."""
+    return [{"kind": "comparison", **asdict(one)} for one in compared]
 
 
 def shown(ratio):

@@ -1,8 +1,9 @@
 # SPDX-License-Identifier: MIT
-"""The cells of docs/MEASUREMENTS.md, and the tables that it and README.md have of them."""
+"""The cells of docs/MEASUREMENTS.md, and the tables that it has of them."""
 
 from collections import defaultdict
 from itertools import product
+from statistics import median
 
 # Programs, mixes, keys, threads, shapes and pages. Keys are drawn both ways.
 PEERS = ["reference", "lru_spin", "absl_spin", "dashmap", "tbb", "libcuckoo", "urcu"]
@@ -30,13 +31,10 @@ ROWS = [
     ("mixed", "zipf", 100_000, 1, "planned"),
     ("mixed", "zipf", 100_000, 4, "planned"),
 ]
-# Those of README.md: the label, the mix and the threads. All are by Zipf's law over 100,000 keys.
-FRONT = [("mixed, 1", "mixed", 1), ("mixed, 4", "mixed", 4), ("16 gets, 1", "gets16", 1), ("16 gets, 4", "gets16", 4)]
+# The columns of the table of releases: the mix and the threads. All are by Zipf's law over 100,000 keys.
+FRONT = [("mixed", 1), ("mixed", 4), ("gets16", 1), ("gets16", 4)]
 # The programs of the tables of times.
 SHOWN = ["ours", "reference", "floor", "absl_spin", "dashmap"]
-# Those of README.md, by the names that it has for them.
-FRONT_SHOWN = {"ours": "this index", "lru_spin": "LRU, spin locks", "reference": "C++ rewrite",
-               "absl_spin": "Abseil, spin locks", "dashmap": "DashMap"}
 # The order of the caches in their tables. What runs in a JVM stands last.
 CACHES = ["ours", "ours_c", "lru_spin", "lru_mutex", "tbb_lru", "rust_lru", "s3fifo", "caffeine"]
 # The cells of the latencies that the page shows.
@@ -47,8 +45,14 @@ AIMS = {"reference": 1.0, "floor": 1.1}
 
 def ranged(numbers, digits=0):
     """The median, and the quartiles in one word."""
-    median, lower, upper = (f"{numbers[place]:,.{digits}f}" for place in ("median", "lower_quartile", "upper_quartile"))
-    return f"{median} ({lower}–{upper})"
+    middle, lower, upper = (f"{numbers[place]:,.{digits}f}" for place in ("median", "lower_quartile", "upper_quartile"))
+    return f"{middle} ({lower}–{upper})"
+
+
+def spanned(numbers, digits=0):
+    """The median, and in brackets the least and the largest where these differ."""
+    middle, least, most = (f"{one:,.{digits}f}" for one in (median(numbers), min(numbers), max(numbers)))
+    return middle if min(numbers) == max(numbers) else f"{middle} ({least}–{most})"
 
 
 def claimed(one):
@@ -73,6 +77,10 @@ class Results:
         self.compared = [one for one in lines if one["kind"] == "comparison"]
         self.commit = lines[0].get("crates", "")
 
+    def of(self, **wanted):
+        """The figures of the cells that have these parts."""
+        return [one for one in self.figures.values() if all(one[name] == part for name, part in wanted.items())]
+
     @staticmethod
     def place(cell):
         return tuple(cell[name] for name in ("mix", "draw", "keys", "threads", "shape", "pages"))
@@ -92,22 +100,6 @@ class Results:
         names = (*PEERS[1:], "absl_prefetch")
         peers = [one for one in self.compared if self.place(one["cell"]) == cell and one["beside"] in names]
         return min(peers, key=lambda one: self.figures[(*cell, one["beside"])]["process_ns"]["median"], default=None)
-
-
-def front_table(results, through_c):
-    """The table of README.md: medians, told as tied where the quartiles overlap with ours."""
-    names = list(FRONT_SHOWN.values())
-    found = [("Nanoseconds a command: threads", names[0], "through C", *names[1:])]
-    for label, mix, threads in FRONT:
-        place = (mix, "zipf", 100_000, threads, "large", "small")
-        here = [one for one in results.compared if Results.place(one["cell"]) == place]
-        open_beside = {one["beside"] for one in here if not one["is_claimed"]}
-        ours, *others = [results.cost(place, name, lambda cost: f'{cost["median"]:.0f}')
-                         + (" (tied)" if name in open_beside else "") for name in FRONT_SHOWN]
-        from_c = through_c.beside("ours_c", mix=[mix], threads=[threads], keys=[100_000])
-        times = f'× {1 / from_c[0]["ratio"]["median"]:.2f}' if from_c else "unmeasured"
-        found.append((label, ours, times, *others))
-    return found
 
 
 def times_table(results):
@@ -173,7 +165,7 @@ def library_table(results):
 def release_row(version, results, instructions):
     """The line of a release: ours and the reference, of one turn each, and the instructions of ours."""
     cells = [version, results.commit]
-    for _, mix, threads in FRONT:
+    for mix, threads in FRONT:
         place = (mix, "zipf", 100_000, threads, "large", "small")
         cells.append(", ".join(results.cost(place, name, lambda cost: f'{cost["median"]:.0f}') for name in SHOWN[:2]))
     counts = {one["mix"]: one["count"] for one in instructions if one["kind"] == "instructions"

@@ -5,7 +5,9 @@ import json
 import os
 import shlex
 import subprocess
+import sys
 import time
+from contextlib import contextmanager
 from dataclasses import dataclass
 from functools import cache
 from pathlib import Path
@@ -16,6 +18,7 @@ OUT = BENCH / "out"
 LIBRARY = BENCH.parent / "bindings/c/out/libsegcache.a"
 COMPILER = ["g++", "-std=c++20", "-O3", "-Wall", "-Wextra", "-pthread"]
 OURS = BENCH.parent / "crates/segtime/out/segtime"
+SEGRUN = BENCH.parent / "crates/segrun/out/segrun"
 
 # The mixes with sixteen keys at hand at a time.
 AT_HAND = ("gets16", "mixed16", "gets16apart", "mixed16apart")
@@ -112,7 +115,7 @@ def check_reference():
 
 
 def check_floor():
-    """Stops where the floor answers otherwise than the reference, on one thread, also where buckets are full and rows run out."""
+    """Stops where the floor answers otherwise than the reference, on one thread, also where room runs out."""
     names = ("reference", "floor")
     for program in PROGRAMS:
         if program.name in names and (fault := program.build()):
@@ -151,7 +154,8 @@ class Caffeine(Program):
                 run_quietly(["javac", "-Xlint:all", "-cp", self.JAR, "-d", classes, *sources])
                 for program, main in self.MAINS.items():
                     made = OUT / program
-                    made.write_text(f'#!/bin/sh\nexec java -Xmx1g -cp {self.JAR}:{shlex.quote(str(classes))} {main} "$@"\n')
+                    path = f"{self.JAR}:{shlex.quote(str(classes))}"
+                    made.write_text(f'#!/bin/sh\nexec java -Xmx1g -cp {path} {main} "$@"\n')
                     made.chmod(0o755)
         except (OSError, subprocess.CalledProcessError) as fault:
             return f"{first_line(fault)}; it needs the packages {self.package} and default-jdk-headless"
@@ -159,9 +163,10 @@ class Caffeine(Program):
 
 
 def build_ristretto():
-    """None, or why the replay over ristretto couldn't be built. Debian has it as a package, for builds without modules."""
+    """None, or why the replay over ristretto couldn't be built. Debian has it for builds without modules."""
     words = ["go", "build", "-o", OUT / "ristretto_replay", "replay.go"]
-    environment = {**os.environ, "GO111MODULE": "off", "GOPATH": "/usr/share/gocode", "GOCACHE": str(OUT / "go"), "GOFLAGS": ""}
+    environment = {**os.environ, "GO111MODULE": "off", "GOPATH": "/usr/share/gocode", "GOCACHE": str(OUT / "go"),
+                   "GOFLAGS": ""}
     try:
         run_quietly(words, folder=BENCH / "peers/ristretto", environment=environment)
     except (OSError, subprocess.CalledProcessError) as fault:
@@ -183,7 +188,8 @@ PROGRAMS = [
     Program("tbb", "peers/tbb.cpp", "libtbb-dev", ("-ltbb",)),
     Program("libcuckoo", "peers/libcuckoo.cpp", "libcuckoo-dev"),
     Program("urcu", "peers/urcu.cpp", "liburcu-dev", ("-lurcu", "-lurcu-cds", "-lurcu-common")),
-    Program("dashmap", "peers/dashmap.cpp", "librust-dashmap-dev", (str(library_of("dashmap")), "-ldl"), crate="dashmap"),
+    Program("dashmap", "peers/dashmap.cpp", "librust-dashmap-dev", (str(library_of("dashmap")), "-ldl"),
+            crate="dashmap"),
     Program("lru_spin", "peers/lru_spin.cpp", "libabsl-dev", pkg_config="absl_flat_hash_map"),
     Program("lru_mutex", "peers/lru_mutex.cpp", "libabsl-dev", pkg_config="absl_flat_hash_map"),
     Program("tbb_lru", "peers/tbb_lru.cpp", "libtbb-dev", ("-ltbb",), mixes=("fetches",)),
@@ -194,6 +200,38 @@ PROGRAMS = [
 
 # Those that evict. `bench/caches` measures them.
 CACHES = ("lru_spin", "lru_mutex", "tbb_lru", "rust_lru", "s3fifo", "caffeine")
+
+
+def build_all(names, ours):
+    """The programs of these names that can be run, and ours, by name; and why the others can't, which it says."""
+    OUT.mkdir(exist_ok=True)
+    faults = {program.name: program.build() for program in PROGRAMS if program.name in names}
+    faults = {"ours": None if ours.exists() else f"no {ours}; `rt run` in crates/segtime makes it", **faults}
+    left_out = {name: fault for name, fault in faults.items() if fault}
+    for name, why in left_out.items():
+        print(f"{name} is left out: {why}", file=sys.stderr)
+    return {name: ours.resolve() if name == "ours" else OUT / name for name in faults if name not in left_out}, left_out
+
+
+def write_lines(path, machine, left_out, lines):
+    """Writes what was measured: the machine, the programs that were left out, and all else."""
+    missing = [{"kind": "left out", "program": name, "why": why} for name, why in left_out.items()]
+    path.write_text("".join(json.dumps(line) + "\n" for line in [machine, *missing, *lines]))
+    print(f"wrote {path}", file=sys.stderr)
+
+
+@contextmanager
+def trace_of(path, *words):
+    """A file of what a program writes, a workload's commands, for as long as it is used."""
+    with path.open("w") as file:
+        subprocess.run(list(map(str, words)), check=True, stdout=file)
+    yield path
+    path.unlink()
+
+
+def told_by(*words):
+    """What a program writes, as JSON."""
+    return json.loads(output(*map(str, words)))
 
 
 def output(*words):
@@ -247,7 +285,7 @@ def rounds_of(words, rounds, pages):
 @cache
 def planned_sizes(ours, keys, threads):
     """The sizes that the index plans for so many keys, as the programs of `common` take them."""
-    return output(ours, "--print-shape", "--shape", "planned", "--keys", str(keys), "--threads", str(threads)).split()
+    return output(ours, "plan", "uniform", str(keys), str(threads)).split()
 
 
 # The index where it has room for less than all keys: so many segments of all threads.
@@ -295,22 +333,20 @@ def room_of(name, paths, cell):
         return cell.room
     if name in CACHES:
         return room_within(paths[name], cell.bytes)
-    return has_room(1, cell.bytes // 16, lambda room: index_bytes(index_sizes(room, cell.threads), cell.threads) <= cell.bytes)
+    def fits(room):
+        return index_bytes(index_sizes(room, cell.threads), cell.threads) <= cell.bytes
+
+    return has_room(1, cell.bytes // 16, fits)
 
 
 def words_for(name, paths, cell, effort):
-    """The command line of a run. Ours has options, and the programs of `common` have places."""
+    """The command line of a run. Where the programs of `common` have the room, ours has what clients keep."""
     room = room_of(name, paths, cell)
     sizes = index_sizes(room, cell.threads) if room else ()
-    if name != "ours":
-        if cell.shape == "planned":
-            sizes = planned_sizes(paths["ours"], cell.keys, cell.threads)
-        places = (effort.times, effort.every, room, *(() if name in CACHES else sizes))
-        return [paths[name], cell.mix, cell.draw, cell.keys, cell.threads, *places]
-    options = zip(("--buckets", "--overflow", "--segments", "--rows"), sizes)
-    return [paths[name], "--mix", cell.mix, "--draws", cell.draw, "--keys", cell.keys, "--threads", cell.threads,
-            "--shape", cell.shape, "--commands", effort.times, "--rounds", effort.warm + effort.rounds, "--format", "json",
-            "--wait", "--sample", effort.every, *(word for option in options for word in option)]
+    if cell.shape == "planned":
+        sizes = planned_sizes(paths["ours"], cell.keys, cell.threads)
+    places = (effort.times, effort.every, "queues" if name == "ours" else room, *(() if name in CACHES else sizes))
+    return [paths[name], cell.mix, cell.draw, cell.keys, cell.threads, *places]
 
 
 def warm_rounds(name, effort):
