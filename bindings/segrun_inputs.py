@@ -9,7 +9,7 @@ import json
 import re
 from collections import Counter
 
-from segrun_models import FORMS, SHAPE, TALLIES, U32, Index, explain, run_load, run_script, shape_fault, turn_of
+from segrun_models import FORMS, SHAPE, TALLIES, U32, Index, explain, run_script, shape_fault, turn_of
 
 RESULT = re.compile(r"(\S+) (rows=\d+ bytes=\d+ gets=\d+ hits=\d+ rate=\d+\.\d\d sets=\d+ deletes=\d+ evicted=\d+ "
                     r"kept=\d+ refused=\d+ busy=\d+ items=\d+ lives=\d+ given=\d+\.\d\d)")
@@ -214,9 +214,6 @@ def load(draw):
     def wanted(status, out, said):
         if not is_roomy and (fault := shape_fault(shape)):
             return (status, out, said.partition(b"\n")[0]) == (3, b"", b"bad shape %d" % fault)
-        if shape["passes"] == 1 and not is_roomy:
-            tallies, stand = run_load(shape, seed, commands, keys)
-            return (status, out.decode()) == (0, load_text([[commands, *tallies]], stand, is_json))
         numbers = [int(it) for it in re.findall(rb"(?<=[:=])\d+", out)]
         wide = len(TALLIES) + 1 + is_json
         rows = [numbers[at + is_json:at + wide] for at in range(0, len(numbers) - 2, wide)]

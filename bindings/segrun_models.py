@@ -1,5 +1,5 @@
 # SPDX-License-Identifier: MIT
-"""Slow models of what `segrun` writes, for fuzz-program: for scripts of any passes, a load of one pass, and words.
+"""Slow models of what `segrun` writes, for fuzz-program: for scripts of any passes, and words.
 
 They follow the pages, and share nothing with the sources. Keys stand in a dict, and a segment is a list of items.
 """
@@ -212,35 +212,6 @@ def run_script(text, shape):
                 return 2, "".join(replies).encode(), b"bad line %d\n" % at
             replies.append(index.turn(*turn) + "\n")
     return 0, "".join(replies).encode(), b""
-
-
-def drawn(seed, stream):
-    """The words of the generator Lcg64Xsh32: PCG with 64 bits of state, which it hands out before each step."""
-    step = 2 * stream + 1
-    state = ((seed + step) * 6364136223846793005 + step) % 2**64
-    while True:
-        mixed, turn = ((state >> 18 ^ state) >> 27) % U32, state >> 59
-        yield (mixed >> turn | mixed << (32 - turn)) % U32
-        state = (state * 6364136223846793005 + step) % 2**64
-
-
-def run_load(shape, seed, commands, keys):
-    """The tallies of a load of one pass, and how many keys stand at its end."""
-    index, words, tallies, expected, ring = Index(shape), drawn(seed, 0), Counter(), 0, 0
-    for _ in range(commands):
-        first, second, third = next(words), next(words), next(words)
-        key, kind = b"k%d" % (first % keys), second % 8
-        name = ("get", "get", "get", "get", "gets", "set", ("add", "replace", "cas")[third % 3], "delete")[kind]
-        arguments = [key, *([b"%d" % third] if kind in (5, 6) else []), *([expected] if name == "cas" else []), 0]
-        reply = index.turn(0, name, arguments)
-        if reply == "NOROOM":
-            segment, ring = ring, (ring + 1) % shape["segments"]
-            if index.evict(0, segment).startswith("EVICTED") and index.refill(0, segment, U32 - 1) == "REFILLED":
-                reply = index.turn(0, name, arguments)
-        if name == "gets" and reply != "MISS":
-            expected = int(reply.split()[2])
-        tallies["hit" if reply.startswith("VALUE") else reply.lower()] += 1
-    return [tallies[name] for name in TALLIES], len(index.items)
 
 
 def explain(kind, digits):

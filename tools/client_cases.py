@@ -3,7 +3,9 @@
 
 import operator
 import re
+import subprocess
 import sys
+import tempfile
 from pathlib import Path
 from typing import NamedTuple
 
@@ -12,6 +14,8 @@ FOLDER = TOP / "tests/clients"
 COMPARED = {"=": operator.eq, "<": operator.lt, "<=": operator.le, ">": operator.gt, ">=": operator.ge}
 COUNTED = {"+": operator.add, "-": operator.sub, "*": operator.mul}
 DEFAULT_BYTES = 32
+# `rt try` runs its interpreter for one step: what counts is the checked build.
+TRY = ["rt", "try", "--steps", "1", "--seconds", "900", "--cases"]
 
 sys.dont_write_bytecode = True
 sys.path.insert(0, str(FOLDER))
@@ -51,6 +55,35 @@ def all_cases(words=(), most=DEFAULT_BYTES):
 
 def input_of(cases):
     return "".join(f"{line[0]}\n" for case in cases for line in case.lines)
+
+
+def by_case(lines):
+    """The replies to each case, as `rt try` writes them one after another."""
+    replies = None
+    for line in lines:
+        if line.startswith("== "):
+            if replies is not None:
+                yield replies
+            replies = []
+        elif replies is not None:
+            replies.append(line.rstrip("\n"))
+    if replies is not None:
+        yield replies
+
+
+def tried(folder, cases, errors):
+    """Each case with its replies by the crate in this folder, as `rt try` compiles it, without proofs. To close this
+    ends the run. What `rt try` tells goes into a file."""
+    with tempfile.TemporaryDirectory() as inputs:
+        for number, case in enumerate(cases):
+            (Path(inputs) / f"{number:04}").write_text(input_of([case]))
+        ran = subprocess.Popen([*TRY, inputs], cwd=folder, text=True, stdin=subprocess.DEVNULL, stdout=subprocess.PIPE,
+                               stderr=errors)
+        try:
+            yield from zip(cases, by_case(ran.stdout))
+        finally:
+            ran.terminate()
+            ran.wait()
 
 
 def worth(words, kept):

@@ -11,6 +11,7 @@ from typing import NamedTuple
 import kept
 from crates import ROOT, below, read_crates
 
+LIBRARY = [*below("segcache", read_crates()), "segcache"]
 LOGS = ROOT / "out/gate"
 ARCHIVE, WIDE = "bindings/c/out/libsegcache.a", "bindings/c/out/wide/libsegcachewide.a"
 PROGRAMS = "crates/segrun/out/segrun crates/segrun/out/segrun.by-rattle"
@@ -18,7 +19,6 @@ RECORDERS = "crates/segtrial/out/segtrial crates/segtrial/out/segtrial.by-rattle
 CALLERS = "crates/segcalls/out/segcalls crates/segcalls/out/segcalls.by-rattle"
 CARGO = "cargo test --offline --quiet --manifest-path bindings/rust/Cargo.toml"
 EXAMPLE = "cargo run --offline --quiet --manifest-path bindings/rust/Cargo.toml --example"
-CORES = min(os.cpu_count() or 1, 4)
 
 
 class Raw(NamedTuple):
@@ -68,16 +68,19 @@ FORK = [
 SERVER_OVER_STANDIN = Part("server", "the server over the stand-in", "server/check --stand-in", "server bindings/c",
                            "make cc")
 
-# What the gate proves. Each proof and each edit is kept by itself.
+# What the gate proves. Each proof and each edit is kept by itself. The wide build is proved up to the library for C.
 CORE = [
     Part("core", "pages", "tools/pages"),
-    Part("core", "what must not compile", "tools/refused", "crates crates.txt tools", "rt"),
-    # At most one job for each proof: others would read the libraries again, a third more processor time.
-    Part("core", "proofs, and tests in Rattle", f"RT_JOBS={CORES} rt ci", "", "rt"),
+    Part("core", "what must not compile", "tools/refused", "crates crates.txt tools tests/refused", "rt"),
+    Part("core", "proofs, and tests in Rattle", "rt ci", "", "rt"),
     Part("cases", "cases of the program", "tools/cases", f"tests tools/cases {PROGRAMS}"),
     Part("program", "hit rates over fifty turnovers", "tools/turnovers", f"tools/turnovers {PROGRAMS}"),
     Part("cases", "cases of clients", "tools/calls", f"tests/clients tools/calls tools/client_cases.py {CALLERS}"),
     Part("core", "edits", "tools/edits", "", "rt"),
+    # Its sum has what makes its edits and its archive, too: these need the libraries that it leaves.
+    Part("core", "proofs of the wide build", "tools/wide --library rt ci && tools/wide --edits",
+         "crates.txt HANDLES bindings/archive tools/wide tools/edits tools/crates.py tools/kept.py "
+         + " ".join(f"crates/{name}" for name in LIBRARY), "rt"),
 ]
 
 # Over the archive and the program, which are built by then.
@@ -109,15 +112,13 @@ OVER_WIDE = [
 
 def of_bindings():
     """The parts over what the proofs left: the library for C, header, crate, server, package, program."""
-    wide = OVER_WIDE if (ROOT / RAWS["the wide archive"].files()[0]).exists() else []
-    return [*FORK[2:], *BUILT[:-2], *wide, *BUILT[-2:]]
+    return [*FORK[2:], *BUILT[:-2], *OVER_WIDE, *BUILT[-2:]]
 
 
 def key_of_archive(raw):
     crates = read_crates()
-    names = [*below("segcache", crates), "segcache"]
-    places = [f"crates/{name}/{part}" for name in names for part in ("src", "specs", "proofs")]
-    return kept.digest(kept.said_by(["rt", "version"]), [crates[name] for name in names],
+    places = [f"crates/{name}/{part}" for name in LIBRARY for part in ("src", "specs", "proofs")]
+    return kept.digest(kept.said_by(["rt", "version"]), [crates[name] for name in LIBRARY],
                        kept.sum_of(*raw.made_by, "tools/crates.py", *places))
 
 

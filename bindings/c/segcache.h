@@ -28,14 +28,13 @@
  * through must not be null, nor the shape of an open. Of these only a value's buffer may be null, if its size is 0.
  * With a short buffer the read was made, a get or gets counted, and the length is written.
  *
- * WHAT IS PROVED, and under which conditions. In the default build the functions behind these
+ * WHAT IS PROVED, and under which conditions. In both builds the functions behind these
  * (segcache_raw_..) are proved under Rattle to be safe and to return, over a proved cache. Of each it is proved
  * what it did for which status: of a client's the client's own call, for the key, the value and the moment that
  * it was given, and what it wrote where; of open, which handles it wrote; of give_back, what went back where; of
- * close, that the cursor has the content. The repository's gate proves that. The wide build was proved whole at
- * an earlier commit, and in part since: docs/FORMAT.md there has what was proved when ("Items of several rows").
- * PROVED.txt of a package says it of the package's archives. That memory is given back is tested. The proofs
- * take for granted what no prover checks of C. Keep all of these:
+ * close, that the cursor has the content. The repository's gate proves that, and PROVED.txt of a package says of
+ * its archives by what they were proved. That memory is given back is tested. The proofs take for granted what no
+ * prover checks of C. Keep all of these:
  *   1. A client serves one call at a time. Another thread may take it over by a lock, or at the start or
  *      the end (join) of a thread. The same goes for a cache, a cursor and a note. Different clients of a
  *      cache may be called at the same time; that is what they are for.

@@ -699,6 +699,17 @@ def an_event_is_new_once_in_its_time():
         yield f"{client} store {event} by=add", "STORED 1"
 
 
+@case
+def each_event_is_new_once():
+    """Each of a thousand events is seen by four clients, in several orders. One of them takes it for new."""
+    yield opened(keys=1_000, clients=4)
+    for round in range(8):
+        for number in range(1_000):
+            event = (number * 7_919 + round) % 1_000
+            client = (number + (round << 10)) * 2_654_435_769 % (1 << 32) >> 30
+            yield f"c{client} store {event} by=add", "NOT_STORED 1" if round else "STORED 1"
+
+
 def locked(filled):
     yield opened(buckets=1_024, overflow=0, clients=2, locker=1, segments=32, rows=8)
     yield from filled
@@ -841,25 +852,37 @@ def each_put_costs_one_key():
         yield "found 0..26", f"{min(number + 1, 7)}"
 
 
-def bucket_of(number, buckets):
-    """The bucket of a key, by FNV-1a of its four bytes."""
+PRIME = 0x100000001B3
+
+
+def hashed(number, length):
+    """FNV-1a of the first bytes of a number."""
     of = 0xCBF29CE484222325
-    for byte in number.to_bytes(4, "little"):
-        of = (of ^ byte) * 0x100000001B3 % WHOLE
-    return of % buckets
+    for byte in number.to_bytes(4, "little")[:length]:
+        of = (of ^ byte) * PRIME % WHOLE
+    return of
+
+
+def chosen_for(bucket, buckets, first, count):
+    """Numbers whose keys have this bucket, each by its last byte."""
+    before, found = bucket * pow(PRIME, -1, buckets), []
+    while len(found) < count:
+        last = (hashed(first, 3) ^ before) % buckets
+        if last < 256:
+            found.append(first + (last << 24))
+        first += 1
+    return found
 
 
 @case
 def chosen_keys_cost_only_keys_of_their_bucket():
     """A thousand puts of keys that were chosen for one bucket cost the keys of that bucket at most."""
     keys, buckets = 10_000, 4_096
-    mine = [number for number in range(keys) if bucket_of(number, buckets) == bucket_of(0, buckets)]
+    bucket = hashed(0, 4) % buckets
+    mine = [number for number in range(keys) if hashed(number, 4) % buckets == bucket]
     others = sorted(set(range(keys)) - set(mine))
-    chosen, number = [], keys
-    while len(chosen) < 1_000:
-        if bucket_of(number, buckets) == bucket_of(0, buckets):
-            chosen.append(number)
-        number += 1
+    chosen = chosen_for(bucket, buckets, keys, 1_000)
+    assert all(hashed(number, 4) % buckets == bucket for number in chosen)
     yield opened(buckets=buckets, overflow=buckets, segments=64, rows=313)
     yield f"put 0..{keys}", ANY
     yield f"found {listed(mine)}", "* MINE"

@@ -4,7 +4,7 @@ use crate::counts::Counts;
 use crate::into::{long_bytes, value_text};
 use crate::many::{get_many, gets_many, look_ahead};
 use crate::told::{of_delete, of_put, of_write};
-use segclient::{Client, GetAnswer, GetsAnswer, Key, Stats, ValueBytes};
+use segclient::{Client, Condition, GetAnswer, GetsAnswer, Key, Stats, ValueBytes};
 use std::alloc::{AllocError, Global};
 
 /// A client, and the most that one of its puts did.
@@ -73,6 +73,11 @@ impl<'i> Player<'i> {
             ("named", _) => {
                 let named = self.client.index_stats().named_rows;
                 return format!(in alloc; "{named}");
+            }
+            ("table", _) => {
+                let told = self.client.index_stats();
+                let rows = (told.used_rows, told.named_rows);
+                return format!(in alloc; "{} {} {}", told.overflow_buckets, rows.0, rows.1);
             }
             ("until", _) => {
                 return match self.client.stores_until() {
@@ -219,9 +224,9 @@ impl<'i> Player<'i> {
         };
         match name {
             "put" => self.put(how, key, &value),
-            "set" => of_write(self.client.set_bytes(key, &value)),
-            "add" => of_write(self.client.add_bytes(key, &value)),
-            "replace" => of_write(self.client.replace_bytes(key, &value)),
+            "set" => of_write(self.client.write(key, &value, Condition::Always)),
+            "add" => of_write(self.client.write(key, &value, Condition::IfAbsent)),
+            "replace" => of_write(self.client.write(key, &value, Condition::IfPresent)),
             "cas" => self.cas(how, key, &value),
             _ => "NO_SUCH_CALL",
         }
@@ -230,10 +235,12 @@ impl<'i> Player<'i> {
     // With the version that is named, or the one that a gets finds.
     fn cas(&mut self, how: &How<'_>, key: &Key, value: &ValueBytes<'_>) -> &'static str {
         if let Some(version) = how.version {
-            return of_write(self.client.cas_bytes(key, value, version));
+            return of_write(self.client.write(key, value, Condition::IfVersion(version)));
         }
         match self.client.gets(key) {
-            GetsAnswer::Found(_, version) => of_write(self.client.cas_bytes(key, value, version)),
+            GetsAnswer::Found(_, version) => of_write(
+                self.client.write(key, value, Condition::IfVersion(version)),
+            ),
             GetsAnswer::Miss => "NOT_FOUND",
             GetsAnswer::Busy => "BUSY",
         }

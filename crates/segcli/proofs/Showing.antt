@@ -6,8 +6,8 @@ use Rattle.segcli.specs.Explained.{SpellsWord, explanation}
 use Rattle.segcli.specs.Totals.{text_in}
 use Rattle.segcli.specs.Commands.{LoadOutcome, ShowOutcome, WordOutcome}
 use Rattle.segcli.specs.Streams.{Output}
-use Rattle.segcli.specs.declared.asked.LoadTask.{LoadTask}
-use Rattle.segcli.specs.declared.asked.Word.{Word}
+use Rattle.segtasks.specs.declared.asked.LoadTask.{LoadTask}
+use Rattle.segtasks.specs.declared.asked.Word.{Word}
 use Rattle.segcli.specs.declared.explanation.Meaning.{Meaning}
 use Rattle.segcli.specs.declared.fault.ProgramFault.{ProgramFault}
 use Rattle.segcli.specs.declared.fault.ProgramFault.TheVariants as fault

@@ -14,18 +14,18 @@ use Rattle.segreplay.specs.declared.run.Replayed.{Replayed}
 use Rattle.segreplay.specs.declared.run.ReplayPlan.{ReplayPlan}
 use Rattle.segreplay.specs.Caches.{IsReplayFault}
 use Rattle.segreplay.specs.Replays.{IsReplay, is_memory_end, planned}
-use Rattle.segcli.specs.declared.asked.Replay.{Replay}
+use Rattle.segtasks.specs.declared.asked.Replay.{Replay}
 use Rattle.segscript.specs.Words.{EachTurn, EndsOnce, is_make_fault, is_read_fault, is_write_fault, RunFault}
 use Rattle.segscript.specs.Words.{RunOutcome, ShapeIsAnswered}
 use Rattle.segcli.specs.Streams.{HandedOut, Input, IsUnflushed, Output, Took}
 use Rattle.segload.specs.Words.{IsLoad, Totals}
 use Rattle.segcli.specs.declared.fault.ProgramFault.{ProgramFault}
 use Rattle.segcli.specs.declared.fault.ProgramFault.TheVariants as fault
-use Rattle.segcli.specs.declared.asked.LoadTask.{LoadTask}
-use Rattle.segcli.specs.declared.asked.Word.{Word}
+use Rattle.segtasks.specs.declared.asked.LoadTask.{LoadTask}
+use Rattle.segtasks.specs.declared.asked.Word.{Word}
 use Rattle.segcli.specs.declared.explanation.Meaning.{Meaning}
-use Rattle.segcli.specs.declared.command.Task.{Task}
-use Rattle.segcli.specs.declared.command.Task.TheVariants as command
+use Rattle.segtasks.specs.declared.task.Task.{Task}
+use Rattle.segtasks.specs.declared.task.Task.TheVariants as command
 
 -- ---- a script
 

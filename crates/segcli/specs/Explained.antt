@@ -4,8 +4,8 @@ use Rattle.std.specs.Str.Parse.{AllDigits, digits_value}
 use Rattle.segword.specs.Words.{Info, info_word, IsProperReading, Reading, reading_word}
 use Rattle.segword.specs.Words.{SegmentWord, word_of_segment}
 use Rattle.segword.specs.declared.reading.Reading.TheVariants as reading
-use Rattle.segcli.specs.declared.asked.WordKind.{WordKind}
-use Rattle.segcli.specs.declared.asked.WordKind.TheVariants as kinds
+use Rattle.segtasks.specs.declared.asked.WordKind.{WordKind}
+use Rattle.segtasks.specs.declared.asked.WordKind.TheVariants as kinds
 use Rattle.segcli.specs.declared.explanation.Meaning.{Meaning}
 use Rattle.segcli.specs.declared.explanation.Meaning.TheVariants as meaning
 

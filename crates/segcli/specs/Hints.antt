@@ -2,7 +2,7 @@
 use Rattle.std.specs.Prelude.{◌*◌, ◌+◌, ◌-◌, ◌==◌, ◌&&◌, ℕ, Bool, List, [], ◌∷◌, ◌++◌, codes, if◌then◌else◌, nat_lt}
 use Rattle.segreplay.specs.declared.counts.Counts.{Counts}
 use Rattle.segreplay.specs.declared.totals.CacheTotals.{CacheTotals}
-use Rattle.segcli.specs.declared.asked.Replay.{Replay}
+use Rattle.segtasks.specs.declared.asked.Replay.{Replay}
 use Rattle.segcli.specs.Replayed.{rows_of}
 
 -- a cache has few rows if no option asks for more

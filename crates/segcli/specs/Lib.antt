@@ -1,10 +1,7 @@
-pub mod Asked
 pub mod BadLines
-pub mod CommandLine
 pub mod Commands
 pub mod Explained
 pub mod Faults
-pub mod Given
 pub mod TraceNotes
 pub mod Notes
 pub mod Printing

@@ -3,10 +3,10 @@ use Rattle.std.specs.Prelude.{ℕ, ◌+◌, ◌==◌, ◌&&◌, ◌||◌, Bool, 
 use Rattle.std.specs.Char.{is_ascii_hexdigit}
 use Rattle.segword.specs.declared.shape.ShapeFault.{ShapeFault}
 use Rattle.segword.specs.declared.shape.ShapeFault.TheVariants as shape_fault
-use Rattle.segcli.specs.declared.asked.WordKind.{WordKind}
-use Rattle.segcli.specs.declared.asked.WordKind.TheVariants as kinds
-use Rattle.segcli.specs.declared.command.Task.{Task}
-use Rattle.segcli.specs.declared.command.Task.TheVariants as command
+use Rattle.segtasks.specs.declared.asked.WordKind.{WordKind}
+use Rattle.segtasks.specs.declared.asked.WordKind.TheVariants as kinds
+use Rattle.segtasks.specs.declared.task.Task.{Task}
+use Rattle.segtasks.specs.declared.task.Task.TheVariants as command
 use Rattle.segcli.specs.declared.fault.ProgramFault.{ProgramFault}
 use Rattle.segcli.specs.declared.fault.ProgramFault.TheVariants as fault
 use Rattle.segcli.specs.TraceNotes.{trace_note}

@@ -4,9 +4,9 @@ use Rattle.segcli.specs.Streams.{Input, output, Output}
 use Rattle.segcli.specs.Commands.{CommandOutcome, Concludes}
 use Rattle.segcli.specs.Faults.{fault_line, fault_status}
 use Rattle.segcli.specs.Printing.{IsPrinted, IsFlushed}
-use Rattle.segcli.specs.declared.arguments.Refusal.{Refusal}
-use Rattle.segcli.specs.declared.arguments.Refusal.TheVariants as refusal
-use Rattle.segcli.specs.declared.command.Task.{Task}
+use Rattle.segtasks.specs.declared.arguments.Refusal.{Refusal}
+use Rattle.segtasks.specs.declared.arguments.Refusal.TheVariants as refusal
+use Rattle.segtasks.specs.declared.task.Task.{Task}
 use Rattle.segcli.specs.declared.fault.ProgramFault.{ProgramFault}
 use Rattle.segcli.specs.declared.fault.ProgramFault.TheVariants as fault
 

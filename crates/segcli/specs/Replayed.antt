@@ -2,16 +2,16 @@
 use Rattle.std.specs.Prelude.{◌≡◌, ◌*◌, ◌/◌, ◌%◌, ℕ, max, Bool, List, [], ◌∷◌, ◌++◌, codes, decimal, if◌then◌else◌, nat_lt}
 use Rattle.std.specs.List.{flat_map}
 use Rattle.segword.specs.Words.{Shape}
-use Rattle.segreplay.specs.declared.cache.Retention.{Retention}
-use Rattle.segreplay.specs.declared.cache.Retention.TheVariants as policy
+use Rattle.segtraces.specs.declared.retention.Retention.{Retention}
+use Rattle.segtraces.specs.declared.retention.Retention.TheVariants as policy
 use Rattle.segreplay.specs.declared.counts.Counts.{Counts}
 use Rattle.segreplay.specs.declared.run.ReplayPlan.{ReplayPlan}
 use Rattle.segreplay.specs.declared.totals.CacheTotals.{CacheTotals}
-use Rattle.segcli.specs.declared.asked.Format.{Format}
-use Rattle.segcli.specs.declared.asked.Format.TheVariants as format
-use Rattle.segcli.specs.declared.asked.Policies.{Policies}
-use Rattle.segcli.specs.declared.asked.Policies.TheVariants as policies
-use Rattle.segcli.specs.declared.asked.Replay.{Replay}
+use Rattle.segtasks.specs.declared.asked.Format.{Format}
+use Rattle.segtasks.specs.declared.asked.Format.TheVariants as format
+use Rattle.segtasks.specs.declared.asked.Policies.{Policies}
+use Rattle.segtasks.specs.declared.asked.Policies.TheVariants as policies
+use Rattle.segtasks.specs.declared.asked.Replay.{Replay}
 
 -- ---- the plan
 

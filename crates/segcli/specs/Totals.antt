@@ -1,7 +1,7 @@
 -- What the program prints of a load.
 use Rattle.std.specs.Prelude.{ℕ, ◌+◌, ◌==◌, List, [], ◌∷◌, ◌++◌, codes, decimal, if◌then◌else◌, sum_by}
-use Rattle.segcli.specs.declared.asked.Format.{Format}
-use Rattle.segcli.specs.declared.asked.Format.TheVariants as format
+use Rattle.segtasks.specs.declared.asked.Format.{Format}
+use Rattle.segtasks.specs.declared.asked.Format.TheVariants as format
 use Rattle.segload.specs.declared.totals.Tallies.{Tallies}
 use Rattle.segload.specs.Words.{PassTotals, Totals}
 

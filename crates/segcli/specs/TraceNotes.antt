@@ -1,9 +1,9 @@
 -- What `--explain` says of a bad line of a trace.
 use Rattle.std.specs.Prelude.{ℕ, List, ◌++◌, codes, decimal}
-use Rattle.segreplay.specs.declared.line.Column.{Column}
-use Rattle.segreplay.specs.declared.line.Column.TheVariants as column
-use Rattle.segreplay.specs.declared.line.TraceLineFault.{TraceLineFault}
-use Rattle.segreplay.specs.declared.line.TraceLineFault.TheVariants as fault
+use Rattle.segtraces.specs.declared.line.Column.{Column}
+use Rattle.segtraces.specs.declared.line.Column.TheVariants as column
+use Rattle.segtraces.specs.declared.line.TraceLineFault.{TraceLineFault}
+use Rattle.segtraces.specs.declared.line.TraceLineFault.TheVariants as fault
 
 -- what the word of a column isn't
 abbrev pub column_reason : Column → List ℕ

@@ -11,7 +11,6 @@ ghost use Rattle.segcli.specs.Commands.{ScriptOutcome, IsFaultOfLoad, LoadOutcom
 ghost use Rattle.segcli.specs.Commands.{CommandOutcome, Concludes, end_of_replay, end_of_trace};
 ghost use Rattle.segcli.specs.Commands.{ReplayOutcome, ShowOutcome};
 
-use crate::asked::{LoadTask, Replay, Word};
 use crate::explanation::{explain, meaning_of};
 use crate::fault::{ProgramFault, print};
 use crate::note::report_explained;
@@ -23,31 +22,11 @@ use crate::totals::text_in;
 use segload::{LoadFault, OpenGate, Totals, run_crowd};
 use segreplay::{TraceFault, replay};
 use segscript::{Sink, Source, run_script};
+use segtasks::{LoadTask, Replay, Task, Word};
 use segword::Shape;
 use std::alloc::{AllocGlobal, Global};
 use std::sync::Wait;
 use std::thread::Threads;
-
-/// What the program is asked to do.
-#[derive(Debug, Drop)]
-pub enum Task<'a> {
-    /// Runs the script of the reader over an index of this shape.
-    /// If `explain` is true, the fault of a bad shape is explained.
-    /// Who calls the program opens the file, and explains a bad line.
-    Script {
-        shape: Shape,
-        explain: bool,
-        file: Option<&'a str>,
-    },
-    /// Runs a load.
-    Load(LoadTask),
-    /// Replays the trace of the reader.
-    Replay(Replay<'a>),
-    /// Explains a word of the table.
-    Word(Word<'a>),
-    /// Prints a text, as help.
-    Show(String),
-}
 
 /// Where a command is carried out, and who looks on.
 #[derive(Drop)]

@@ -6,8 +6,8 @@ ghost use Rattle.segcli.specs.declared.explanation.Meaning.{Meaning};
 ghost use Rattle.segcli.specs.Explained.{IsHexWord, Means, SpellsWord, explanation, information_line};
 ghost use Rattle.segcli.specs.Explained.{reading_line, segment_line, tag_digits};
 
-use crate::asked::WordKind;
 use segscript::{Line, line_of, put, put_number};
+use segtasks::WordKind;
 use segword::{Info, Item, Reading, SegmentWord};
 
 const DIGITS: [u8; 16] = *b"0123456789abcdef";

@@ -3,10 +3,10 @@ ghost use Rattle.std.specs.Prelude.{◌≡◌, IfOk};
 ghost use Rattle.segcli.specs.Hints.{are_many_lives, are_mostly_first, first_hint, hints_text};
 ghost use Rattle.segcli.specs.Hints.{lives_hint, miss_hint, small_hint, taken_away, trace_hint};
 
-use crate::asked::Replay;
 use crate::replayed::rows_of;
 use crate::totals::put;
 use segreplay::{CacheTotals, Counts};
+use segtasks::Replay;
 use std::alloc::{AllocError, Global};
 
 fn small_hint(rows: u128) -> &'static [u8]

@@ -7,11 +7,10 @@ ghost use Rattle.segcli.specs.Notes.{letter_note, note_of, note_of_fault, note_o
 ghost use Rattle.segcli.specs.Notes.{shape_note, word_note};
 ghost use Rattle.segcli.specs.Printing.{PrintOutcome, IsPrinted, IsFlushed, WasFlushed};
 
-use crate::asked::{Word, WordKind};
-use crate::command::Task;
 use crate::fault::{ProgramFault, print};
 use crate::trace_note::trace_note;
 use segscript::{Failed, Line, Sink, line_of, put, put_number, write_all};
+use segtasks::{Task, Word, WordKind};
 use segword::ShapeFault;
 
 // The option that has this fault, and its range.

@@ -1,19 +1,19 @@
 //! The program, over the words after its name, or over what was read from them.
 ghost use Rattle.std.specs.Prelude.{◌≡◌, false, map, string_bytes, Result};
 ghost use Rattle.segcli.specs.Streams.{input, output};
-ghost use Rattle.segcli.specs.declared.arguments.Refusal.{Refusal};
-ghost use Rattle.segcli.specs.declared.command.Task.{Task as Asked};
+ghost use Rattle.segtasks.specs.declared.arguments.Refusal.{Refusal};
+ghost use Rattle.segtasks.specs.declared.task.Task.{Task as Asked};
 ghost use Rattle.segcli.specs.Printing.{IsPrinted, IsFlushed};
-ghost use Rattle.segcli.specs.Asked.{IsReadAsCommand};
+ghost use Rattle.segtasks.specs.Asked.{IsReadAsCommand};
 ghost use Rattle.segcli.specs.Program.{refusal_status, refusal_text, ProgramOutcome};
 
-use crate::arguments::{Refusal, read_command};
-use crate::command::{Host, Task, carry_out};
+use crate::command::{Host, carry_out};
 use crate::fault::{ProgramFault, print_after, report};
 use crate::progress::{NoWatch, Watch};
 use crate::status::ExitStatus;
 use crate::streams::Streams;
 use segscript::{Sink, Source};
+use segtasks::{Refusal, Task, read_command};
 use std::alloc::{AllocGlobal, Global};
 use std::sync::Wait;
 use std::thread::Threads;

@@ -4,10 +4,10 @@ ghost use Rattle.std.specs.Prelude.{◌≡◌, ◌*◌, ◌/◌, ◌++◌, max, 
 ghost use Rattle.segload.specs.Words.{lets_all_through};
 ghost use Rattle.segcli.specs.Progress.{progress_text, rate_text, replay_line};
 
-use crate::asked::Replay;
 use crate::totals::{put, put_count};
 use segload::{Gate, Totals};
 use segreplay::{CacheTotals, Follow};
+use segtasks::Replay;
 use std::alloc::{AllocError, Global};
 use std::sync::atomic::{AtomicU64, Ordering};
 

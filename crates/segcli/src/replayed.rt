@@ -5,9 +5,10 @@ ghost use Rattle.segcli.specs.Replayed.{cache_line, cache_object, IsPlanOf, mean
 ghost use Rattle.segcli.specs.Replayed.{point, policies_of, policy_text, rate_part, replay_json};
 ghost use Rattle.segcli.specs.Replayed.{replay_text, rows_of, share, sizes_of};
 
-use crate::asked::{Format, Policies, Replay};
 use crate::totals::{put, put_count};
-use segreplay::{CacheTotals, ReplayPlan, Retention};
+use segreplay::{CacheTotals, ReplayPlan};
+use segtasks::{Format, Policies, Replay};
+use segtraces::Retention;
 use segword::Shape;
 use std::alloc::{AllocError, Global};
 use std::slice;

@@ -2,10 +2,10 @@
 ghost use Rattle.std.specs.Prelude.{◌≡◌, ◌++◌, IfOk};
 ghost use Rattle.segcli.specs.Totals.{pass_line, tallies_text, total_line, totals_text, text_in};
 
-use crate::asked::Format;
 use crate::json::json_of;
 use itoa::{Buffer, Integer};
 use segload::{PassTotals, Tallies, Totals};
+use segtasks::Format;
 use std::alloc::{AllocError, Global};
 
 /// Puts bytes at the end of the text.

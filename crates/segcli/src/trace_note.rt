@@ -2,8 +2,8 @@
 ghost use Rattle.std.specs.Prelude.{◌≡◌, ◌≤◌, length};
 ghost use Rattle.segcli.specs.TraceNotes.{column_note, column_reason, count_note, trace_note};
 
-use segreplay::{Column, TraceLineFault};
 use segscript::{Line, line_of, put, put_number};
+use segtraces::{Column, TraceLineFault};
 
 // What the word of a column isn't.
 fn column_reason(column: Column) -> &'static [u8]

@@ -1,5 +1,6 @@
 //! A client's writes. Those of a `Value` come here too: the bytes of a value go from where they
 //! stand straight into rows.
+ghost use Rattle.std.specs.Prelude.{◌≡◌};
 ghost use Rattle.segindex.specs.Words.{board_of};
 ghost use Rattle.segclient.specs.Member.{IsMember};
 
@@ -8,13 +9,13 @@ use crate::effort::Effort;
 use crate::member::Member;
 use crate::put::{PutAnswer, put_at_last, set_first};
 use crate::segments::Order;
-use segindex::Index;
+use segindex::{Condition, Index};
 use segmodel::WriteAnswer;
 use segword::{Key, ValueBytes};
 
 impl Member {
-    ghost use Rattle.segmodel.specs.declared.request.Request.TheVariants.{Set, Add, Replace, Cas};
-    ghost use Rattle.segwrite.specs.Words.{IsSetAnswer};
+    ghost use Rattle.segwrite.specs.declared.condition.Condition.TheVariants.{Always};
+    ghost use Rattle.segwrite.specs.Words.{IsSetAnswer, request_of};
     ghost use Rattle.segbase.specs.Words.{Pass as BasePass};
     ghost use Rattle.segclient.specs.Made.{EndsPut, EndsWrite, MakesWrite};
     ghost use Rattle.segclient.specs.PutCalls.{IsInWindow};
@@ -22,75 +23,24 @@ impl Member {
     ghost use Rattle.segclient.specs.Puts.{Puts, PutsFor};
     ghost use Rattle.segclient.specs.Tallies.{write_of};
 
-    /// As `Client::set_bytes`.
-    pub fn set_bytes(&mut self, index: &Index, key: &Key, value: &ValueBytes<'_>) -> WriteAnswer
-        requires member { IsMember index.now self.old }
-        ensures member { IsMember index.now self.new }
-        ensures writes { MakesWrite (Set key.now value.now) result
-            (board_of index.now) self.old self.new }
-        ensures set { IsSetAnswer result }
-    {
-        if !self.begin_write(index) {
-            return self.refuse_write(index, key);
-        }
-        let (told, replaced) = index.set_bytes_and_tell(&mut self.pass, key, value, self.clock);
-        self.end_write(index, key, told, replaced);
-        told
-    }
-
-    /// As `Client::add_bytes`.
-    pub fn add_bytes(&mut self, index: &Index, key: &Key, value: &ValueBytes<'_>) -> WriteAnswer
-        requires member { IsMember index.now self.old }
-        ensures member { IsMember index.now self.new }
-        ensures writes { MakesWrite (Add key.now value.now) result
-            (board_of index.now) self.old self.new }
-    {
-        if !self.begin_write(index) {
-            return self.refuse_write(index, key);
-        }
-        let (told, replaced) = index.add_bytes_and_tell(&mut self.pass, key, value, self.clock);
-        self.end_write(index, key, told, replaced);
-        told
-    }
-
-    /// As `Client::replace_bytes`.
-    pub fn replace_bytes(&mut self, index: &Index, key: &Key, value: &ValueBytes<'_>) -> WriteAnswer
-        requires member { IsMember index.now self.old }
-        ensures member { IsMember index.now self.new }
-        ensures writes { MakesWrite (Replace key.now value.now) result
-            (board_of index.now) self.old self.new }
-    {
-        if !self.begin_write(index) {
-            return self.refuse_write(index, key);
-        }
-        let (told, replaced) = index.replace_bytes_and_tell(&mut self.pass, key, value, self.clock);
-        self.end_write(index, key, told, replaced);
-        told
-    }
-
-    /// As `Client::cas_bytes`.
-    pub fn cas_bytes(
+    /// As `Client::write`.
+    pub fn write(
         &mut self,
         index: &Index,
         key: &Key,
         value: &ValueBytes<'_>,
-        expected: u32,
+        condition: Condition,
     ) -> WriteAnswer
         requires member { IsMember index.now self.old }
         ensures member { IsMember index.now self.new }
-        ensures writes { MakesWrite (Cas key.now value.now expected) result
+        ensures writes { MakesWrite (request_of condition key.now value.now) result
             (board_of index.now) self.old self.new }
+        ensures set { condition ≡ Always → IsSetAnswer result }
     {
         if !self.begin_write(index) {
             return self.refuse_write(index, key);
         }
-        let (told, replaced) = index.cas_bytes_and_tell(
-            &mut self.pass,
-            key,
-            value,
-            expected,
-            self.clock,
-        );
+        let (told, replaced) = index.write(&mut self.pass, key, value, condition, self.clock);
         self.end_write(index, key, told, replaced);
         told
     }
@@ -160,45 +110,21 @@ impl Member {
 }
 
 impl<'i> Client<'i> {
-    ghost use Rattle.segmodel.specs.declared.request.Request.TheVariants.{Set, Add, Replace, Cas};
-    ghost use Rattle.segwrite.specs.Words.{IsSetAnswer};
+    ghost use Rattle.segwrite.specs.declared.condition.Condition.TheVariants.{Always};
+    ghost use Rattle.segwrite.specs.Words.{IsSetAnswer, request_of};
     ghost use Rattle.segclient.specs.Client.{MakesCall};
     ghost use Rattle.segclient.specs.Made.{MakesWrite};
     ghost use Rattle.segclient.specs.Puts.{Puts, PutsFor};
 
-    /// Stores the value under the key as `set` does, from where its bytes stand.
+    /// Stores the value under the key, if that is to be, as `set`, `add`, `replace` and `cas` do. The
+    /// bytes of the value go from where they stand straight into a row.
     #[inline(always)]
-    pub fn set_bytes(&mut self, key: &Key, value: &ValueBytes<'_>) -> WriteAnswer
-        ensures writes { MakesCall (MakesWrite (Set key.now value.now) result) self.old self.new }
-        ensures set { IsSetAnswer result }
-    {
-        self.member.set_bytes(self.index, key, value)
-    }
-
-    /// Stores the value as `add` does, from where its bytes stand.
-    #[inline(always)]
-    pub fn add_bytes(&mut self, key: &Key, value: &ValueBytes<'_>) -> WriteAnswer
-        ensures writes { MakesCall (MakesWrite (Add key.now value.now) result) self.old self.new }
-    {
-        self.member.add_bytes(self.index, key, value)
-    }
-
-    /// Stores the value as `replace` does, from where its bytes stand.
-    #[inline(always)]
-    pub fn replace_bytes(&mut self, key: &Key, value: &ValueBytes<'_>) -> WriteAnswer
-        ensures writes { MakesCall (MakesWrite (Replace key.now value.now) result)
+    pub fn write(&mut self, key: &Key, value: &ValueBytes<'_>, condition: Condition) -> WriteAnswer
+        ensures writes { MakesCall (MakesWrite (request_of condition key.now value.now) result)
             self.old self.new }
+        ensures set { condition ≡ Always → IsSetAnswer result }
     {
-        self.member.replace_bytes(self.index, key, value)
-    }
-
-    /// Stores the value as `cas` does, from where its bytes stand.
-    #[inline(always)]
-    pub fn cas_bytes(&mut self, key: &Key, value: &ValueBytes<'_>, expected: u32) -> WriteAnswer
-        ensures writes { MakesCall (MakesWrite (Cas key.now value.now expected) result)
-            self.old self.new }
-    {
-        self.member.cas_bytes(self.index, key, value, expected)
+        self.member.write(self.index, key, value, condition)
     }
 
     /// Stores the value under the key as `put` does, from where its bytes stand.

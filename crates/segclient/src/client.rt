@@ -6,7 +6,7 @@ ghost use Rattle.segclient.specs.Member.{IsMember, IsMember-prop};
 use crate::member::Member;
 use crate::put::PutAnswer;
 use crate::stats::Stats;
-use segindex::{Index, IndexStats, Pass};
+use segindex::{Condition, Index, IndexStats, Pass};
 use segmodel::{DeleteAnswer, GetAnswer, GetsAnswer, WriteAnswer};
 use segword::{Key, Value, ValueBytes};
 use std::alloc::{AllocError, Global};
@@ -112,14 +112,14 @@ impl<'i> Client<'i> {
         ensures writes { MakesCall (MakesWrite (Set key.now value.now) result) self.old self.new }
         ensures set { IsSetAnswer result }
     {
-        self.set_bytes(key, &ValueBytes::of(value))
+        self.write(key, &ValueBytes::of(value), Condition::Always)
     }
 
     /// Stores the value if the key is absent. Otherwise it returns NotStored.
     pub fn add(&mut self, key: &Key, value: &Value) -> WriteAnswer
         ensures writes { MakesCall (MakesWrite (Add key.now value.now) result) self.old self.new }
     {
-        self.add_bytes(key, &ValueBytes::of(value))
+        self.write(key, &ValueBytes::of(value), Condition::IfAbsent)
     }
 
     /// Stores the value if the key is present. Otherwise it returns NotStored.
@@ -127,7 +127,7 @@ impl<'i> Client<'i> {
         ensures writes { MakesCall (MakesWrite (Replace key.now value.now) result)
             self.old self.new }
     {
-        self.replace_bytes(key, &ValueBytes::of(value))
+        self.write(key, &ValueBytes::of(value), Condition::IfPresent)
     }
 
     /// Stores the value if the key is present and its bucket has the expected version.
@@ -136,7 +136,7 @@ impl<'i> Client<'i> {
         ensures writes { MakesCall (MakesWrite (Cas key.now value.now expected) result)
             self.old self.new }
     {
-        self.cas_bytes(key, &ValueBytes::of(value), expected)
+        self.write(key, &ValueBytes::of(value), Condition::IfVersion(expected))
     }
 
     /// Takes the key out.

@@ -32,9 +32,9 @@ pub use member::Member;
 pub use note::{what_a_put_adds, what_is_put_stands, what_room_is_made_for};
 pub use put::PutAnswer;
 pub use segindex::{
-    DeleteAnswer, GetAnswer, GetsAnswer, GetsIntoAnswer, Hold, HoldAnswer, Index, IndexStats,
-    IntoAnswer, Key, MakeFault, Note, OutOfMemory, Pass, RowAnswer, Shape, ShapeFault, Share,
-    Value, ValueBytes, WriteAnswer, hold_stays,
+    Condition, DeleteAnswer, GetAnswer, GetsAnswer, GetsIntoAnswer, Hold, HoldAnswer, Index,
+    IndexStats, IntoAnswer, Key, MakeFault, Note, OutOfMemory, Pass, RowAnswer, Shape, ShapeFault,
+    Share, Value, ValueBytes, WriteAnswer, hold_stays,
 };
 pub use segtally::{Tally, evicted_by, own_ring, refilled_by};
 pub use stats::Stats;

@@ -19,7 +19,7 @@ use crate::effort::Effort;
 use crate::making::make_room_for;
 use crate::rows::has_room;
 use crate::segments::{Order, Segments};
-use segindex::{Index, Pass, RowRef};
+use segindex::{Condition, Index, Pass, RowRef};
 use segmodel::WriteAnswer;
 
 /// The answer to a put.
@@ -67,10 +67,11 @@ fn set_once(
     ensures writes { Writes (board_of index.now) (request_of order.entry) result pass.old pass.new }
     ensures set { IsSetAnswer result }
 {
-    let (told, before) = index.set_bytes_and_tell(
+    let (told, before) = index.write(
         pass,
         order.key,
         order.value,
+        Condition::Always,
         order.policy.moment,
     );
     *replaced = before;

@@ -25,3 +25,4 @@ pub mod Linear
 pub mod LinearFacts
 pub mod LeavesFacts
 pub mod Looking
+pub mod InRoom

@@ -38,5 +38,6 @@ pub use segmodel::{
 pub use segread::{GetsIntoAnswer, Hold, HoldAnswer, IntoAnswer, RowAnswer, hold_stays};
 pub use segstore::{LockAnswer, RowRef};
 pub use segword::{Key, Shape, ShapeFault, Value, ValueBytes};
+pub use segwrite::Condition;
 pub use share::Share;
 pub use table_stats::IndexStats;

@@ -1,9 +1,11 @@
 //! The calls that read values and hold items. None of them sets a bucket's bit.
+ghost use Rattle.std.specs.Prelude.{◌≡◌, ◌≤◌, take};
+
 use crate::index::Index;
 use segbase::Pass;
 use segmodel::{GetAnswer, GetsAnswer};
-use segread::{GetsIntoAnswer, Hold, HoldAnswer, IntoAnswer};
-use segword::{Key, Value};
+use segread::{GetsIntoAnswer, Hold, HoldAnswer, IntoAnswer, never_short};
+use segword::{Key, VALUE_BYTES, Value};
 
 impl Index {
     ghost use Rattle.segstore.specs.Words.{IsQuiet};
@@ -18,7 +20,15 @@ impl Index {
         requires pass { IsQuiet (board_of self.now) pass.old }
         ensures reads { ReadsKey (board_of self.now) key.now draw now result pass.old pass.new }
     {
-        segread::get(&self.board, pass, key, draw, now)
+        let mut room = [0; VALUE_BYTES];
+        never_short();
+        let told = self.get_into(pass, key, draw, now, &mut room);
+        match told {
+            IntoAnswer::Found(length) => GetAnswer::Found(value_of(&room, length)),
+            IntoAnswer::Short(_) => unreachable!(),
+            IntoAnswer::Miss => GetAnswer::Miss,
+            IntoAnswer::Busy => GetAnswer::Busy,
+        }
     }
 
     /// The value under a key at a moment, as `get` reads it, but it goes to the front of a buffer.
@@ -48,7 +58,17 @@ impl Index {
         ensures reads { ReadsVersion (board_of self.now) key.now draw now result
             pass.old pass.new }
     {
-        segread::gets(&self.board, pass, key, draw, now)
+        let mut room = [0; VALUE_BYTES];
+        never_short();
+        let told = self.gets_into(pass, key, draw, now, &mut room);
+        match told {
+            GetsIntoAnswer::Found(length, version) => {
+                GetsAnswer::Found(value_of(&room, length), version)
+            }
+            GetsIntoAnswer::Short(..) => unreachable!(),
+            GetsIntoAnswer::Miss => GetsAnswer::Miss,
+            GetsIntoAnswer::Busy => GetsAnswer::Busy,
+        }
     }
 
     /// The value under a key with the version of its bucket, as `gets` reads them, but the value goes
@@ -85,7 +105,13 @@ impl Index {
         requires hold { IsHoldOf (shape_of self.now) hold.now pass.old }
         ensures reads { ReadsHeld (board_of self.now) hold.now result pass.old pass.new }
     {
-        segread::held_value(&self.board, pass, hold)
+        let mut room = [0; VALUE_BYTES];
+        never_short();
+        let told = self.held_into(pass, hold, &mut room);
+        match told {
+            Ok(length) => value_of(&room, length),
+            Err(_) => unreachable!(),
+        }
     }
 
     /// The value that is held goes to the front of a buffer. Returns its length: as an error if the
@@ -113,4 +139,13 @@ impl Index {
     {
         segread::release(&self.board, pass, hold);
     }
+}
+
+// The value at the front of a buffer.
+#[inline(always)]
+pub(crate) fn value_of(room: &[u8; VALUE_BYTES], length: usize) -> Value
+    requires fits { length ≤ VALUE_BYTES }
+    ensures value { result ≡ take length room.now }
+{
+    Value::new(&room[..length]).unwrap()
 }

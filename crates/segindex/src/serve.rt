@@ -20,7 +20,7 @@ impl Index {
             result pass.old pass.new }
     {
         match command {
-            Command::Write(request) => self.write(pass, request),
+            Command::Write(request) => self.serve_request(pass, request),
             Command::Get(key, now) => Answer::Get(self.get(pass, key, draw, *now)),
             Command::Gets(key, now) => Answer::Gets(self.gets(pass, key, draw, *now)),
             Command::Keep(segment, cutoff) => Answer::Keep(self.keep(pass, *segment, *cutoff)),
@@ -32,7 +32,7 @@ impl Index {
     }
 
     // Makes the call that a request names. No request depends on a draw.
-    fn write(&self, pass: &mut Pass, request: &Request) -> Answer
+    fn serve_request(&self, pass: &mut Pass, request: &Request) -> Answer
         requires quiet { IsQuiet (board_of self.now) pass.old }
         ensures on { GoesOn (board_of self.now) pass.old pass.new }
         ensures answers { (draw : ℕ) → AnswersCommand (board_of self.now) (Write request.now) draw

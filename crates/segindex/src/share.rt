@@ -6,9 +6,10 @@ ghost use Rattle.segindex.specs.Index.{board_of, shape_of};
 ghost use Rattle.segindex.specs.Sharing.{ReadsKept, ReadsKeptInto, ReleasesKept};
 
 use crate::index::Index;
+use crate::read::value_of;
 use segbase::Pass;
-use segread::{HeldRow, RowAnswer};
-use segword::{Key, Value};
+use segread::{HeldRow, RowAnswer, never_short};
+use segword::{Key, VALUE_BYTES, Value};
 use std::alloc::Global;
 use std::sync::Arc;
 
@@ -58,7 +59,13 @@ impl Share {
             pass.old pass.new }
     {
         let row = self.held.as_ref()?;
-        Some(segread::row_value(&self.index.board, pass, row))
+        let mut room = [0; VALUE_BYTES];
+        never_short();
+        let told = segread::row_into(&self.index.board, pass, row, &mut room);
+        match told {
+            Ok(length) => Some(value_of(&room, length)),
+            Err(_) => unreachable!(),
+        }
     }
 
     /// The value that is held, as `held_value` reads it, but it goes to the front of a buffer.

@@ -1,4 +1,5 @@
 //! The calls that store a value or take out a key.
+ghost use Rattle.std.specs.Prelude.{◌≡◌};
 ghost use Rattle.segword.specs.Words.{IsWithin};
 ghost use Rattle.segmodel.specs.declared.request.Request.TheVariants.{Set, Add, Replace, Cas};
 
@@ -7,10 +8,12 @@ use segbase::Pass;
 use segmodel::{DeleteAnswer, WriteAnswer};
 use segstore::RowRef;
 use segword::{Key, Value, ValueBytes};
+use segwrite::Condition;
 
 impl Index {
     ghost use Rattle.segstore.specs.Words.{IsQuiet};
-    ghost use Rattle.segwrite.specs.Words.{Deletes, IsSetAnswer, Writes};
+    ghost use Rattle.segwrite.specs.Words.{Deletes, IsSetAnswer, request_of, Writes};
+    ghost use Rattle.segwrite.specs.declared.condition.Condition.TheVariants.{Always};
     ghost use Rattle.segindex.specs.Index.{board_of};
 
     /// Stores the value under the key.
@@ -20,44 +23,8 @@ impl Index {
             pass.old pass.new }
         ensures set { IsSetAnswer result }
     {
-        self.takes(key, value);
-        segwrite::set(&self.board, pass, key, value, now)
-    }
-
-    /// The same, from where the value's bytes stand: they go straight into the words of the row.
-    pub fn set_bytes(
-        &self,
-        pass: &mut Pass,
-        key: &Key,
-        value: &ValueBytes<'_>,
-        now: u32,
-    ) -> WriteAnswer
-        requires quiet { IsQuiet (board_of self.now) pass.old }
-        ensures writes { Writes (board_of self.now) (Set key.now value.now now) result
-            pass.old pass.new }
-        ensures set { IsSetAnswer result }
-    {
-        self.takes_bytes(key, value);
-        segwrite::set_bytes(&self.board, pass, key, value, now)
-    }
-
-    /// Stores the value under the key as `set_bytes` does, and tells which row the key had before.
-    /// No contract says what the second part is.
-    #[inline(always)]
-    pub fn set_bytes_and_tell(
-        &self,
-        pass: &mut Pass,
-        key: &Key,
-        value: &ValueBytes<'_>,
-        now: u32,
-    ) -> (WriteAnswer, Option<RowRef>)
-        requires quiet { IsQuiet (board_of self.now) pass.old }
-        ensures writes { Writes (board_of self.now) (Set key.now value.now now) result.0
-            pass.old pass.new }
-        ensures set { IsSetAnswer result.0 }
-    {
-        self.takes_bytes(key, value);
-        segwrite::set_bytes_and_tell(&self.board, pass, key, value, now)
+        self.write(pass, key, &ValueBytes::of(value), Condition::Always, now)
+            .0
     }
 
     /// Stores the value if the key is absent. Otherwise it returns NotStored.
@@ -66,41 +33,8 @@ impl Index {
         ensures writes { Writes (board_of self.now) (Add key.now value.now now) result
             pass.old pass.new }
     {
-        self.takes(key, value);
-        segwrite::add(&self.board, pass, key, value, now)
-    }
-
-    /// The same, from where the value's bytes stand.
-    pub fn add_bytes(
-        &self,
-        pass: &mut Pass,
-        key: &Key,
-        value: &ValueBytes<'_>,
-        now: u32,
-    ) -> WriteAnswer
-        requires quiet { IsQuiet (board_of self.now) pass.old }
-        ensures writes { Writes (board_of self.now) (Add key.now value.now now) result
-            pass.old pass.new }
-    {
-        self.takes_bytes(key, value);
-        segwrite::add_bytes(&self.board, pass, key, value, now)
-    }
-
-    /// The same, and it tells which row the key had before, as `set_bytes_and_tell` does.
-    #[inline(always)]
-    pub fn add_bytes_and_tell(
-        &self,
-        pass: &mut Pass,
-        key: &Key,
-        value: &ValueBytes<'_>,
-        now: u32,
-    ) -> (WriteAnswer, Option<RowRef>)
-        requires quiet { IsQuiet (board_of self.now) pass.old }
-        ensures writes { Writes (board_of self.now) (Add key.now value.now now) result.0
-            pass.old pass.new }
-    {
-        self.takes_bytes(key, value);
-        segwrite::add_bytes_and_tell(&self.board, pass, key, value, now)
+        self.write(pass, key, &ValueBytes::of(value), Condition::IfAbsent, now)
+            .0
     }
 
     /// Stores the value if the key is present. Otherwise it returns NotStored.
@@ -109,41 +43,8 @@ impl Index {
         ensures writes { Writes (board_of self.now) (Replace key.now value.now now) result
             pass.old pass.new }
     {
-        self.takes(key, value);
-        segwrite::replace(&self.board, pass, key, value, now)
-    }
-
-    /// The same, from where the value's bytes stand.
-    pub fn replace_bytes(
-        &self,
-        pass: &mut Pass,
-        key: &Key,
-        value: &ValueBytes<'_>,
-        now: u32,
-    ) -> WriteAnswer
-        requires quiet { IsQuiet (board_of self.now) pass.old }
-        ensures writes { Writes (board_of self.now) (Replace key.now value.now now) result
-            pass.old pass.new }
-    {
-        self.takes_bytes(key, value);
-        segwrite::replace_bytes(&self.board, pass, key, value, now)
-    }
-
-    /// The same, and it tells which row the key had before, as `set_bytes_and_tell` does.
-    #[inline(always)]
-    pub fn replace_bytes_and_tell(
-        &self,
-        pass: &mut Pass,
-        key: &Key,
-        value: &ValueBytes<'_>,
-        now: u32,
-    ) -> (WriteAnswer, Option<RowRef>)
-        requires quiet { IsQuiet (board_of self.now) pass.old }
-        ensures writes { Writes (board_of self.now) (Replace key.now value.now now) result.0
-            pass.old pass.new }
-    {
-        self.takes_bytes(key, value);
-        segwrite::replace_bytes_and_tell(&self.board, pass, key, value, now)
+        self.write(pass, key, &ValueBytes::of(value), Condition::IfPresent, now)
+            .0
     }
 
     /// Stores the value if the key is present and its bucket has the expected version.
@@ -160,43 +61,35 @@ impl Index {
         ensures writes { Writes (board_of self.now) (Cas key.now value.now expected now) result
             pass.old pass.new }
     {
-        self.takes(key, value);
-        segwrite::cas(&self.board, pass, key, value, expected, now)
+        self.write(
+            pass,
+            key,
+            &ValueBytes::of(value),
+            Condition::IfVersion(expected),
+            now,
+        )
+        .0
     }
 
-    /// The same, from where the value's bytes stand.
-    pub fn cas_bytes(
-        &self,
-        pass: &mut Pass,
-        key: &Key,
-        value: &ValueBytes<'_>,
-        expected: u32,
-        now: u32,
-    ) -> WriteAnswer
-        requires quiet { IsQuiet (board_of self.now) pass.old }
-        ensures writes { Writes (board_of self.now) (Cas key.now value.now expected now) result
-            pass.old pass.new }
-    {
-        self.takes_bytes(key, value);
-        segwrite::cas_bytes(&self.board, pass, key, value, expected, now)
-    }
-
-    /// The same, and it tells which row the key had before, as `set_bytes_and_tell` does.
+    /// Stores the value under the key, if that is to be, as `set`, `add`, `replace` and `cas` do. The
+    /// bytes of the value go from where they stand into the words of its row. It tells which row the
+    /// key had before, of which no contract says anything.
     #[inline(always)]
-    pub fn cas_bytes_and_tell(
+    pub fn write(
         &self,
         pass: &mut Pass,
         key: &Key,
         value: &ValueBytes<'_>,
-        expected: u32,
+        condition: Condition,
         now: u32,
     ) -> (WriteAnswer, Option<RowRef>)
         requires quiet { IsQuiet (board_of self.now) pass.old }
-        ensures writes { Writes (board_of self.now) (Cas key.now value.now expected now) result.0
-            pass.old pass.new }
+        ensures writes { Writes (board_of self.now) (request_of condition key.now value.now now)
+            result.0 pass.old pass.new }
+        ensures set { condition ≡ Always → IsSetAnswer result.0 }
     {
-        self.takes_bytes(key, value);
-        segwrite::cas_bytes_and_tell(&self.board, pass, key, value, expected, now)
+        self.takes(key, value);
+        segwrite::write(&self.board, pass, key, value, condition, now)
     }
 
     /// Takes the key out. A delete needs no row.
@@ -204,7 +97,7 @@ impl Index {
         requires quiet { IsQuiet (board_of self.now) pass.old }
         ensures deletes { Deletes (board_of self.now) key.now now result pass.old pass.new }
     {
-        segwrite::delete(&self.board, pass, key, now)
+        self.delete_and_tell(pass, key, now).0
     }
 
     /// Takes the key out as `delete` does, and tells which row the key had before.
@@ -219,20 +112,12 @@ impl Index {
         requires quiet { IsQuiet (board_of self.now) pass.old }
         ensures deletes { Deletes (board_of self.now) key.now now result.0 pass.old pass.new }
     {
-        segwrite::delete_and_tell(&self.board, pass, key, now)
+        segwrite::delete(&self.board, pass, key, now)
     }
 
     // The limits of the index are those of the longest keys and values.
     #[inline(always)]
-    fn takes(&self, key: &Key, value: &Value)
-        ensures { IsWithin (board_of self.now).limits key.now value.now }
-    {
-        let _lengths = key.as_bytes().len() + value.as_bytes().len();
-    }
-
-    // The same of a value in place.
-    #[inline(always)]
-    fn takes_bytes(&self, key: &Key, value: &ValueBytes<'_>)
+    fn takes(&self, key: &Key, value: &ValueBytes<'_>)
         ensures { IsWithin (board_of self.now).limits key.now value.now }
     {
         let _lengths = key.as_bytes().len() + value.len();

@@ -22,7 +22,7 @@ use Rattle.segread.specs.Reads.{ReadsKey}
 
 -- ---- a get
 
-found_fits : (b : Board) (key : List ℕ) (draw now : ℕ) (value : List ℕ) (p q : Pass) → ReadsKey b key draw now (get.Found value) p q → length value ≤ b.limits.value
+pub found_fits : (b : Board) (key : List ℕ) (draw now : ℕ) (value : List ℕ) (p q : Pass) → ReadsKey b key draw now (get.Found value) p q → length value ≤ b.limits.value
 found_fits b key draw now value p q r =
     let at = r.answer.2 in
     (reads_within b.shape b.limits at.0 now key value (began_within b.limits at.0 (seen (trace q)) at.1.1 r.on.quiet.pass.within) at.2).1
@@ -59,7 +59,7 @@ without_version : (version : ℕ) (o : Option Cached) (value : List ℕ) (n : �
 without_version version None value n is = absurd (none-some _ is)
 without_version version (Some x) value n is = ap (λ (y : List ℕ × ℕ). Some y.0) (same_Some (versioned version x) (value, n) is)
 
-version_fits : (b : Board) (key : List ℕ) (draw now : ℕ) (value : List ℕ) (version : ℕ) (p q : Pass) → ReadsVersion b key draw now (gets.Found value version) p q → length value ≤ b.limits.value
+pub version_fits : (b : Board) (key : List ℕ) (draw now : ℕ) (value : List ℕ) (version : ℕ) (p q : Pass) → ReadsVersion b key draw now (gets.Found value version) p q → length value ≤ b.limits.value
 version_fits b key draw now value version p q r =
     let at = r.answer.2 in let cache = after b.shape at.0 in
     let is : reads cache now key ≡ Some value = without_version (cache.version (bucket_of b.shape key)) (present cache now key) value version at.2 in
@@ -93,7 +93,7 @@ same_held : (o : Option Held) (held : Held) (value : List ℕ) → o ≡ Some he
 same_held None held value is told = absurd (none-some held is)
 same_held (Some x) held value is told = told ∙ ap (λ (y : Held). y.value) (same_Some x held is)
 
-held_fits : (b : Board) (row : HeldRow) (value : List ℕ) (p q : Pass) → ReadsRow b row value p q → length value ≤ b.limits.value
+pub held_fits : (b : Board) (row : HeldRow) (value : List ℕ) (p q : Pass) → ReadsRow b row value p q → length value ≤ b.limits.value
 held_fits b row value p q r =
     let held = r.hold.held in let stood = r.on.quiet.pass.minds.holding held r.hold.holds in
     let within = began_within b.limits (seen held.trace) (seen (trace q)) (seen_begins held.trace (trace q) stood.past) r.on.quiet.pass.within in

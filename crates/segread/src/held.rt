@@ -8,14 +8,14 @@ ghost use Rattle.segword.specs.declared.shape.Shape.{Shape};
 ghost use Rattle.segbase.specs.declared.board.Board.{Board};
 ghost use Rattle.segread.specs.declared.held.Hold.{Hold};
 ghost use Rattle.segstore.specs.Words.{IsQuiet};
-ghost use Rattle.segread.specs.Holds.{IsHeldRow, IsHoldOf, IsRowOf, HoldsItem, ReadsHeld};
-ghost use Rattle.segread.specs.Holds.{ReadsRow, ReleasesHold, SetsHold};
+ghost use Rattle.segread.specs.Holds.{IsHeldRow, IsHoldOf, IsRowOf, HoldsItem, ReleasesHold};
+ghost use Rattle.segread.specs.Holds.{SetsHold};
 ghost use Rattle.segread.specs.Rows.{HoldsRow, IsKept};
 
 use crate::scan::{Scan, scan_for};
 use segbase::{Board, Pass};
-use segstore::{leave_segment, value_of_pair};
-use segword::{Key, Value};
+use segstore::leave_segment;
+use segword::Key;
 
 /// The row of an item that a pass holds. It has to be released, with the pass that holds the item.
 /// No call makes one of a `Hold`, which borrows the index.
@@ -80,15 +80,6 @@ pub fn hold_item<'i>(board: &'i Board, pass: &mut Pass, key: &Key, now: u32) -> 
     }
 }
 
-/// The value that is held: the one that stood under the key at the moment of the hold.
-pub fn held_value(board: &Board, pass: &mut Pass, hold: &Hold<'_>) -> Value
-    requires pass { IsQuiet board.now pass.old }
-    requires hold { IsHoldOf board.now.shape hold.now pass.old }
-    ensures reads { ReadsHeld board.now hold.now result pass.old pass.new }
-{
-    row_value(board, pass, &hold.row)
-}
-
 /// Ends a hold. Until then the segment wasn't filled again.
 pub fn release(board: &Board, pass: &mut Pass, hold: Hold<'_>)
     requires pass { IsQuiet board.now pass.old }
@@ -125,16 +116,6 @@ pub fn hold_row(
         HoldAnswer::Busy => RowAnswer::Busy,
         HoldAnswer::AlreadyHolding => RowAnswer::AlreadyHolding,
     }
-}
-
-/// The value in a row that is held.
-pub fn row_value(board: &Board, pass: &mut Pass, row: &HeldRow) -> Value
-    requires pass { IsQuiet board.now pass.old }
-    requires row { IsHeldRow board.now.shape row.now pass.old }
-    ensures reads { ReadsRow board.now row.now result pass.old pass.new }
-{
-    let header = board.row_load(pass, row.segment, row.row, 0);
-    value_of_pair(board, pass, row.segment, row.row, header)
 }
 
 /// Ends the hold of a row. Until then the segment wasn't filled again.

@@ -1,4 +1,5 @@
-//! Values read without any bit, straight into the bytes of a caller.
+//! Values read without any bit: they go from the words of their rows straight into the bytes of a
+//! caller.
 ghost use Rattle.std.specs.Prelude.{◌≡◌};
 ghost use Rattle.segstore.specs.Words.{IsQuiet};
 ghost use Rattle.segread.specs.Holds.{IsHeldRow, IsHoldOf};
@@ -6,7 +7,7 @@ ghost use Rattle.segread.specs.Into.{ReadsHeldInto, ReadsInto, ReadsRowInto, Rea
 ghost use Rattle.segread.specs.Into.{told_of, told_with};
 
 use crate::held::{HeldRow, Hold};
-use crate::read::count_hit;
+use crate::hit::count_hit;
 use crate::scan::{Scan, scan_for};
 use crate::version::{Versioned, version_for};
 use segbase::{Board, Pass};
@@ -38,8 +39,9 @@ pub enum GetsIntoAnswer {
     Busy,
 }
 
-/// The value under a key at a moment, as `get` reads it, but it goes into a buffer.
-/// The bytes go there from the words of the row, and what is behind them stays as it was.
+/// The value under a key at a moment goes to the front of a buffer, from the words of its row. What is
+/// behind it stays as it was. From the deadline of the key's segment on it is a Miss.
+/// A hit raises the frequency of the key's item if the draw, a random number, counts.
 #[inline(always)]
 pub fn get_into(
     board: &Board,
@@ -84,9 +86,10 @@ fn told_of(copied: Result<usize, usize>) -> IntoAnswer
     }
 }
 
-/// The value under a key with the version of the key's bucket, as `gets` reads them at a moment,
-/// but the value goes into a buffer. The bytes go there from the words of the row, once it is known
-/// that value and version are of one moment. What is behind them stays as it was.
+/// The value under a key at a moment with the version of the key's bucket, for a later
+/// compare-and-swap. The value goes into a buffer as of `get_into`, once it is known that value and
+/// version are of one moment.
+/// It is Busy if the pass itself has the bucket locked and the key is present.
 #[inline(always)]
 pub fn gets_into(
     board: &Board,

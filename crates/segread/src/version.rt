@@ -1,4 +1,4 @@
-//! Values with the version of their bucket, both of one moment, and both read without any bit.
+//! Items with the version of their bucket, both of one moment, and both found without any bit.
 ghost use Rattle.std.specs.Prelude.{◌≡◌, ◌≢◌, ℕ, ◌^◌, ◌<◌, Some};
 ghost use Rattle.segmodel.specs.Words.{bucket_of};
 ghost use Rattle.segbase.specs.Words.{IsPassOf, locked_of, trace};
@@ -7,14 +7,12 @@ ghost use Rattle.segread.specs.declared.scan.Hit.{Hit};
 ghost use Rattle.segread.specs.declared.version.Versioned.TheVariants as versioned;
 ghost use Rattle.segread.specs.Scanning.{IsPlaceOf};
 ghost use Rattle.segread.specs.Looking.{AfterLook};
-ghost use Rattle.segread.specs.Gets.{ReadsVersion, HasNoBit, Attempted, FindsVersion, Sees};
+ghost use Rattle.segread.specs.Gets.{HasNoBit, Attempted, FindsVersion, Sees};
 ghost use Rattle.segread.specs.Gets.{left_of_version, Strides, StridesTo, StridesToSight};
 
-use crate::read::count_hit;
 use crate::scan::{Hit, Scan, item_of_tag, scan_for, scan_from};
 use segbase::{Board, Pass, Place};
-use segmodel::GetsAnswer;
-use segstore::{Sought, TRIES, leave_segment, next_place, value_of_pair};
+use segstore::{Sought, TRIES, leave_segment, next_place};
 use segword::{Info, Key, same_item};
 
 // A gets: what it looks for, and its clock.
@@ -55,26 +53,6 @@ enum Attempt {
     // The bit was set, or another word stood in the item's place. The next scan begins at this place,
     // with this many tries counted.
     GoesOn { place: Place, tries: u32 },
-}
-
-/// The value under a key at a moment with the version of the key's bucket,
-/// for a later compare-and-swap.
-/// It is Busy if the pass itself has the bucket locked and the key is present.
-/// A hit raises the frequency of the key's item if the draw, a random number, counts.
-pub fn gets(board: &Board, pass: &mut Pass, key: &Key, draw: u32, now: u32) -> GetsAnswer
-    requires pass { IsQuiet board.now pass.old }
-    ensures reads { ReadsVersion board.now key.now draw now result pass.old pass.new }
-{
-    match version_for(board, pass, key, now) {
-        Versioned::Found { hit, version } => {
-            let value = value_of_pair(board, pass, hit.item.seg, hit.item.row, hit.header);
-            count_hit(board, pass, hit.place, hit.item, draw);
-            leave_segment(board, pass, hit.item.seg);
-            GetsAnswer::Found(value, version)
-        }
-        Versioned::Miss => GetsAnswer::Miss,
-        Versioned::Busy => GetsAnswer::Busy,
-    }
 }
 
 // Looks for a key and its version, as a gets does.

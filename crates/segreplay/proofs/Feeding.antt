@@ -7,18 +7,18 @@ use Rattle.segscript.specs.Script.{ended, Splits}
 use Rattle.segscript.proofs.LineLemmas.{IsLine-append, Splits-byte, Splits-end}
 use Rattle.segreplay.specs.declared.fault.TraceFault.{TraceFault}
 use Rattle.segreplay.specs.declared.fault.TraceFault.TheVariants as fault
-use Rattle.segreplay.specs.declared.line.Columns.{Columns}
-use Rattle.segreplay.specs.declared.line.Form.{Form}
-use Rattle.segreplay.specs.declared.line.Form.TheVariants as form
-use Rattle.segreplay.specs.declared.line.Stated.{Stated}
-use Rattle.segreplay.specs.declared.line.Stated.TheVariants as states
-use Rattle.segreplay.specs.declared.line.TraceCommand.{TraceCommand}
-use Rattle.segreplay.specs.declared.line.TraceLineFault.{TraceLineFault}
-use Rattle.segreplay.specs.declared.line.TraceLineFault.TheVariants as line_fault
+use Rattle.segtraces.specs.declared.line.Columns.{Columns}
+use Rattle.segtraces.specs.declared.line.Form.{Form}
+use Rattle.segtraces.specs.declared.line.Form.TheVariants as form
+use Rattle.segtraces.specs.declared.line.Stated.{Stated}
+use Rattle.segtraces.specs.declared.line.Stated.TheVariants as states
+use Rattle.segtraces.specs.declared.line.TraceCommand.{TraceCommand}
+use Rattle.segtraces.specs.declared.line.TraceLineFault.{TraceLineFault}
+use Rattle.segtraces.specs.declared.line.TraceLineFault.TheVariants as line_fault
 use Rattle.segreplay.specs.declared.player.Assignment.{Assignment}
 use Rattle.segreplay.specs.declared.reading.Rules.{Rules}
 use Rattle.segreplay.specs.declared.reading.TracePosition.{TracePosition}
-use Rattle.segreplay.specs.Lines.{form_after, stated}
+use Rattle.segtraces.specs.Lines.{form_after, stated}
 use Rattle.segreplay.specs.Replays.{is_read_end}
 use Rattle.segreplay.specs.Traces.{EndsBad, EndsEarly, EndsForMemory, EndsTrace, Feeds, HasEnded, HasRead, IsBad, IsShort, line_after, number_after, requests_in, State, TakesCommand, TakesLine, TakesStated, turn_of, turns_from}
 

@@ -7,8 +7,8 @@ use Rattle.std.proofs.lemmas.Bool.{and_parts}
 use Rattle.std.proofs.lemmas.List.Sums.{suffix_len_is}
 use Rattle.segscript.proofs.Numbers.{below_decimal, digits_of_decimal}
 use Rattle.segreplay.specs.Laws.{IsPlain}
-use Rattle.segreplay.specs.Words.{lasting, moment_named, moment_of, number_named, shown, trimmed, whole_named, without_end}
-use Rattle.segreplay.proofs.Wholes.{NoPoint, whole_alone}
+use Rattle.segtraces.specs.Words.{lasting, moment_named, moment_of, number_named, shown, trimmed, whole_named, without_end}
+use Rattle.segtraces.proofs.Wholes.{NoPoint, whole_alone}
 
 -- ---- white space
 

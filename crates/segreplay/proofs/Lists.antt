@@ -5,8 +5,8 @@ use Rattle.std.proofs.Math.Seq.{drop-length}
 use Rattle.std.specs.List.{AllZip}
 use Rattle.segword.specs.Words.{Shape}
 use Rattle.segreplay.specs.declared.cache.CacheConfig.{CacheConfig}
-use Rattle.segreplay.specs.declared.cache.Retention.{Retention}
-use Rattle.segreplay.specs.declared.cache.Retention.TheVariants as policy
+use Rattle.segtraces.specs.declared.retention.Retention.{Retention}
+use Rattle.segtraces.specs.declared.retention.Retention.TheVariants as policy
 use Rattle.segreplay.specs.declared.cache.Dealt.{Dealt}
 use Rattle.segreplay.specs.Caches.{caches_in, half_of, sizes_of}
 use Rattle.segreplay.specs.declared.lives.Lives.{Lives}

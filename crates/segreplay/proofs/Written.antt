@@ -7,22 +7,22 @@ use Rattle.segword.specs.declared.key.TheConstants.{KEY_BYTES}
 use Rattle.segword.specs.Fnv.{hash_of}
 use Rattle.segscript.specs.Script.{ended, IsLine}
 use Rattle.segreplay.specs.declared.fault.TraceFault.TheVariants as fault
-use Rattle.segreplay.specs.declared.line.Columns.{Columns}
-use Rattle.segreplay.specs.declared.line.Form.{Form}
-use Rattle.segreplay.specs.declared.line.Form.TheVariants as form
-use Rattle.segreplay.specs.declared.line.Operation.{Operation}
-use Rattle.segreplay.specs.declared.line.Operation.TheVariants as verb
-use Rattle.segreplay.specs.declared.line.Stated.{Stated}
-use Rattle.segreplay.specs.declared.line.Stated.TheVariants as states
-use Rattle.segreplay.specs.declared.line.TraceCommand.{TraceCommand}
-use Rattle.segreplay.specs.declared.line.TraceLineFault.{TraceLineFault}
-use Rattle.segreplay.specs.declared.line.TraceLineFault.TheVariants as line_fault
+use Rattle.segtraces.specs.declared.line.Columns.{Columns}
+use Rattle.segtraces.specs.declared.line.Form.{Form}
+use Rattle.segtraces.specs.declared.line.Form.TheVariants as form
+use Rattle.segtraces.specs.declared.line.Operation.{Operation}
+use Rattle.segtraces.specs.declared.line.Operation.TheVariants as verb
+use Rattle.segtraces.specs.declared.line.Stated.{Stated}
+use Rattle.segtraces.specs.declared.line.Stated.TheVariants as states
+use Rattle.segtraces.specs.declared.line.TraceCommand.{TraceCommand}
+use Rattle.segtraces.specs.declared.line.TraceLineFault.{TraceLineFault}
+use Rattle.segtraces.specs.declared.line.TraceLineFault.TheVariants as line_fault
 use Rattle.segreplay.specs.declared.player.Assignment.{Assignment}
 use Rattle.segreplay.specs.declared.reading.Rules.{Rules}
 use Rattle.segreplay.specs.Laws.{BytesSayTheTurns, FaultedIsABeginning, header, header_columns, HeadedIsRead, IsAt, IsSizeAt, WriteLines, WritesFields, WritesLine, WrittenIsRead, word_of}
-use Rattle.segreplay.specs.Lines.{columns_of, faulted as faulted_in, field_at, fields_of, fields_stated, form_after, header_in, life_at, moment_at, request_at, request_of, separator, size_at, stated, stated_or, verb_at}
+use Rattle.segtraces.specs.Lines.{columns_of, faulted as faulted_in, field_at, fields_of, fields_stated, form_after, header_in, life_at, moment_at, request_at, request_of, separator, size_at, stated, stated_or, verb_at}
 use Rattle.segreplay.specs.Traces.{EndsEarly, EndsTrace, EndsWhole, number_after, requests_in, State, turns_from}
-use Rattle.segreplay.specs.Words.{key_named, lasting, moment_named, number_named, verb_named}
+use Rattle.segtraces.specs.Words.{key_named, lasting, moment_named, number_named, verb_named}
 use Rattle.segreplay.proofs.Feeding.{turns_more}
 use Rattle.segreplay.proofs.Fields.{life_decimal, moment_decimal, number_decimal, plain_field, trimmed_plain}
 

@@ -10,8 +10,8 @@ use Rattle.segclient.specs.Client.{MakesCall, Starts}
 use Rattle.segclient.specs.Member.{SetsCutoff}
 use Rattle.segreplay.specs.declared.cache.CacheConfig.{CacheConfig}
 use Rattle.segreplay.specs.declared.cache.Dealt.{Dealt}
-use Rattle.segreplay.specs.declared.cache.Retention.{Retention}
-use Rattle.segreplay.specs.declared.cache.Retention.TheVariants as policy
+use Rattle.segtraces.specs.declared.retention.Retention.{Retention}
+use Rattle.segtraces.specs.declared.retention.Retention.TheVariants as policy
 use Rattle.segreplay.specs.declared.counts.Counts.{Counts}
 use Rattle.segreplay.specs.declared.fault.ReplayFault.{ReplayFault}
 use Rattle.segreplay.specs.declared.fault.ReplayFault.TheVariants as fault

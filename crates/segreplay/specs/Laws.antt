@@ -8,15 +8,15 @@ use Rattle.std.specs.List.{flat_map, AllByRecursion}
 use Rattle.segword.specs.declared.key.TheConstants.{KEY_BYTES}
 use Rattle.segscript.specs.Script.{ended, IsLine}
 use Rattle.segreplay.specs.declared.fault.TraceFault.{TraceFault}
-use Rattle.segreplay.specs.declared.line.Columns.{Columns}
-use Rattle.segreplay.specs.declared.line.Form.{Form}
-use Rattle.segreplay.specs.declared.line.Form.TheVariants as form
-use Rattle.segreplay.specs.declared.line.Operation.{Operation}
-use Rattle.segreplay.specs.declared.line.Operation.TheVariants as verb
-use Rattle.segreplay.specs.declared.line.TraceCommand.{TraceCommand}
+use Rattle.segtraces.specs.declared.line.Columns.{Columns}
+use Rattle.segtraces.specs.declared.line.Form.{Form}
+use Rattle.segtraces.specs.declared.line.Form.TheVariants as form
+use Rattle.segtraces.specs.declared.line.Operation.{Operation}
+use Rattle.segtraces.specs.declared.line.Operation.TheVariants as verb
+use Rattle.segtraces.specs.declared.line.TraceCommand.{TraceCommand}
 use Rattle.segreplay.specs.declared.player.Assignment.{Assignment}
 use Rattle.segreplay.specs.declared.reading.Rules.{Rules}
-use Rattle.segreplay.specs.Lines.{columns_of, fields_of, separator}
+use Rattle.segtraces.specs.Lines.{columns_of, fields_of, separator}
 use Rattle.segreplay.specs.Traces.{EndsTrace, turns_from}
 
 -- ---- what a line writes

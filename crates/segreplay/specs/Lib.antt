@@ -1,10 +1,7 @@
-pub mod Words
-pub mod Lines
 pub mod Lives
 pub mod Counting
 pub mod Playing
 pub mod Traces
-pub mod Policies
 pub mod Caches
 pub mod Replays
 pub mod Laws

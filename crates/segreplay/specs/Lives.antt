@@ -1,8 +1,8 @@
 -- The times to live of a trace's commands, and how much of them puts are given.
 use Rattle.std.specs.Prelude.{ℕ, ◌-◌, ◌*◌, ◌/◌, ◌^◌, ◌==◌, ◌||◌, min, max, List, [], ◌∷◌, ◌++◌, length, if◌then◌else◌}
 use Rattle.std.specs.List.{list_any}
-use Rattle.segreplay.specs.declared.line.Operation.{Operation}
-use Rattle.segreplay.specs.declared.line.Operation.TheVariants as verb
+use Rattle.segtraces.specs.declared.line.Operation.{Operation}
+use Rattle.segtraces.specs.declared.line.Operation.TheVariants as verb
 use Rattle.segreplay.specs.declared.player.Assignment.{Assignment}
 
 -- ---- which there are

@@ -14,8 +14,8 @@ use Rattle.segindex.specs.declared.table_stats.IndexStats.{IndexStats}
 use Rattle.segreplay.specs.declared.counts.CommandResult.{CommandResult}
 use Rattle.segreplay.specs.declared.counts.CommandResult.TheVariants as outcome
 use Rattle.segreplay.specs.declared.counts.Counts.{Counts}
-use Rattle.segreplay.specs.declared.line.Operation.TheVariants as verb
-use Rattle.segreplay.specs.declared.line.TraceCommand.{TraceCommand}
+use Rattle.segtraces.specs.declared.line.Operation.TheVariants as verb
+use Rattle.segtraces.specs.declared.line.TraceCommand.{TraceCommand}
 use Rattle.segreplay.specs.declared.player.Assignment.{Assignment}
 use Rattle.segreplay.specs.declared.player.Player.{Player}
 use Rattle.segreplay.specs.Counting.{counted, effort_counted, given_counted}

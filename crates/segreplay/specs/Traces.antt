@@ -5,16 +5,16 @@ use Rattle.segclient.specs.Counting.{with_more}
 use Rattle.segscript.specs.Script.{ended, IsLine, Splits}
 use Rattle.segreplay.specs.declared.fault.TraceFault.{TraceFault}
 use Rattle.segreplay.specs.declared.fault.TraceFault.TheVariants as fault
-use Rattle.segreplay.specs.declared.line.Form.{Form}
-use Rattle.segreplay.specs.declared.line.Stated.{Stated}
-use Rattle.segreplay.specs.declared.line.Stated.TheVariants as states
-use Rattle.segreplay.specs.declared.line.TraceCommand.{TraceCommand}
-use Rattle.segreplay.specs.declared.line.TraceLineFault.{TraceLineFault}
-use Rattle.segreplay.specs.declared.line.TraceLineFault.TheVariants as line_fault
+use Rattle.segtraces.specs.declared.line.Form.{Form}
+use Rattle.segtraces.specs.declared.line.Stated.{Stated}
+use Rattle.segtraces.specs.declared.line.Stated.TheVariants as states
+use Rattle.segtraces.specs.declared.line.TraceCommand.{TraceCommand}
+use Rattle.segtraces.specs.declared.line.TraceLineFault.{TraceLineFault}
+use Rattle.segtraces.specs.declared.line.TraceLineFault.TheVariants as line_fault
 use Rattle.segreplay.specs.declared.player.Assignment.{Assignment}
 use Rattle.segreplay.specs.declared.reading.Rules.{Rules}
 use Rattle.segreplay.specs.declared.reading.TracePosition.{TracePosition}
-use Rattle.segreplay.specs.Lines.{client_of, form_after, stated}
+use Rattle.segtraces.specs.Lines.{client_of, form_after, stated}
 
 -- ---- lines
 

@@ -5,57 +5,15 @@ ghost use Rattle.segindex.specs.Words.{board_of};
 ghost use Rattle.segstore.specs.Words.{IsQuiet};
 ghost use Rattle.segreplay.specs.Caches.{AreFresh, caches_in, caches_of, half_of, HasValidShape};
 ghost use Rattle.segreplay.specs.Caches.{IsDealt, IsFresh, IsReplayFault, SetsPolicy, sizes_of};
-ghost use Rattle.segreplay.specs.Policies.{cutoff_of};
 ghost use Rattle.segreplay.specs.declared.player.Player.{Player};
 
 use crate::fault::ReplayFault;
 use crate::player::Player;
-use crate::word::number_of;
 use segclient::Client;
 use segindex::{Index, Pass};
+use segtraces::Retention;
 use segword::{Shape, Value};
 use std::alloc::{AllocError, Global};
-
-/// Which items the puts of a client keep.
-#[derive(Clone, Copy, Debug, PartialEq, Eq)]
-pub enum Retention {
-    /// Those that a new client keeps.
-    Default,
-    Nothing,
-    /// Those of at least this frequency.
-    Cutoff(u8),
-}
-
-// The policy that keeps what has this frequency, if it is one.
-fn cutoff_of(least: Option<u32>) -> Option<Retention>
-    ensures { result ≡ cutoff_of least }
-{
-    match least {
-        Some(least) if least < 256 => Some(Retention::Cutoff(least as u8)),
-        _ => None,
-    }
-}
-
-impl Retention {
-    ghost use Rattle.std.specs.Prelude.{◌≡◌};
-    ghost use Rattle.segreplay.specs.Policies.{policy_named};
-
-    /// The policy of a word: `default`, `nothing`, or `cutoff:` and a frequency.
-    pub fn named(word: &[u8]) -> Option<Retention>
-        ensures { result ≡ policy_named word.now }
-    {
-        if word == b"default".as_slice() {
-            return Some(Retention::Default);
-        }
-        if word == b"nothing".as_slice() {
-            return Some(Retention::Nothing);
-        }
-        match word.strip_prefix(b"cutoff:".as_slice()) {
-            Some(digits) => cutoff_of(number_of(digits)),
-            None => None,
-        }
-    }
-}
 
 /// A cache: its shape, and what its clients keep.
 #[derive(Clone, Copy, Debug)]

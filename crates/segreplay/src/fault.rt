@@ -1,6 +1,6 @@
 //! Why a replay failed, or its trace ended early.
-use crate::line::TraceLineFault;
 use segindex::MakeFault;
+use segtraces::TraceLineFault;
 use thiserror::Error;
 
 /// Why a replay has no totals.

@@ -2,9 +2,9 @@
 ghost use Rattle.std.specs.Prelude.{◌≡◌};
 ghost use Rattle.segreplay.specs.Lives.{share_given};
 
-use crate::line::{Operation, TraceCommand};
 use crate::player::Assignment;
 use arrayvec::ArrayVec;
+use segtraces::{Operation, TraceCommand};
 
 /// How many times to live are told apart, at most.
 const MOST: usize = 64;

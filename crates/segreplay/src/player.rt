@@ -3,9 +3,9 @@ ghost use Rattle.std.specs.Prelude.{◌≡◌};
 ghost use Rattle.segreplay.specs.Playing.{value_of};
 
 use crate::counts::{CommandResult, Counts};
-use crate::line::{Operation, TraceCommand};
 use crate::lives::share_given;
 use segclient::{Client, GetAnswer, PutAnswer};
+use segtraces::{Operation, TraceCommand};
 use segword::{VALUE_BYTES, Value};
 
 /// A value of so many bytes, all 0, or of `VALUE_BYTES` if that is less.

@@ -1,8 +1,8 @@
 //! Reads the lines of a trace, byte by byte, into turns: commands, each with its client.
 use crate::fault::TraceFault;
-use crate::line::{Form, Stated, TraceCommand, TraceLineFault, read_line};
 use crate::player::Assignment;
-use segscript::{LineBuffer, Taken};
+use segtext::{LineBuffer, Taken};
+use segtraces::{Form, Stated, TraceCommand, TraceLineFault, read_line};
 use std::alloc::Global;
 
 /// The most bytes of a line.

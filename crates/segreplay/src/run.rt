@@ -8,14 +8,14 @@ ghost use Rattle.segreplay.specs.Replays.{AddsLives, AllCount, AllPlay, is_memor
 ghost use Rattle.segreplay.specs.Replays.{is_read_end, IsReplay, MakesSome, planned};
 ghost use Rattle.segreplay.specs.Traces.{EndsTrace, HandsOn, HasRead};
 
-use crate::cache::{Made, Retention, caches_of, make_all, players_of};
+use crate::cache::{Made, caches_of, make_all, players_of};
 use crate::fault::{ReplayFault, TraceFault};
-use crate::line::Form;
 use crate::lives::Lives;
 use crate::player::{Assignment, Player, value_of};
 use crate::reading::{Rules, TracePosition};
 use crate::totals::{CacheTotals, totals_of};
 use segscript::Source;
+use segtraces::{Form, Retention};
 use segword::Shape;
 use std::alloc::{AllocError, Global};
 use std::thread::{Threads, for_each_mut};

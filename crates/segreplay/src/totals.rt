@@ -4,9 +4,10 @@ ghost use Rattle.segreplay.specs.Counting.{no_counts};
 ghost use Rattle.segreplay.specs.Caches.{bytes_of, counts_after, HasValidShape, queue_bytes};
 ghost use Rattle.segreplay.specs.Replays.{totals_from};
 
-use crate::cache::{CacheConfig, Retention};
+use crate::cache::CacheConfig;
 use crate::counts::Counts;
 use crate::player::Player;
+use segtraces::Retention;
 use std::alloc::{AllocError, Global};
 
 /// A cache, and what its clients counted together.

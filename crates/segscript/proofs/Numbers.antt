@@ -10,7 +10,8 @@ use Rattle.std.proofs.lemmas.Bool.Decides.{eqb_tells}
 use Rattle.std.proofs.lemmas.Str.Parse.{IsNumeralModel, numerals_by_fold, tells_all_ascii_digits}
 use Rattle.std.proofs.lemmas.Fmt.{decimal_digit, decimal_injective, decimal_nonempty, digits_decimal, digits_value-decimal, first_decimal, decimal-digits_value}
 use Rattle.segscript.specs.Spelling.{IsFrequency, IsNumber}
-use Rattle.segscript.specs.Reading.{has_leading_zero, number_below, number_from, ReadsAs}
+use Rattle.segtext.specs.Digits.{number_below, number_from}
+use Rattle.segscript.specs.Reading.{has_leading_zero, ReadsAs}
 
 abbrev pub read_on : ℕ → List ℕ → ℕ
 read_on n [] = n

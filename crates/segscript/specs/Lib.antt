@@ -2,7 +2,6 @@ pub mod Device
 pub mod EachTurn
 pub mod Explaining
 pub mod Known
-pub mod LineBuffers
 pub mod Laws
 pub mod Memory
 pub mod Passes

@@ -6,8 +6,8 @@ ghost use Rattle.segscript.specs.Reasons.{line_fault};
 
 use crate::device::{Failed, Source};
 use crate::limits::KEPT_BYTES;
-use crate::line_buffer::{LineBuffer, Taken};
 use crate::reason::{LineFault, line_fault};
+use segtext::{LineBuffer, Taken};
 
 /// The first bad line of a script, and its first fault. Lines are counted from 1.
 #[derive(Clone, Copy, Debug, PartialEq, Eq)]

@@ -11,7 +11,7 @@ use crate::engine::Engine;
 use crate::fault::RunFault;
 use crate::limits::LINE_BYTES;
 use crate::line::{read_line, reply_of};
-use crate::line_buffer::{LineBuffer, Taken};
+use segtext::{LineBuffer, Taken};
 
 /// One more than the number of bytes that a script can have.
 const LIMIT: u64 = 1 << 63;

@@ -1,35 +1,12 @@
 //! Reads single words of a line.
-ghost use Rattle.std.specs.Prelude.{◌≡◌, ◌↔◌, ◌<◌, ◌≤◌, ◌^◌, decimal, IfSome, IsTrue};
+ghost use Rattle.std.specs.Prelude.{◌≡◌, ◌↔◌, decimal, IsTrue};
 ghost use Rattle.std.specs.List.{AllByRecursion};
 ghost use Rattle.segscript.specs.Spelling.{IsNumber, IsFrequency, IsKeyWord, IsValueWord};
 ghost use Rattle.segscript.specs.Spelling.{IsPass, IsWordByte, moment_word, pass_word, value_word};
-ghost use Rattle.segscript.specs.Reading.{has_leading_zero, number_below, ReadsAs};
+ghost use Rattle.segscript.specs.Reading.{has_leading_zero, ReadsAs};
 
+use segtext::number_below;
 use segword::{Key, Value};
-
-/// The number that decimal digits write, if it is below this limit.
-/// Zeros in front count for nothing.
-pub fn number_below(digits: &[u8], limit: u64) -> Option<u64>
-    requires limit { (0 < limit) × (limit ≤ 2 ^ 60) }
-    ensures number { result ≡ number_below limit digits.now }
-    ensures below { IfSome result (λ number. number < limit) }
-{
-    if digits.is_empty() {
-        return None;
-    }
-    let mut number: u64 = 0;
-    for byte in digits {
-        if !byte.is_ascii_digit() {
-            return None;
-        }
-        let next = number * 10 + u64::from(*byte - b'0');
-        if next >= limit {
-            return None;
-        }
-        number = next;
-    }
-    Some(number)
-}
 
 /// Whether a zero stands in front of more bytes.
 pub(crate) fn has_leading_zero(word: &[u8]) -> bool

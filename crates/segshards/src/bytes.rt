@@ -1,10 +1,12 @@
 //! How a client of all shards writes values in place.
+ghost use Rattle.std.specs.Prelude.{◌≡◌};
+
 use crate::client::Client;
-use segclient::{Key, PutAnswer, ValueBytes, WriteAnswer};
+use segclient::{Condition, Key, PutAnswer, ValueBytes, WriteAnswer};
 
 impl<'c> Client<'c> {
-    ghost use Rattle.segmodel.specs.declared.request.Request.TheVariants.{Set, Add, Replace, Cas};
-    ghost use Rattle.segwrite.specs.Words.{IsSetAnswer};
+    ghost use Rattle.segwrite.specs.declared.condition.Condition.TheVariants.{Always};
+    ghost use Rattle.segwrite.specs.Words.{IsSetAnswer, request_of};
     ghost use Rattle.segclient.specs.Made.{MakesWrite};
     ghost use Rattle.segclient.specs.Puts.{Puts, PutsFor};
     ghost use Rattle.segshards.specs.Client.{MakesCall};
@@ -40,52 +42,17 @@ impl<'c> Client<'c> {
         shard.put_bytes_for(key, value, time_to_live)
     }
 
-    /// Stores the value under the key as `set` does, from where its bytes stand.
-    pub fn set_bytes(&mut self, key: &Key, value: &ValueBytes<'_>) -> WriteAnswer
-        ensures writes { MakesCall key.now (MakesWrite (Set key.now value.now) result)
-            self.old self.new }
-        ensures set { IsSetAnswer result }
+    /// Stores the value under the key, if that is to be, as `set`, `add`, `replace` and `cas` do,
+    /// from where its bytes stand.
+    pub fn write(&mut self, key: &Key, value: &ValueBytes<'_>, condition: Condition) -> WriteAnswer
+        ensures writes { MakesCall key.now
+            (MakesWrite (request_of condition key.now value.now) result) self.old self.new }
+        ensures set { condition ≡ Always → IsSetAnswer result }
         ensures same { IsSame self.old self.new }
     {
         let place = self.place_of(key);
         let shard = &mut self.shards[place];
         shard.set_now(self.clock);
-        shard.set_bytes(key, value)
-    }
-
-    /// Stores the value as `add` does, from where its bytes stand.
-    pub fn add_bytes(&mut self, key: &Key, value: &ValueBytes<'_>) -> WriteAnswer
-        ensures writes { MakesCall key.now (MakesWrite (Add key.now value.now) result)
-            self.old self.new }
-        ensures same { IsSame self.old self.new }
-    {
-        let place = self.place_of(key);
-        let shard = &mut self.shards[place];
-        shard.set_now(self.clock);
-        shard.add_bytes(key, value)
-    }
-
-    /// Stores the value as `replace` does, from where its bytes stand.
-    pub fn replace_bytes(&mut self, key: &Key, value: &ValueBytes<'_>) -> WriteAnswer
-        ensures writes { MakesCall key.now (MakesWrite (Replace key.now value.now) result)
-            self.old self.new }
-        ensures same { IsSame self.old self.new }
-    {
-        let place = self.place_of(key);
-        let shard = &mut self.shards[place];
-        shard.set_now(self.clock);
-        shard.replace_bytes(key, value)
-    }
-
-    /// Stores the value as `cas` does, from where its bytes stand.
-    pub fn cas_bytes(&mut self, key: &Key, value: &ValueBytes<'_>, expected: u32) -> WriteAnswer
-        ensures writes { MakesCall key.now (MakesWrite (Cas key.now value.now expected) result)
-            self.old self.new }
-        ensures same { IsSame self.old self.new }
-    {
-        let place = self.place_of(key);
-        let shard = &mut self.shards[place];
-        shard.set_now(self.clock);
-        shard.cas_bytes(key, value, expected)
+        shard.write(key, value, condition)
     }
 }

@@ -29,9 +29,9 @@ pub use laws::{clients_stay, locality};
 pub use note::Notes;
 pub use plan::ShardPlan;
 pub use segclient::{
-    DeleteAnswer, GetAnswer, GetsAnswer, GetsIntoAnswer, Hold, HoldAnswer, Index, IndexStats,
-    IntoAnswer, Key, MakeFault, Note, OutOfMemory, Pass, PutAnswer, Shape, ShapeFault, Stats,
-    Value, ValueBytes, WriteAnswer,
+    Condition, DeleteAnswer, GetAnswer, GetsAnswer, GetsIntoAnswer, Hold, HoldAnswer, Index,
+    IndexStats, IntoAnswer, Key, MakeFault, Note, OutOfMemory, Pass, PutAnswer, Shape, ShapeFault,
+    Stats, Value, ValueBytes, WriteAnswer,
 };
 pub use shard::{MOST_SHARDS, shard_of};
 pub use stats::{no_stats, stats_sum, table_sum};

@@ -1,6 +1,6 @@
 //! How a client of all shards writes.
 use crate::client::Client;
-use segclient::{DeleteAnswer, Key, PutAnswer, Value, ValueBytes, WriteAnswer};
+use segclient::{Condition, DeleteAnswer, Key, PutAnswer, Value, ValueBytes, WriteAnswer};
 
 impl<'c> Client<'c> {
     ghost use Rattle.segmodel.specs.declared.request.Request.TheVariants.{Set, Add, Replace, Cas};
@@ -37,7 +37,7 @@ impl<'c> Client<'c> {
         ensures set { IsSetAnswer result }
         ensures same { IsSame self.old self.new }
     {
-        self.set_bytes(key, &ValueBytes::of(value))
+        self.write(key, &ValueBytes::of(value), Condition::Always)
     }
 
     /// Stores the value if the key is absent. Otherwise it returns NotStored.
@@ -46,7 +46,7 @@ impl<'c> Client<'c> {
             self.old self.new }
         ensures same { IsSame self.old self.new }
     {
-        self.add_bytes(key, &ValueBytes::of(value))
+        self.write(key, &ValueBytes::of(value), Condition::IfAbsent)
     }
 
     /// Stores the value if the key is present. Otherwise it returns NotStored.
@@ -55,7 +55,7 @@ impl<'c> Client<'c> {
             self.old self.new }
         ensures same { IsSame self.old self.new }
     {
-        self.replace_bytes(key, &ValueBytes::of(value))
+        self.write(key, &ValueBytes::of(value), Condition::IfPresent)
     }
 
     /// Stores the value if the key is present and its bucket has the expected version.
@@ -65,7 +65,7 @@ impl<'c> Client<'c> {
             self.old self.new }
         ensures same { IsSame self.old self.new }
     {
-        self.cas_bytes(key, &ValueBytes::of(value), expected)
+        self.write(key, &ValueBytes::of(value), Condition::IfVersion(expected))
     }
 
     /// Takes the key out.

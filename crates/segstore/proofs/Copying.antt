@@ -7,10 +7,10 @@ use borrow.Rule.Slice.PartMut.{put_mid}
 use Rattle.std.proofs.lemmas.Slice.{take-put_mid}
 use Rattle.std.specs.Int.{to_le_bytes, w64}
 use Rattle.std.specs.List.{slice_index}
-use Rattle.segword.specs.Row.{bytes_of, key_width, row_of, value_width, words_from}
+use Rattle.segword.specs.Row.{key_width, row_of, value_width, words_from}
 use Rattle.segword.specs.RowLayout.{key_length, value_length}
 use Rattle.segword.specs.Words.{IsKey, IsValue, row_width, span_of, value_place}
-use Rattle.segword.proofs.RowLemmas.{byte_at-split, byte_at-words_from, get_or-bytes_of, key_length-header, length-bytes_of, value_in_row, value_length-header, value_width-room, widths}
+use Rattle.segword.proofs.RowLemmas.{byte_at-split, byte_at-words_from, key_length-header, value_in_row, value_length-header, value_width-room, widths}
 use Rattle.segword.proofs.WordLemmas.{AreBytes-from_All}
 use Rattle.segcore.specs.Words.{Holds, Row}
 use Rattle.segstore.specs.Copying.{AreBytesOf}
@@ -110,22 +110,4 @@ module _ (row : Row) (key value : List ℕ) (header : ℕ) (is_key : IsKey key) 
       ap (λ (n : ℕ). get_or bytes n 0) (sym is)
       ∙ each k i (omega arith) (omega (arith, is, lt))
       ∙ value_byte k i (omega arith) (omega (arith, is, lt, same))
-      ∙ ap (λ (n : ℕ). get_or value n 0) is)
-
-  -- the value is read from its words, whatever comes behind them
-  pub value_taken : (words : List ℕ) (room : ℕ) → length value ≤ room
-      → ((k : ℕ) → 8 * k < length value → get_or words k 0 ≡ row.words (value_place header + k))
-      → take (value_length header) (bytes_of words room) ≡ value
-  value_taken words room fits each =
-      let whole = bytes_of words room in
-      let long : length (take (length value) whole) ≡ length value = length-take-le (length value) whole (omega (arith, length-bytes_of words room)) in
-      ap (λ (n : ℕ). take n whole) value_long
-      ∙ same_number_lists (take (length value) whole) value long
-      (λ at less. let lt : at < length value = omega (arith, less, long) in
-      let k = at / 8 in let i = at % 8 in
-      let is : 8 * k + i ≡ at = omega arith in
-      get_or-take (length value) whole at 0 lt
-      ∙ get_or-bytes_of words room at (omega (arith, lt))
-      ∙ ap (λ (w : ℕ). w / 2 ^ (8 * i) % 256) (each k (omega (arith, is, lt)))
-      ∙ value_byte k i (omega arith) (omega (arith, is, lt))
       ∙ ap (λ (n : ℕ). get_or value n 0) is)

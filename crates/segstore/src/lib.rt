@@ -20,6 +20,6 @@ pub use enter::{enter_segment, leave_segment};
 pub use read::{Keyed, Linked, read_keyed, read_linked};
 pub use refilling::{refill, refill_aside};
 pub use room::{NoRoom, has_room, next_row};
-pub use row::{RowRef, key_of_row, pair_of_row, row_of_key, value_of_pair, value_of_row};
+pub use row::{RowRef, key_of_row, pair_of_row, row_of_key};
 pub use spans::span_of_row;
 pub use write::{copy_row, fill_row, write_row};

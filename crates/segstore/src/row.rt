@@ -1,17 +1,17 @@
 //! Rows that a pass may read, word by word.
 ghost use Rattle.std.specs.Prelude.{◌≡◌, ℕ, ◌+◌, ◌<◌, ◌≤◌, ◌↔◌, List, IfSome, IsSome, Some};
 ghost use Rattle.std.specs.Prelude.{slice_index};
-ghost use Rattle.segword.specs.Words.{head_width, IsKey, IsValue, value_width};
+ghost use Rattle.segword.specs.Words.{head_width, IsKey, IsValue};
 ghost use Rattle.segcore.specs.Words.{Holds, row_after};
 ghost use Rattle.segbase.specs.Words.{IsPassOf, trace};
 ghost use Rattle.segstore.specs.Calls.{TakesAtMost};
-ghost use Rattle.segstore.specs.Reading.{HoldsPair, IsReadable, ReadsRow, words_at};
+ghost use Rattle.segstore.specs.Reading.{IsReadable, ReadsRow, words_at};
 
-use crate::spans::{load_place, load_places, value_length};
+use crate::spans::{load_place, load_places};
 use segbase::{Board, Pass};
 use segword::{
-    HEAD_WORDS, ITEM_WORDS, Key, KeyWords, MOST_SPAN, ROW_WORDS, VALUE_WORDS, Value, read_key,
-    read_row, read_value, span_of_header, value_in_row, value_place,
+    HEAD_WORDS, ITEM_WORDS, Key, KeyWords, MOST_SPAN, ROW_WORDS, Value, read_key, read_row,
+    span_of_header, value_place,
 };
 
 /// A row of a segment.
@@ -20,9 +20,6 @@ pub struct RowRef {
     pub segment: u32,
     pub row: u32,
 }
-
-// The first of the words of a row that have the value. Those before have the lengths and the key.
-pub(crate) const VALUE_WORD: u8 = HEAD_WORDS as u8;
 
 // So many words of a row, from a place on.
 #[inline(always)]
@@ -109,49 +106,6 @@ pub fn row_of_key(
         return None;
     }
     Some(words[0])
-}
-
-/// The value of a row with this word 0.
-#[inline(always)]
-pub fn value_of_row(board: &Board, pass: &mut Pass, segment: u32, row: u32, header: u64) -> Value
-    requires pass { IsPassOf board.now pass.old }
-    requires readable { IsReadable board.now pass.old segment row }
-    requires header { header ≡ (row_after (trace pass.old) segment row).words 0 }
-    ensures reads { ReadsRow board.now pass.old pass.new segment row }
-    ensures steps { TakesAtMost value_width pass.old pass.new }
-    ensures value { (key value : List ℕ) → IsKey key → IsValue value
-        → Holds (row_after (trace pass.new) segment row) key value → result ≡ value }
-{
-    if MOST_SPAN > 1 {
-        let at = board.row_at(segment, row);
-        let from = value_place(header) as u32;
-        let count = value_length(header).div_ceil(8).min(VALUE_WORDS);
-        let mut words = [0; VALUE_WORDS];
-        load_places(board, pass, at, from, &mut words, 0, count);
-        return read_value(header, &words);
-    }
-    let words = load_words(board, pass, segment, row, VALUE_WORD);
-    read_value(header, &words)
-}
-
-/// The value of a row with this word 0, as `value_of_row`, where the row holds a pair:
-/// the words are 0 behind the value, so that no byte is cut off.
-#[inline(always)]
-pub fn value_of_pair(board: &Board, pass: &mut Pass, segment: u32, row: u32, header: u64) -> Value
-    requires pass { IsPassOf board.now pass.old }
-    requires readable { IsReadable board.now pass.old segment row }
-    requires header { header ≡ (row_after (trace pass.old) segment row).words 0 }
-    requires pair { HoldsPair (row_after (trace pass.old) segment row) }
-    ensures reads { ReadsRow board.now pass.old pass.new segment row }
-    ensures steps { TakesAtMost value_width pass.old pass.new }
-    ensures value { (key value : List ℕ) → IsKey key → IsValue value
-        → Holds (row_after (trace pass.new) segment row) key value → result ≡ value }
-{
-    if MOST_SPAN > 1 {
-        return value_of_row(board, pass, segment, row, header);
-    }
-    let words = load_words(board, pass, segment, row, VALUE_WORD);
-    value_in_row(header, &words)
 }
 
 /// The key of a row.

@@ -1,5 +1,5 @@
 //! A rate limiter: each address may pass so often in each window. Four clients count together,
-//! by gets and cas. And events that are seen by several, each of which only one takes for new.
+//! by gets and cas.
 use crate::same::same;
 use segclient::{Client, GetsAnswer, Index, Key, Shape, Value, WriteAnswer, clients};
 use std::alloc::AllocGlobal;
@@ -118,33 +118,4 @@ fn no_request_passes_over_the_limit(rt: HostRuntime) {
     for client in clients.iter() {
         same(&rt, &client.stats().keys_evicted, &0);
     }
-}
-
-// How many events the clients take for new, each of which is seen by all of them, in several orders.
-fn new_ones(rt: &impl Abort, clients: &mut Vec<Client<'_>>) -> u32 {
-    let seen = Value::new(b"").expect(rt, "a value");
-    let mut new: u32 = 0;
-    for round in 0..8_u32 {
-        for number in 0..ADDRESSES {
-            let event = number.wrapping_mul(7_919).wrapping_add(round) % ADDRESSES;
-            let who = number.wrapping_add(round << 10).wrapping_mul(2_654_435_769) >> 30;
-            let key = Key::new(&event.to_le_bytes()).expect(rt, "a key");
-            if let Some(client) = clients.get_mut(who as usize) {
-                let mut told = client.add(&key, &seen);
-                if told == WriteAnswer::NoRoom && client.make_room() {
-                    told = client.add(&key, &seen);
-                }
-                new = new.saturating_add(u32::from(told == WriteAnswer::Stored));
-            }
-        }
-    }
-    new
-}
-
-#[test]
-fn each_event_is_new_once(rt: HostRuntime) {
-    let shape = Shape::for_keys(ADDRESSES, CLIENTS).expect(&rt, "a shape");
-    let (index, passes) = Index::new(rt.alloc(), shape).expect(&rt, "an index");
-    let mut clients = clients(rt.alloc(), &index, passes).expect(&rt, "memory for clients");
-    same(&rt, &new_ones(&rt, &mut clients), &ADDRESSES);
 }

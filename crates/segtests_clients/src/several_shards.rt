@@ -193,24 +193,6 @@ fn each_shard_is_closed(rt: HostRuntime) {
     same(&rt, &listed, &(KEYS as usize));
 }
 
-// One of two clients stores all keys, three times each, in a cache for one writer.
-#[test]
-fn one_writer_has_room_for_all_keys(rt: HostRuntime) {
-    let (cache, passes) = Cache::for_writers(rt.alloc(), 1_000, 2, 1).expect(&rt, "a cache");
-    let (mut first, mut second) = two_clients(&rt, &cache, passes);
-    for _ in 0..3 {
-        put_numbers(&rt, &mut first, 1_000);
-    }
-    same(&rt, &first.stats().keys_evicted, &0);
-    for number in 0..1_000 {
-        same(
-            &rt,
-            &second.get(&key_of(&rt, number)),
-            &wanted(&rt, number, 1_000),
-        );
-    }
-}
-
 // If all threads store, the plan is that of `for_keys`.
 #[test]
 fn as_many_writers_as_threads_have_the_plan_for_keys(rt: HostRuntime) {

@@ -4,7 +4,7 @@ ghost use Rattle.std.specs.Prelude.{◌≡◌, ◌∷◌, [], IfOk};
 ghost use Rattle.segindex.specs.Words.{board_of};
 ghost use Rattle.segstore.specs.Words.{IsQuiet};
 
-use segindex::{Index, IndexStats, LockAnswer, OutOfMemory, Pass};
+use segindex::{Index, LockAnswer, OutOfMemory, Pass};
 use segmodel::{
     Answer, Command, EvictAnswer, GetAnswer, GetsAnswer, KeepAnswer, RefillAnswer, WriteAnswer,
 };
@@ -106,14 +106,6 @@ pub fn unlock(index: &Index, pass: &mut Pass) -> bool
     ensures { IsQuiet (board_of index.now) pass.new }
 {
     index.unlock_bucket(pass)
-}
-
-/// What the pass sees of the table, in numbers.
-pub fn index_stats(index: &Index, pass: &mut Pass) -> IndexStats
-    requires { IsQuiet (board_of index.now) pass.old }
-    ensures { IsQuiet (board_of index.now) pass.new }
-{
-    index.stats(pass)
 }
 
 /// Lets two passes meet.

@@ -1,73 +1,58 @@
-//! What an index has at its end.
-use crate::calls::lists_all;
+//! What an index has at its end: keys whose deadline has come, and those of locked buckets, too.
+use crate::calls::{lists, lists_all};
 use crate::passes::SHAPE;
 use crate::same::same;
-use crate::tables::{answers_and_lists, served};
+use crate::tables::served;
 use segword::Shape;
 
-#[test]
-fn an_empty_index_has_no_content(rt: HostRuntime) {
-    answers_and_lists(&rt, SHAPE, "", &[]);
-}
+// Two segments for each pass: 0 and 1 are of pass 0, 2 and 3 of pass 1.
+const TWO_EACH: Shape = Shape {
+    buckets: 4,
+    segments_each: 2,
+    rows: 8,
+    ..SHAPE
+};
 
 #[test]
-fn the_content_is_in_the_order_of_the_keys(rt: HostRuntime) {
-    let shape = Shape {
-        buckets: 4,
-        rows: 8,
-        ..SHAPE
-    };
+fn what_stands_is_listed_in_the_order_of_the_keys(rt: HostRuntime) {
     let script = "
-        p0 refill 0 4294967295 -> REFILLED
-        p0 set pear 1 @0 -> STORED
-        p0 set apple 2 @0 -> STORED
-        p0 set fig 3 @0 -> STORED
+        p0 refill 0 0 -> REFILLED
+        p0 set pear 1 @5 -> STORED
+        p0 set date 2 @5 -> STORED
+        p0 get pear @0 -> MISS
+        p0 refill 1 4294967295 -> REFILLED
+        p0 set date 3 @0 -> STORED
+        p0 set apple 4 @0 -> STORED
         p0 set pe - @0 -> STORED
         p0 set apple 5 @0 -> STORED
         p0 set plum 6 @0 -> STORED
-        p0 set quince 7 @0 -> STORED
-        p0 set grape 8 @0 -> STORED
+        p0 delete plum @0 -> DELETED
+        p0 set grape 7 @0 -> STORED
+        p1 lock grape -> LOCKED
     ";
-    let pairs = [
+    let before = [
         ("apple", "5"),
-        ("fig", "3"),
-        ("grape", "8"),
+        ("date", "3"),
+        ("grape", "7"),
         ("pe", ""),
         ("pear", "1"),
-        ("plum", "6"),
-        ("quince", "7"),
     ];
-    answers_and_lists(&rt, shape, script, &pairs);
-}
-
-#[test]
-fn evicted_keys_are_not_listed(rt: HostRuntime) {
-    let shape = Shape {
-        segments_each: 2,
-        ..SHAPE
-    };
-    let script = "
+    let evicted = "
         p0 refill 0 4294967295 -> REFILLED
         p0 set pear 1 @0 -> STORED
         p0 set fig 2 @0 -> STORED
-        p0 set apple 3 @0 -> STORED
         p0 refill 1 4294967295 -> REFILLED
         p0 set fig 4 @0 -> STORED
-        p0 set date 5 @0 -> STORED
-        p0 evict 0 -> EVICTED 2
+        p0 evict 0 -> EVICTED 1
     ";
-    let pairs = [("date", "5"), ("fig", "4")];
-    answers_and_lists(&rt, shape, script, &pairs);
-}
-
-#[test]
-fn a_bucket_that_stays_locked_is_listed(rt: HostRuntime) {
-    let script = "
-        p0 refill 0 4294967295 -> REFILLED
-        p0 set a 1 @0 -> STORED
-        p1 lock a -> LOCKED
-    ";
-    answers_and_lists(&rt, SHAPE, script, &[("a", "1")]);
+    for (script, pairs) in [
+        ("", [].as_slice()),
+        (script, before.as_slice()),
+        (evicted, [("fig", "4")].as_slice()),
+    ] {
+        let (index, first, _) = served(&rt, TWO_EACH, script);
+        same(&rt, &lists(rt.alloc(), index, first, pairs), &Ok(true));
+    }
 }
 
 // The last write of each pass is one that the other hasn't seen.

@@ -10,10 +10,6 @@ mod closing;
 mod commands;
 #[cfg(test)]
 mod digits;
-#[cfg(test)]
-mod eviction_answers;
-#[cfg(test)]
-mod expiring;
 pub mod hoard;
 #[cfg(test)]
 mod holds;
@@ -44,8 +40,6 @@ mod rows;
 #[cfg(test)]
 mod same;
 #[cfg(test)]
-mod seen_numbers;
-#[cfg(test)]
 mod tables;
 #[cfg(test)]
 mod threads_counting;
@@ -63,7 +57,5 @@ mod threads_locking;
 mod threads_setting;
 #[cfg(test)]
 mod threads_standing;
-#[cfg(test)]
-mod threads_tables;
 #[cfg(test)]
 mod work;

@@ -3,20 +3,18 @@
 ghost use Rattle.segindex.specs.Words.{board_of};
 ghost use Rattle.segstore.specs.Words.{IsQuiet};
 
-use crate::calls::{index_stats, lock, probe, serve, unlock};
+use crate::calls::{lock, probe, serve, unlock};
 use crate::commands::is_reply;
 use crate::holds::{hold_over_a_set, hold_over_an_eviction};
-use segindex::{Index, IndexStats, LockAnswer, Pass};
-use segmodel::{Answer, EvictAnswer, SegState, Turn};
+use segindex::{Index, LockAnswer, Pass};
+use segmodel::{Answer, EvictAnswer, Turn};
 use segscript::read_line;
 use segword::{Key, Value};
 
 /// A row: a script's line, as "p0 set a 1 @0", and its reply, as "STORED".
 ///
-/// Beside the lines of a script there are the calls "used", "state", "deadline", "current" and
-/// "holding", of what the pass keeps, and "set_held" and "evict_held": the key is held, this value
-/// is set or this segment evicted, and the answer has what the hold reads then.
-/// A "stats" has the answer "1 8 7", for 1 overflow bucket, 8 used rows and 7 named ones.
+/// Beside the lines of a script there are the calls "set_held" and "evict_held": the key is held,
+/// this value is set or this segment evicted, and the answer has what the hold reads then.
 /// A "probe" has both of its answers, as "STORED VALUE 1".
 pub type Row<'t> = (&'t str, &'t str);
 
@@ -140,7 +138,7 @@ fn is_told(index: &Index, pass: &mut Pass, call: Call<'_>, wanted: &str) -> bool
     ensures { IsQuiet (board_of index.now) pass.new }
 {
     let (Some(key), Ok(now)) = (Key::new(call.first.as_bytes()), call.moment.parse()) else {
-        return is_number_kept(index, pass, call, wanted);
+        return false;
     };
     if call.name == "evict_held" {
         return match call.second.parse() {
@@ -172,27 +170,6 @@ fn is_told(index: &Index, pass: &mut Pass, call: Call<'_>, wanted: &str) -> bool
     }
 }
 
-// Whether a call of what the pass keeps, or of the index's numbers, is answered so.
-fn is_number_kept(index: &Index, pass: &mut Pass, call: Call<'_>, wanted: &str) -> bool
-    requires { IsQuiet (board_of index.now) pass.old }
-    ensures { IsQuiet (board_of index.now) pass.new }
-{
-    if let Ok(segment) = call.first.parse() {
-        return match call.name {
-            "deadline" => is_number(wanted, pass.deadline(segment)),
-            "used" => is_number(wanted, pass.used(segment)),
-            "state" => in_state(pass.state(segment)) == wanted,
-            _ => false,
-        };
-    }
-    match call.name {
-        "current" => is_number(wanted, pass.current()),
-        "holding" => holds(pass.is_holding()) == wanted,
-        "stats" => is_counted_so(wanted, index_stats(index, pass)),
-        _ => false,
-    }
-}
-
 fn locked(answer: LockAnswer) -> &'static str {
     match answer {
         LockAnswer::Locked => "LOCKED",
@@ -201,21 +178,8 @@ fn locked(answer: LockAnswer) -> &'static str {
     }
 }
 
-fn in_state(state: Option<SegState>) -> &'static str {
-    match state {
-        Some(SegState::Empty) => "EMPTY",
-        Some(SegState::InUse) => "IN_USE",
-        Some(SegState::Evicted) => "EVICTED",
-        None => "NONE",
-    }
-}
-
 fn unlocked(was_locked: bool) -> &'static str {
     if was_locked { "UNLOCKED" } else { "NOT_LOCKED" }
-}
-
-fn holds(is_holding: bool) -> &'static str {
-    if is_holding { "HOLDING" } else { "NOT_HOLDING" }
 }
 
 // Whether "VALUE 1 7" is wanted, for the value 1 that was held while 7 keys were evicted.
@@ -238,23 +202,7 @@ fn is_value(wanted: &str, value: &Value) -> bool {
 // Whether "VALUE 1 7" is wanted, for the value 1 and the number 7.
 fn is_value_with(wanted: &str, value: &Value, number: u32) -> bool {
     match wanted.rsplit_once(' ') {
-        Some((front, last)) => is_value(front, value) && is_number(last, Some(number)),
+        Some((front, last)) => is_value(front, value) && last.parse() == Ok(number),
         None => false,
-    }
-}
-
-// Whether "1 8 7" is wanted, for 1 overflow bucket, 8 used rows and 7 named ones.
-fn is_counted_so(wanted: &str, told: IndexStats) -> bool {
-    let mut words = wanted.split(' ');
-    is_number(words.next().unwrap_or(""), Some(told.overflow_buckets))
-        && is_number(words.next().unwrap_or(""), Some(told.used_rows))
-        && is_number(words.next().unwrap_or(""), Some(told.named_rows))
-}
-
-// Whether this number is wanted, or "NONE".
-fn is_number(wanted: &str, number: Option<u32>) -> bool {
-    match number {
-        Some(number) => wanted.parse() == Ok(number),
-        None => wanted == "NONE",
     }
 }

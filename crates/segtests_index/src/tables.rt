@@ -2,7 +2,6 @@
 ghost use Rattle.segindex.specs.Words.{board_of};
 ghost use Rattle.segstore.specs.Words.{IsQuiet};
 
-use crate::calls::lists;
 use crate::passes::two_passes;
 use crate::rows::first_wrong_line;
 use crate::same::same;
@@ -16,23 +15,15 @@ pub fn served<R: AllocGlobal + Abort>(rt: &R, shape: Shape, script: &str) -> (In
     ensures { IsQuiet (board_of result.0) result.1 × IsQuiet (board_of result.0) result.2 }
 {
     let (index, mut first, mut second) = two_passes(rt, shape);
-    let wrong = first_wrong_line(&index, &mut first, &mut second, script);
-    same(rt, &wrong, &None);
+    answers(rt, &index, &mut first, &mut second, script);
     (index, first, second)
 }
 
 /// Checks that each line has the answer that it wants.
-pub fn answers<R: AllocGlobal + Abort>(rt: &R, shape: Shape, script: &str) {
-    served(rt, shape, script);
-}
-
-/// Checks the same, and that pass 0 then lists just these keys and values, in this order.
-pub fn answers_and_lists<R: AllocGlobal + Abort>(
-    rt: &R,
-    shape: Shape,
-    script: &str,
-    pairs: &[(&str, &str)],
-) {
-    let (index, first, _) = served(rt, shape, script);
-    same(rt, &lists(rt.alloc(), index, first, pairs), &Ok(true));
+pub fn answers(rt: &impl Abort, index: &Index, first: &mut Pass, second: &mut Pass, script: &str)
+    requires { IsQuiet (board_of index.now) first.old × IsQuiet (board_of index.now) second.old }
+    ensures { IsQuiet (board_of index.now) first.new × IsQuiet (board_of index.now) second.new }
+{
+    let wrong = first_wrong_line(index, first, second, script);
+    same(rt, &wrong, &None);
 }

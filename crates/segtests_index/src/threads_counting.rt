@@ -7,7 +7,7 @@ use crate::calls::{MOMENT, gets, meet, serve};
 use crate::digits::{number_of, value_of};
 use crate::passes::{SHAPE, two_that_fill};
 use crate::same::same;
-use crate::threads_tables::answers;
+use crate::tables::answers;
 use crate::work::{Work, at_once};
 use segindex::{Index, Pass};
 use segmodel::{Answer, Command, GetsAnswer, Request, WriteAnswer};

@@ -8,7 +8,7 @@ use crate::digits::{number_of, value_of};
 use crate::holds::{held_value, hold, release};
 use crate::passes::{SHAPE, four_passes};
 use crate::same::same;
-use crate::threads_tables::answers;
+use crate::tables::answers;
 use crate::work::{Work, four_at_once};
 use segindex::{Index, Pass};
 use segmodel::{EvictAnswer, GetAnswer, GetsAnswer, RefillAnswer, WriteAnswer};

@@ -7,7 +7,7 @@ use crate::calls::{MOMENT, evict, get, gets, keep, refill, set};
 use crate::digits::value_of;
 use crate::passes::{SHAPE, four_passes};
 use crate::same::same;
-use crate::threads_tables::answers;
+use crate::tables::answers;
 use crate::work::{Work, four_at_once};
 use segindex::{Index, Pass};
 use segmodel::{EvictAnswer, GetAnswer, GetsAnswer, KeepAnswer, RefillAnswer, WriteAnswer};

@@ -3,7 +3,7 @@
 use crate::calls::{lock, unlock};
 use crate::passes::{SHAPE, two_that_fill};
 use crate::same::same;
-use crate::threads_tables::answers;
+use crate::tables::answers;
 use crate::work::{Work, at_once};
 use segindex::{Index, LockAnswer, Pass};
 use segword::Key;

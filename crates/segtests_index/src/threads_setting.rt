@@ -6,7 +6,7 @@ ghost use Rattle.segstore.specs.Words.{IsQuiet};
 use crate::calls::{MOMENT, lists, meet, set};
 use crate::passes::{SHAPE, two_that_fill};
 use crate::same::same;
-use crate::threads_tables::answers;
+use crate::tables::answers;
 use crate::work::{Work, at_once};
 use segindex::{Index, Pass};
 use segmodel::WriteAnswer;

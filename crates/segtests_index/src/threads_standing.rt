@@ -6,7 +6,7 @@ ghost use Rattle.segstore.specs.Words.{IsQuiet};
 use crate::calls::{MOMENT, get, gets, set};
 use crate::passes::{SHAPE, four_passes};
 use crate::same::same;
-use crate::threads_tables::answers;
+use crate::tables::answers;
 use crate::work::{Work, three_at_once};
 use segindex::{Index, Pass};
 use segmodel::{GetAnswer, GetsAnswer, WriteAnswer};

@@ -4,7 +4,9 @@ ghost use Rattle.segstore.specs.Words.{IsQuiet};
 
 use segbase::{Board, Pass};
 use segmodel::{DeleteAnswer, EvictAnswer, GetAnswer, KeepAnswer, RefillAnswer, WriteAnswer};
-use segword::{Key, Shape, Value};
+use segread::IntoAnswer;
+use segword::{Key, Shape, VALUE_BYTES, Value, ValueBytes};
+use segwrite::Condition;
 use std::alloc::Global;
 use std::test::Fail;
 
@@ -48,7 +50,8 @@ pub fn set(board: &Board, pass: &mut Pass, key: &Key, value: &Value) -> WriteAns
     if !has_key || !has_value {
         return WriteAnswer::NoRoom;
     }
-    segwrite::set(board, pass, key, value, MOMENT)
+    let bytes = ValueBytes::of(value);
+    segwrite::write(board, pass, key, &bytes, Condition::Always, MOMENT).0
 }
 
 /// Takes the key out.
@@ -56,7 +59,7 @@ pub fn delete(board: &Board, pass: &mut Pass, key: &Key) -> DeleteAnswer
     requires { IsQuiet board.now pass.old }
     ensures { IsQuiet board.now pass.new }
 {
-    segwrite::delete(board, pass, key, MOMENT)
+    segwrite::delete(board, pass, key, MOMENT).0
 }
 
 /// Reads the value.
@@ -64,7 +67,21 @@ pub fn get(board: &Board, pass: &mut Pass, key: &Key, draw: u32) -> GetAnswer
     requires { IsQuiet board.now pass.old }
     ensures { IsQuiet board.now pass.new }
 {
-    segread::get(board, pass, key, draw, MOMENT)
+    let mut room = [0; VALUE_BYTES];
+    match segread::get_into(board, pass, key, draw, MOMENT, &mut room) {
+        IntoAnswer::Found(length) => found(room.get(..length)),
+        IntoAnswer::Short(_) => found(None),
+        IntoAnswer::Miss => GetAnswer::Miss,
+        IntoAnswer::Busy => GetAnswer::Busy,
+    }
+}
+
+// The answer with these bytes. A get that cut its value short is taken for a Miss.
+fn found(bytes: Option<&[u8]>) -> GetAnswer {
+    match bytes.and_then(Value::new) {
+        Some(value) => GetAnswer::Found(value),
+        None => GetAnswer::Miss,
+    }
 }
 
 /// Moves the items of a segment whose frequency is at least the cutoff into the current one.

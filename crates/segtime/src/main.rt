@@ -1,16 +1,15 @@
-//! Times the index, on so many threads over so many keys.
+//! Times the index, on so many threads over so many keys, as the programs of bench/common time other stores.
 #![tactic(auto)]
 
-mod arguments;
+mod asked;
 mod draws;
 mod mix;
-mod report;
 mod round;
 mod tally;
 mod worker;
 
-use arguments::read_options;
-use round::{measure, tell_shape};
+use asked::asked_of;
+use round::{measure, tell_plan};
 use std::process::ExitCode;
 use std::{env, io};
 
@@ -19,17 +18,17 @@ fn main(rt: HostRuntime) -> io::Result<ExitCode> {
     for word in env::args(&rt)?.skip(1) {
         words.push(word)?;
     }
-    let options = match read_options(rt.alloc(), &words) {
-        Ok(options) => options,
-        Err(error) => {
-            error.print(&rt)?;
-            return Ok(ExitCode::from(u8::try_from(error.exit_code()).unwrap_or(1)));
+    match asked_of(&words) {
+        Some(asked) if asked.is_plan => tell_plan(&rt, &asked)?,
+        Some(asked) => measure(&rt, &asked)?,
+        None => {
+            eprintln!(&rt;
+                "usage: segtime MIX uniform|zipf KEYS THREADS TIMES SAMPLE|counts queues|nothing"
+            )?;
+            eprintln!(&rt; "               [BUCKETS OVERFLOW SEGMENTS ROWS]")?;
+            eprintln!(&rt; "       segtime plan uniform KEYS THREADS")?;
+            return Ok(ExitCode::from(2));
         }
-    };
-    if options.prints_shape {
-        tell_shape(&rt, &options)?;
-    } else {
-        measure(&rt, &options)?;
     }
     Ok(ExitCode::SUCCESS)
 }

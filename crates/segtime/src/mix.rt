@@ -1,22 +1,5 @@
 //! What the commands of a mix are.
 
-/// The names of the mixes. Those of one letter are YCSB's.
-pub const MIXES: &[&str] = &[
-    "sets",
-    "replaces",
-    "gets",
-    "mixed",
-    "a",
-    "b",
-    "c",
-    "f",
-    "fetches",
-    "gets16",
-    "mixed16",
-    "gets16apart",
-    "mixed16apart",
-];
-
 /// How many commands are at hand at a time, in the mixes of sixteen.
 pub const PIECE: usize = 16;
 
@@ -33,7 +16,7 @@ pub enum Way {
     Apart,
 }
 
-/// The way of the mix of one of the names.
+/// The way of a mix.
 pub fn way_named(name: &str) -> Way {
     match name {
         "gets16" => Way::Together,
@@ -43,7 +26,7 @@ pub fn way_named(name: &str) -> Way {
     }
 }
 
-/// A mix. The help of the program explains each.
+/// A mix. bench/README.md explains each.
 #[derive(Clone, Copy)]
 pub enum Mix {
     Sets,
@@ -72,18 +55,19 @@ pub enum Kind {
     Fetch,
 }
 
-/// The mix of one of the names.
-pub fn mix_named(name: &str) -> Mix {
-    match name {
-        "sets" => Mix::Sets,
+/// The mix of one of the names. Those of one letter are YCSB's.
+pub fn mix_named(name: &str) -> Option<Mix> {
+    Some(match name {
+        "plan" | "sets" => Mix::Sets,
         "replaces" => Mix::Replaces,
         "a" => Mix::Shared(50),
         "b" => Mix::Shared(95),
         "gets" | "c" | "gets16" | "gets16apart" => Mix::Shared(100),
         "f" => Mix::Modifying(50),
         "fetches" => Mix::Fetches,
-        _ => Mix::Mixed,
-    }
+        "mixed" | "mixed16" | "mixed16apart" => Mix::Mixed,
+        _ => return None,
+    })
 }
 
 impl Mix {

@@ -3,14 +3,13 @@ ghost use Rattle.std.specs.Prelude.{All};
 ghost use Rattle.segindex.specs.Words.{board_of};
 ghost use Rattle.segstore.specs.Words.{IsQuiet};
 
-use crate::arguments::Options;
+use crate::asked::Asked;
 use crate::draws::Draws;
-use crate::report::Round;
 use crate::tally::Tally;
 use crate::worker::{Task, Worker, key_of};
 use segclient::clients;
 use segindex::{Index, Pass};
-use segword::{Shape, ShapeFault, Value};
+use segword::Value;
 use std::alloc::{AllocError, AllocGlobal, Global};
 use std::io::{Input, Print};
 use std::sync::atomic::{AtomicU64, Ordering};
@@ -25,55 +24,15 @@ const SPREAD: u128 = 0x9e37_79b9_7f4a_7c15_f39c_c060_5ced_c835;
 /// How many values there are to draw from, of sixteen bytes each.
 const VALUES: u32 = 64;
 
-/// How many segments all threads have together, where no option sets it.
-const SEGMENTS: u32 = 1024;
-
-/// How many rows a segment has, where no option sets it.
-const ROWS: u32 = 4096;
-
 /// How often it is looked whether all threads are there. Then they begin without those that aren't.
 const LOOKS: u32 = 1 << 16;
 
 /// So long it sleeps between two looks. Without sleep the looks would count as processor time.
 const MICROSECONDS: u64 = 50;
 
-// A large shape has up to 65,536 buckets, with two keys for each where there are fewer, and as many overflow buckets.
-fn shape_of(options: &Options) -> Result<Shape, ShapeFault> {
-    if options.is_planned {
-        return Shape::for_keys(options.keys, options.threads);
-    }
-    let buckets = match options.buckets {
-        0 => (options.keys / 2).min(65_536).next_power_of_two(),
-        buckets => buckets,
-    };
-    Ok(Shape {
-        buckets,
-        overflow: match options.overflow {
-            0 => buckets,
-            overflow => overflow,
-        },
-        passes: options.threads,
-        segments_each: match options.segments {
-            0 => SEGMENTS / options.threads.max(4),
-            segments => segments,
-        },
-        rows: match options.rows {
-            0 => ROWS,
-            rows => rows,
-        },
-        first_version: 0,
-    })
-}
-
-fn too_large() -> io::Error {
-    io::Error::other("the table is too large, or out of memory")
-}
-
-/// Prints the shape's numbers.
-pub fn tell_shape<R: AllocGlobal + Print>(rt: &R, options: &Options) -> io::Result<()> {
-    let Ok(shape) = shape_of(options) else {
-        return Err(too_large());
-    };
+/// Prints the numbers of a shape.
+pub fn tell_plan<R: Print>(rt: &R, asked: &Asked) -> io::Result<()> {
+    let shape = asked.shape;
     println!(rt;
         "{} {} {} {}",
         shape.buckets, shape.overflow, shape.segments_each, shape.rows
@@ -100,14 +59,14 @@ fn workers_of<'i>(
     alloc: Global,
     index: &'i Index,
     passes: Vec<Pass>,
-    options: &Options,
+    keeps: bool,
 ) -> Result<Vec<Worker<'i>>, AllocError>
     requires { All (IsQuiet (board_of index.now)) passes.items }
 {
     let mut workers = Vec::new(alloc);
-    let mut state = options.seed;
+    let mut state = 0u32;
     for mut client in clients(alloc, index, passes)? {
-        if !options.keeps {
+        if !keeps {
             client.keep_nothing();
         }
         workers.push(Worker::new(alloc, client, state))?;
@@ -132,45 +91,40 @@ fn fill(workers: &mut Vec<Worker<'_>>, keys: u32, values: &Vec<Value>) {
     }
 }
 
-/// Makes the index, and then the rounds, each of which it prints.
+/// Makes the index, and then a round for each two lines of input. At the first all keys are drawn, and at the
+/// second the commands are made, so that their processor time can be looked at from outside.
 pub fn measure<R: Threads + Wait + Sync + AllocGlobal + Input + Print + Clock + CpuClock>(
     rt: &R,
-    options: &Options,
+    asked: &Asked,
 ) -> io::Result<()> {
     let alloc = rt.alloc();
-    let Ok(shape) = shape_of(options) else {
-        return Err(too_large());
-    };
-    let Ok((index, passes)) = Index::new(alloc, shape) else {
-        return Err(too_large());
+    let Ok((index, passes)) = Index::new(alloc, asked.shape) else {
+        return Err(io::Error::other("no such table, or out of memory"));
     };
     let values = values_to_draw(alloc)?;
-    let draws = Draws::new(alloc, options.keys, options.is_zipf)?;
-    let mut workers = workers_of(alloc, &index, passes, options)?;
-    fill(&mut workers, options.keys, &values);
+    let draws = Draws::new(alloc, asked.keys, asked.is_zipf)?;
+    let mut workers = workers_of(alloc, &index, passes, asked.keeps)?;
+    fill(&mut workers, asked.keys, &values);
     let task = Task {
-        mix: options.mix,
-        way: options.way,
-        sample: options.sample,
-        only_refills: options.only_refills,
+        mix: asked.mix,
+        way: asked.way,
+        sample: asked.sample.unwrap_or(0),
         values: &values,
     };
-    for _ in 0..options.rounds {
-        if options.waits && !wait_for_line(rt)? {
+    for _ in 0..u64::MAX {
+        if !wait_for_line(rt)? {
             break;
         }
         for worker in workers.iter_mut() {
-            worker.draw_keys(&draws, options.commands)?;
+            worker.draw_keys(&draws, asked.times)?;
         }
-        if options.waits {
-            println!(rt; "ready")?;
-            if !wait_for_line(rt)? {
-                break;
-            }
+        println!(rt; "ready")?;
+        if !wait_for_line(rt)? {
+            break;
         }
         let (worked, wall) = work_at_once(rt, workers, task)?;
         workers = worked;
-        round_of(alloc, &workers, wall)?.tell(rt, options)?;
+        round_of(alloc, &workers, wall)?.tell(rt, asked)?;
     }
     Ok(())
 }
@@ -238,4 +192,54 @@ fn round_of(alloc: Global, workers: &Vec<Worker<'_>>, wall: Duration) -> Result<
     }
     round.samples.sort_unstable();
     Ok(round)
+}
+
+// The outcome of a round.
+#[derive(Drop)]
+struct Round {
+    wall: Duration,
+    // The processor time of all threads.
+    spent: Duration,
+    tally: Tally,
+    // The nanoseconds of each timed command, the shortest first.
+    samples: Vec<u32>,
+}
+
+impl Round {
+    // Writes its line.
+    fn tell<R: Print>(&self, rt: &R, asked: &Asked) -> io::Result<()> {
+        let commands = u64::from(asked.times).saturating_mul(u64::from(asked.threads));
+        let tally = self.tally;
+        print!(rt;
+            "{{\"commands\": {commands}, \"hits\": {}, \"misses\": {}",
+            tally.hits, tally.misses
+        )?;
+        print!(rt;
+            ", \"busy\": {}, \"full\": {}, \"read\": {}",
+            tally.busy, tally.full, tally.read
+        )?;
+        if asked.sample.is_some() {
+            tell_each(rt, "wall", self.wall, u64::from(asked.times))?;
+            tell_each(rt, "thread", self.spent, commands)?;
+            for (name, part) in [("p50", 500), ("p99", 990), ("p99.9", 999)] {
+                if let Some(time) = self.within(part) {
+                    print!(rt; ", \"{name}_ns\": {time}")?;
+                }
+            }
+        }
+        println!(rt; "}}")
+    }
+
+    // The nanoseconds that so many of a thousand timed commands stayed within.
+    fn within(&self, part: usize) -> Option<u32> {
+        let place = self.samples.len().saturating_mul(part).div_ceil(1000);
+        self.samples.get(place.saturating_sub(1)).copied()
+    }
+}
+
+// Writes the nanoseconds of each of so many commands.
+fn tell_each<R: Print>(rt: &R, name: &str, time: Duration, commands: u64) -> io::Result<()> {
+    let picoseconds = time.as_nanos().saturating_mul(1000) / u128::from(commands.max(1));
+    let (whole, part) = (picoseconds / 1000, picoseconds % 1000);
+    print!(rt; ", \"{name}_ns\": {whole}.{part:03}")
 }

@@ -7,27 +7,17 @@ use segword::Value;
 #[derive(Clone, Copy, Default)]
 pub struct Tally {
     /// Those that found their key or were done.
-    hits: u64,
+    pub hits: u64,
     /// Those that returned anything else.
-    misses: u64,
-    busy: u64,
+    pub misses: u64,
+    pub busy: u64,
     /// Those that found no room, or no word for a new key.
-    full: u64,
+    pub full: u64,
     /// What was read of the values that were found, added up.
     pub read: u64,
 }
 
 impl Tally {
-    /// Each number with its name.
-    pub fn parts(self) -> [(&'static str, u64); 4] {
-        [
-            ("hits", self.hits),
-            ("misses", self.misses),
-            ("busy", self.busy),
-            ("full", self.full),
-        ]
-    }
-
     /// Both together.
     pub fn plus(self, other: Tally) -> Tally {
         Tally {

@@ -16,8 +16,6 @@ pub struct Task<'a> {
     pub way: Way,
     /// Each command is timed whose number is a multiple of this. None is where this is 0.
     pub sample: u32,
-    /// Whether of these only those count that refilled a segment.
-    pub only_refills: bool,
     pub values: &'a Vec<Value>,
 }
 
@@ -126,14 +124,11 @@ impl<'i> Worker<'i> {
                 self.serve(&key, task);
                 continue;
             }
-            let refilled = self.client.stats().segments_refilled;
             let start = Instant::now(rt)?;
             self.serve(&key, task);
             let nanoseconds = start.elapsed(rt)?.as_nanos();
-            if !task.only_refills || self.client.stats().segments_refilled != refilled {
-                self.samples
-                    .push(u32::try_from(nanoseconds).unwrap_or(u32::MAX))?;
-            }
+            self.samples
+                .push(u32::try_from(nanoseconds).unwrap_or(u32::MAX))?;
             next = next.saturating_add(task.sample as usize);
         }
         Ok(())

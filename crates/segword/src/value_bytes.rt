@@ -5,27 +5,25 @@ ghost use Rattle.segword.specs.Row.{word_at, words_from};
 
 use crate::Value;
 use crate::value::{VALUE_BYTES, VALUE_WORDS};
-use crate::words::{full_words, word_at, words_of};
+use crate::words::{word_at, words_of};
 use std::marker::Model;
 
 /// The bytes of a value where they stand: at most `VALUE_BYTES`, any bytes.
 /// Contracts see them as the list of the bytes.
 #[derive(Drop)]
 pub struct ValueBytes<'v> {
-    // The value's bytes. Those that may stand behind them are 0.
-    padded: &'v [u8],
-    len: usize,
+    bytes: &'v [u8],
 }
 
 impl<'v> Model for ValueBytes<'v> {
-    ghost use Rattle.std.specs.Prelude.{ℕ, List, take};
-    ghost use Rattle.segword.specs.Kept.{AreValueBytes};
+    ghost use Rattle.std.specs.Prelude.{ℕ, List};
+    ghost use Rattle.segword.specs.Bytes.{IsValue};
 
     ghost Value = { List ℕ };
 
-    ghost view = { λ value. take value.len value.padded.now };
+    ghost view = { λ value. value.bytes.now };
 
-    ghost invariant = { λ value. AreValueBytes value.padded.now value.len };
+    ghost invariant = { λ value. IsValue value.bytes.now };
 }
 
 impl<'v> ValueBytes<'v> {
@@ -39,10 +37,7 @@ impl<'v> ValueBytes<'v> {
         if bytes.len() > VALUE_BYTES {
             return None;
         }
-        Some(ValueBytes {
-            padded: bytes,
-            len: bytes.len(),
-        })
+        Some(ValueBytes { bytes })
     }
 
     /// The bytes of a value.
@@ -52,8 +47,7 @@ impl<'v> ValueBytes<'v> {
         ensures valid { IsValue value.now }
     {
         ValueBytes {
-            padded: value.padded(),
-            len: value.len(),
+            bytes: value.as_bytes(),
         }
     }
 
@@ -63,7 +57,7 @@ impl<'v> ValueBytes<'v> {
         ensures len { result ≡ length self.now }
         ensures valid { IsValue self.now }
     {
-        self.len
+        self.bytes.len()
     }
 
     // The bytes, eight to a word.
@@ -72,10 +66,7 @@ impl<'v> ValueBytes<'v> {
         ensures value { result ≡ words_from VALUE_WORDS self.now 0 }
         ensures valid { IsValue self.now }
     {
-        if self.padded.len() == VALUE_BYTES {
-            return full_words::<VALUE_WORDS>(self.padded);
-        }
-        words_of::<VALUE_WORDS>(self.padded)
+        words_of::<VALUE_WORDS>(self.bytes)
     }
 
     // One of the words. Behind the last it is 0.
@@ -84,6 +75,6 @@ impl<'v> ValueBytes<'v> {
         requires { place ≤ 1024 }
         ensures { result ≡ word_at self.now (8 * place) }
     {
-        word_at(self.padded, 8 * place)
+        word_at(self.bytes, 8 * place)
     }
 }

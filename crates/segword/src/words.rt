@@ -31,29 +31,6 @@ pub(crate) fn word_at(bytes: &[u8], from: usize) -> u64
     }
 }
 
-// The first `N` words of these bytes, none of which is missing.
-#[inline(always)]
-pub(crate) fn full_words<const N: usize>(bytes: &[u8]) -> [u64; N]
-    requires { length bytes.now ≡ 8 * N }
-    ensures { result ≡ words_from N bytes.now 0 }
-{
-    let mut words = [0; N];
-    for (i, word) in words.iter_mut().enumerate() {
-        *word = full_word_at(bytes, 8 * i);
-    }
-    words
-}
-
-// The word of the eight bytes from `from` on.
-#[inline(always)]
-pub(crate) fn full_word_at(bytes: &[u8], from: usize) -> u64
-    requires { from + 8 ≤ length bytes.now }
-    ensures { result ≡ word_at bytes.now from }
-{
-    let (chunks, _) = bytes[from..].as_chunks::<8>();
-    u64::from_le_bytes(chunks[0])
-}
-
 // The word of fewer than eight bytes.
 // If they are four or more (or two or more), the last four (or two) are shifted
 // until only what stands behind the first four (or two) is left.

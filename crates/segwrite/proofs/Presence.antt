@@ -31,8 +31,8 @@ use Rattle.segstore.proofs.UnderBit.{moved_at, moved_bit, moved_bucket}
 use Rattle.segwrite.specs.Words.{Target}
 use Rattle.segwrite.specs.Presence.{CameIn, depends_on_key, IsPresentWord, Peeks, PeeksFor}
 use Rattle.segwrite.specs.Refusing.{request_of}
-use Rattle.segwrite.specs.declared.write.When.{When}
-use Rattle.segwrite.specs.declared.write.When.TheVariants as when
+use Rattle.segwrite.specs.declared.condition.Condition.{Condition}
+use Rattle.segwrite.specs.declared.condition.Condition.TheVariants as condition
 use Rattle.segwrite.specs.Writes.{EntersForKey}
 use Rattle.segwrite.specs.Writing.{IsEarlier, IsTarget, own_word}
 use Rattle.segwrite.proofs.Linking.{own_item}
@@ -147,11 +147,11 @@ word_tells b key now found None q none = sym (ap is_some none)
 word_tells b key now found (Some target) q known = sym known.1
 
 -- a request that may store in some cases alone depends on its key
-pub depends : (w : When) (request : Request) (key value : List ℕ) (now : ℕ) → w ≢ when.Always → request ≡ request_of w key value now → depends_on_key request ≡ false → ⊥
-depends when.Always request key value now other is none = other refl
-depends when.Absent request key value now other is none = false≢true (sym none ∙ ap depends_on_key is)
-depends when.Present request key value now other is none = false≢true (sym none ∙ ap depends_on_key is)
-depends (when.Unchanged n) request key value now other is none = false≢true (sym none ∙ ap depends_on_key is)
+pub depends : (w : Condition) (request : Request) (key value : List ℕ) (now : ℕ) → w ≢ condition.Always → request ≡ request_of w key value now → depends_on_key request ≡ false → ⊥
+depends condition.Always request key value now other is none = other refl
+depends condition.IfAbsent request key value now other is none = false≢true (sym none ∙ ap depends_on_key is)
+depends condition.IfPresent request key value now other is none = false≢true (sym none ∙ ap depends_on_key is)
+depends (condition.IfVersion n) request key value now other is none = false≢true (sym none ∙ ap depends_on_key is)
 
 -- ---- looks
 

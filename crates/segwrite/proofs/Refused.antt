@@ -18,8 +18,8 @@ use Rattle.segcore.proofs.Buckets.{bit_small, unwritten_version}
 use Rattle.segbase.specs.Words.{Board, IsPassOf, number, Pass, seen, trace}
 use Rattle.segstore.specs.Words.{DrawsNothing, GoesOn, HasCleanBit, Idles, IsQuiet, TakesOneBit}
 use Rattle.segwrite.specs.Words.{Target}
-use Rattle.segwrite.specs.declared.write.When.{When}
-use Rattle.segwrite.specs.declared.write.When.TheVariants as when
+use Rattle.segwrite.specs.declared.condition.Condition.{Condition}
+use Rattle.segwrite.specs.declared.condition.Condition.TheVariants as condition
 use Rattle.segwrite.specs.Writes.{AddsReply, IsWriteAnswer}
 use Rattle.segwrite.specs.Writing.{IsTarget, IsNewKey, own_word, Finds}
 use Rattle.segwrite.specs.Spans.{rows_of}
@@ -31,15 +31,15 @@ use Rattle.segstore.proofs.UnderBit.{moved_at}
 
 -- ---- which request it is, and which reply
 
-pub asks : (w : When) (key value : List ℕ) (now : ℕ) (request : Request) → request ≡ request_of w key value now
+pub asks : (w : Condition) (key value : List ℕ) (now : ℕ) (request : Request) → request ≡ request_of w key value now
     → (key_of request ≡ key) × (value_of request ≡ value) × (request ≡ request_of w (key_of request) (value_of request) now)
-asks when.Always key value now request is = (ap key_of is, ap value_of is, is ∙ (λ i. Set (sym (ap key_of is) i) (sym (ap value_of is) i) now))
-asks when.Absent key value now request is = (ap key_of is, ap value_of is, is ∙ (λ i. Add (sym (ap key_of is) i) (sym (ap value_of is) i) now))
-asks when.Present key value now request is = (ap key_of is, ap value_of is, is ∙ (λ i. Replace (sym (ap key_of is) i) (sym (ap value_of is) i) now))
-asks (when.Unchanged n) key value now request is = (ap key_of is, ap value_of is, is ∙ (λ i. Cas (sym (ap key_of is) i) (sym (ap value_of is) i) n now))
+asks condition.Always key value now request is = (ap key_of is, ap value_of is, is ∙ (λ i. Set (sym (ap key_of is) i) (sym (ap value_of is) i) now))
+asks condition.IfAbsent key value now request is = (ap key_of is, ap value_of is, is ∙ (λ i. Add (sym (ap key_of is) i) (sym (ap value_of is) i) now))
+asks condition.IfPresent key value now request is = (ap key_of is, ap value_of is, is ∙ (λ i. Replace (sym (ap key_of is) i) (sym (ap value_of is) i) now))
+asks (condition.IfVersion n) key value now request is = (ap key_of is, ap value_of is, is ∙ (λ i. Cas (sym (ap key_of is) i) (sym (ap value_of is) i) n now))
 
 -- it takes as many rows as the pair's item
-pub asks_rows : (w : When) (key value : List ℕ) (now : ℕ) (request : Request) → request ≡ request_of w key value now
+pub asks_rows : (w : Condition) (key value : List ℕ) (now : ℕ) (request : Request) → request ≡ request_of w key value now
     → rows_of request ≡ span_of key value
 asks_rows w key value now request is = let same = asks w key value now request is in λ t. span_of (same.0 t) (same.1 t)
 
@@ -71,7 +71,8 @@ adds_absent (Cas key value expected now) version is = absurd (let e : reply.NotF
 adds_absent (Delete key now) version is = absurd (let e : reply.NotFound ≡ reply.Stored = is in cc)
 
 -- a cas of a present key is refused where the version is another one
-pub told_by_version : (request : Request) (expected now version : ℕ) (is_present : Bool) → request ≡ request_of (when.Unchanged expected) (key_of request) (value_of request) now → is_present ≡ true
+pub told_by_version : (request : Request) (expected now version : ℕ) (is_present : Bool)
+    → request ≡ request_of (condition.IfVersion expected) (key_of request) (value_of request) now → is_present ≡ true
     → IsToldBy (reply_to request is_present version) (then_some (not (eqb version expected)) write.Exists)
 told_by_version request expected now version is_present is there =
     subst (λ r. IsToldBy (reply_to r is_present version) (then_some (not (eqb version expected)) write.Exists)) (sym is)
@@ -92,7 +93,7 @@ unwritten_is z h bucket few l none =
 pub told_by_look : (b : Board) (request : Request) (expected now version bucket : ℕ) (p q : Pass)
     → b.shape.first_version < 2 ^ 32 → IsPassOf b p → HasCleanBit b p bucket
     → bucket ≡ bucket_of b.shape (key_of request)
-    → is_some (present (after b.shape (seen p)) now (key_of request)) ≡ true → request ≡ request_of (when.Unchanged expected) (key_of request) (value_of request) now → Idles b p q
+    → is_some (present (after b.shape (seen p)) now (key_of request)) ≡ true → request ≡ request_of (condition.IfVersion expected) (key_of request) (value_of request) now → Idles b p q
     → version ≡ (b.shape.first_version + (bucket_after b.shape (trace p) bucket).version) % 2 ^ 32 → IsToldBy (reply_now b q request) (then_some (not (eqb version expected)) write.Exists)
 told_by_look b request expected now version bucket p q few is clean home there asked idles read =
     let z = b.shape in let k = bucket_of z (key_of request) in

@@ -18,7 +18,7 @@ use Rattle.segstore.specs.Words.{TakesAtMost, TakesToWrite, TookToWrite}
 use Rattle.segstore.proofs.Keeping.{same_used, keeps_plain}
 use Rattle.segwrite.specs.declared.find.Found.{Found}
 use Rattle.segwrite.specs.Words.{Target}
-use Rattle.segwrite.specs.declared.write.When.{When}
+use Rattle.segwrite.specs.declared.condition.Condition.{Condition}
 use Rattle.segcore.proofs.Moments.{begins_on}
 use Rattle.segbase.proofs.Moves.{moved_on}
 use Rattle.segstore.proofs.Refills.{idles}
@@ -71,11 +71,11 @@ refusal_costs b request write.BucketFull p s unstored some free takes none = (ta
 refusal_costs b request write.Busy p s unstored some free takes none = absurd (free refl)
 
 -- there is room for the request's item exactly if there is room for the pair's
-pub same_room : (b : Board) (w : When) (request : Request) (key value : List ℕ) (now : ℕ) → request ≡ request_of w key value now → (p : Pass)
+pub same_room : (b : Board) (w : Condition) (request : Request) (key value : List ℕ) (now : ℕ) → request ≡ request_of w key value now → (p : Pass)
     → has_room_for b.shape (rows_of request) p ≡ has_room_for b.shape (span_of key value) p
 same_room b w request key value now asked p = ap (λ n. has_room_for b.shape n p) (asks_rows w key value now request asked)
 
-pub has_rows : (b : Board) (w : When) (request : Request) (key value : List ℕ) (now : ℕ) → request ≡ request_of w key value now → (p : Pass)
+pub has_rows : (b : Board) (w : Condition) (request : Request) (key value : List ℕ) (now : ℕ) → request ≡ request_of w key value now → (p : Pass)
     → ¬ (has_room_for b.shape (span_of key value) p ≡ false) → ¬ (has_room_for b.shape (rows_of request) p ≡ false)
 has_rows b w request key value now asked p room none = room (sym (same_room b w request key value now asked p) ∙ none)
 
@@ -113,7 +113,7 @@ ends_busy b request p q room busy steps = record {
   };
 }
 
-module _ (b : Board) (w : When) (request : Request) (key value words : List ℕ) (now bucket : ℕ)
+module _ (b : Board) (w : Condition) (request : Request) (key value words : List ℕ) (now bucket : ℕ)
     (asked : request ≡ request_of w key value now) (home : bucket ≡ bucket_of b.shape key) (copied : words ≡ key)
     (p q f : Pass) (found : Found) (quiet : IsQuiet b p) (took : TookToWrite b bucket p q) (search : Idles b q f) (searches : Searches b words found f) where
   abbrev k : ℕ

@@ -12,14 +12,15 @@ use Rattle.segcore.specs.Words.{bucket_after, Event, IsRefusal}
 use Rattle.segbase.specs.Words.{AddsEvents, Board, number, Pass, seen, trace}
 use Rattle.segstore.specs.Words.{memo}
 use Rattle.segwrite.specs.Presence.{Peeks}
-use Rattle.segwrite.specs.declared.write.When.{When}
-use Rattle.segwrite.specs.declared.write.When.TheVariants as when
+use Rattle.segwrite.specs.declared.condition.Condition.{Condition}
+use Rattle.segwrite.specs.declared.condition.Condition.TheVariants as condition
 
-abbrev pub request_of : When → List ℕ → List ℕ → ℕ → Request
-request_of when.Always key value now = Set key value now
-request_of when.Absent key value now = Add key value now
-request_of when.Present key value now = Replace key value now
-request_of (when.Unchanged version) key value now = Cas key value version now
+-- the request of a write with this condition
+abbrev pub request_of : Condition → List ℕ → List ℕ → ℕ → Request
+request_of condition.Always key value now = Set key value now
+request_of condition.IfAbsent key value now = Add key value now
+request_of condition.IfPresent key value now = Replace key value now
+request_of (condition.IfVersion version) key value now = Cas key value version now
 
 -- the reply is the one that the refusal tells; without a refusal it is Stored
 abbrev pub IsToldBy : Reply → Option WriteAnswer → Type 0

@@ -1,15 +1,14 @@
 //! Writers: values stored and keys taken out, each under the bit of its key's bucket.
 #![tactic(auto)]
 
+mod condition;
 mod find;
 mod grow;
 mod removal;
 mod spans;
-mod write;
+mod writing;
 
+pub use condition::Condition;
 pub use find::Target;
-pub use removal::{clear, delete, delete_and_tell};
-pub use write::{
-    add, add_bytes, add_bytes_and_tell, cas, cas_bytes, cas_bytes_and_tell, replace, replace_bytes,
-    replace_bytes_and_tell, set, set_bytes, set_bytes_and_tell,
-};
+pub use removal::{clear, delete};
+pub use writing::write;

@@ -14,29 +14,15 @@ ghost use Rattle.segwrite.specs.Refusing.{Removes};
 ghost use Rattle.segwrite.specs.Steps.{most_steps_to_remove, most_tries_to_exchange};
 
 use crate::find::{Target, find, present_word};
-use crate::write::refuse;
+use crate::writing::refuse;
 use segbase::{Board, Pass};
 use segmodel::DeleteAnswer;
 use segstore::{RowRef, Sought, take_to_write};
 use segword::Key;
 
-/// Takes the key out. A delete needs no row.
-#[inline(always)]
-pub fn delete(board: &Board, pass: &mut Pass, key: &Key, now: u32) -> DeleteAnswer
-    requires quiet { IsQuiet board.now pass.old }
-    ensures deletes { Deletes board.now key.now now result pass.old pass.new }
-{
-    delete_and_tell(board, pass, key, now).0
-}
-
-/// Takes the key out as `delete` does, and tells which row the key had before.
+/// Takes the key out, and tells which row the key had before. A delete needs no row.
 /// No contract says what the second part is.
-pub fn delete_and_tell(
-    board: &Board,
-    pass: &mut Pass,
-    key: &Key,
-    now: u32,
-) -> (DeleteAnswer, Option<RowRef>)
+pub fn delete(board: &Board, pass: &mut Pass, key: &Key, now: u32) -> (DeleteAnswer, Option<RowRef>)
     requires quiet { IsQuiet board.now pass.old }
     ensures deletes { Deletes board.now key.now now result.0 pass.old pass.new }
 {

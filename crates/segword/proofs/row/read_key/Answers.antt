@@ -1,4 +1,5 @@
-use Rattle.std.proofs.Common.{Some, ℕ, List, take, drop, slice_index, ap, ◌∙◌, arith}
+use Rattle.std.proofs.Common.{Some, ℕ, List, bit_and, take, drop, slice_index, ap, subst, ◌≡◌, ◌∙◌, arith}
+use Rattle.std.specs.Prelude.{IfSome, Option}
 use Rattle.std.proofs.lemmas.List.{length-drop, take_all}
 use Rattle.std.proofs.lemmas.Nat.{and_mask}
 use Rattle.segword.specs.declared.key.TheConstants.{KEY_ROOM, KEY_WORDS}
@@ -10,7 +11,9 @@ use Rattle.segword.proofs.row.read_key.Goals as goal
 pub returns-clause-value : goal.returns-clause-value
 returns-clause-value c =
     let words = c.args.words.now in
-    c.from_words.ensures.value
+    let length = bit_and (slice_index words 0) 255 in
+    subst (λ (made : Option (List ℕ)). IfSome made (λ key. key ≡ take length c.bytes_of-bytes.result)) c.unwrap.ensures c.new-2.ensures.some
+    ∙ ap (take length) c.bytes_of-bytes.ensures
     ∙ ap (λ (n : ℕ). take n (bytes_of (take KEY_WORDS (drop 1 words)) KEY_ROOM)) (and_mask (slice_index words 0) 8)
     ∙ ap (λ (rest : List ℕ). take (key_length (slice_index words 0)) (bytes_of rest KEY_ROOM)) (take_all KEY_WORDS (drop 1 words) (omega (arith, length-drop 1 words, c.told-words)))
 

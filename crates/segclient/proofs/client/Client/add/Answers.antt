@@ -6,6 +6,6 @@ use Rattle.segclient.proofs.client.Client.add.Goals as goal
 
 pub returns : goal.returns
 returns c = record {
-  writes = subst (λ v. MakesCall (MakesWrite (Add c.args.key.now v) c.add_bytes.result) c.args.self.now c.add_bytes.new.self)
-      c.of.ensures.value c.add_bytes.ensures.writes;
+  writes = subst (λ v. MakesCall (MakesWrite (Add c.args.key.now v) c.write.result) c.args.self.now c.write.new.self)
+      c.of.ensures.value c.write.ensures.writes;
 }

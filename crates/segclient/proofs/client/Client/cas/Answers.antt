@@ -6,6 +6,6 @@ use Rattle.segclient.proofs.client.Client.cas.Goals as goal
 
 pub returns : goal.returns
 returns c = record {
-  writes = subst (λ v. MakesCall (MakesWrite (Cas c.args.key.now v c.args.expected) c.cas_bytes.result) c.args.self.now c.cas_bytes.new.self)
-      c.of.ensures.value c.cas_bytes.ensures.writes;
+  writes = subst (λ v. MakesCall (MakesWrite (Cas c.args.key.now v c.args.expected) c.write.result) c.args.self.now c.write.new.self)
+      c.of.ensures.value c.write.ensures.writes;
 }

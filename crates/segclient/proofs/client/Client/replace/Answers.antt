@@ -6,6 +6,6 @@ use Rattle.segclient.proofs.client.Client.replace.Goals as goal
 
 pub returns : goal.returns
 returns c = record {
-  writes = subst (λ v. MakesCall (MakesWrite (Replace c.args.key.now v) c.replace_bytes.result) c.args.self.now c.replace_bytes.new.self)
-      c.of.ensures.value c.replace_bytes.ensures.writes;
+  writes = subst (λ v. MakesCall (MakesWrite (Replace c.args.key.now v) c.write.result) c.args.self.now c.write.new.self)
+      c.of.ensures.value c.write.ensures.writes;
 }

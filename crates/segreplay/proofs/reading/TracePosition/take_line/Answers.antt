@@ -1,5 +1,5 @@
 use Rattle.std.proofs.Common.{◌∙◌, ap, refl, sym}
-use Rattle.segreplay.specs.Lines.{stated}
+use Rattle.segtraces.specs.Lines.{stated}
 use Rattle.segreplay.proofs.Feeding.{stated_taken}
 use Rattle.segreplay.proofs.reading.TracePosition.take_line.Goals as goal
 

@@ -6,5 +6,5 @@ use Rattle.segshards.proofs.client.Client.add.Goals as goal
 
 pub returns-clause-writes : goal.returns-clause-writes
 returns-clause-writes c =
-    subst (λ v. MakesCall c.args.key.now (MakesWrite (Add c.args.key.now v) c.add_bytes.result) c.args.self.now c.add_bytes.new.self)
-    c.of.ensures.value c.add_bytes.ensures.writes
+    subst (λ v. MakesCall c.args.key.now (MakesWrite (Add c.args.key.now v) c.write.result) c.args.self.now c.write.new.self)
+    c.of.ensures.value c.write.ensures.writes

@@ -1,7 +1,0 @@
-use Rattle.clap.specs.Words.{found_of}
-use Rattle.segcli.specs.CommandLine.{explain_flag}
-use Rattle.segcli.proofs.Options.{flag_read}
-use Rattle.segcli.proofs.arguments.explain_of.Goals as goal
-
-pub returns : goal.returns
-returns c = flag_read explain_flag (found_of c.args.matches.now) c.get_one.ensures.none c.get_one.ensures.value c.unwrap_or.ensures

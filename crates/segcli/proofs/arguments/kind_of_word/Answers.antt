@@ -1,9 +1,0 @@
-use Rattle.std.proofs.Common.{◌∙◌, ap}
-use Rattle.clap.specs.Words.{found_of}
-use Rattle.clap.proofs.WalkLemmas.{first_value-rows}
-use Rattle.segcli.specs.CommandLine.{kind_choice}
-use Rattle.segcli.specs.Asked.{kind_named}
-use Rattle.segcli.proofs.arguments.kind_of_word.Goals as goal
-
-pub returns : goal.returns
-returns c = c.kind_named.ensures ∙ ap kind_named (c.get_str.ensures ∙ first_value-rows (found_of c.args.matches.now) kind_choice)

@@ -1,0 +1,20 @@
+use Rattle.std.proofs.Common.{refl, ap, ◌∙◌}
+use Rattle.segindex.specs.Words.{shape_of}
+use Rattle.segstore.specs.Words.{memo}
+use Rattle.seghandles.specs.Made.{WritesWhen}
+use Rattle.seghandles.specs.Guest.{At}
+use Rattle.seghandles.proofs.Made.{at_moment, makes_call}
+use Rattle.seghandles.proofs.Rows.{row_stays}
+use Rattle.seghandles.proofs.guest.Guest.write.Goals as goal
+
+pub invariant_of-self-clause-row : goal.invariant_of-self-clause-row
+invariant_of-self-clause-row c =
+    let self = c.args.self.now in
+    row_stays (shape_of self.share.index.value) self.member.pass c.write.new.self.pass self.share.held
+    (c.write.ensures.writes.memo ∙ ap memo c.set_now.ensures.sets.rest.pass) self.row
+
+pub returns : goal.returns
+returns c =
+    let Made = WritesWhen c.args.when c.args.key.now c.args.value.now c.write.result in
+    makes_call (At c.args.now Made) _ c.args.self.now _ c.index.ensures
+    (at_moment c.args.now Made _ c.args.self.now.member c.set_now.new.self c.write.new.self c.set_now.ensures.sets (record { writes = c.write.ensures.writes; set = c.write.ensures.set })) refl refl

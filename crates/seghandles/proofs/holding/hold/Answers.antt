@@ -1,0 +1,28 @@
+use Rattle.std.proofs.Common.{ℕ, List, refl, subst, sym, ◌∙◌}
+use Rattle.std.proofs.lemmas.Bool.{false≢true}
+use Rattle.seghandles.specs.declared.client.SharedClient.{SharedClient}
+use Rattle.seghandles.specs.declared.kept.Kept.TheVariants as kept
+use Rattle.seghandles.specs.declared.status.Status.{Status}
+use Rattle.seghandles.specs.declared.status.Status.TheVariants as status
+use Rattle.seghandles.specs.Exports.{ByKey, Returns}
+use Rattle.seghandles.specs.Holding.{HoldsAt}
+use Rattle.seghandles.proofs.Answering.{bad_key, by_client, good_key}
+use Rattle.seghandles.proofs.holding.hold.Goals as goal
+
+pub returns-then-not-assign : goal.returns-then-not-assign
+returns-then-not-assign c =
+    let R : Status → Type 0 = Returns status.BadKey in
+    let Makes : SharedClient → SharedClient → Type 0 = HoldsAt c.args.key.now c.args.now status.BadKey in
+    let Keyed : SharedClient → SharedClient → Type 0 = ByKey R c.args.key.now Makes in
+    by_client R Keyed c.args.kept.now (kept.Client c.in-Client.client) c.in-Client.client c.in-Client.client c.in-Client.is refl
+    (bad_key R c.args.key.now Makes c.in-Client.client (λ is. false≢true (sym c.if-not-assign.true ∙ c.assign.ensures.variant.1 is)) refl)
+
+pub returns : goal.returns
+returns c =
+    let R : Status → Type 0 = Returns c.hold.result in
+    let Makes : SharedClient → SharedClient → Type 0 = HoldsAt c.args.key.now c.args.now c.hold.result in
+    let Keyed : SharedClient → SharedClient → Type 0 = ByKey R c.args.key.now Makes in
+    let same = c.assign.ensures.assigned c.if-not-assign.false in
+    by_client R Keyed c.args.kept.now (kept.Client c.hold.new.self) c.in-Client.client c.hold.new.self c.in-Client.is refl
+    (good_key R c.args.key.now Makes c.in-Client.client c.hold.new.self (c.assign.ensures.variant.0 c.if-not-assign.false)
+    (subst (λ (k : List ℕ). HoldsAt k c.args.now c.hold.result c.in-Client.client c.hold.new.self) same c.hold.ensures))

@@ -1,0 +1,12 @@
+use Rattle.std.proofs.Common.{refl}
+use Rattle.seghandles.specs.declared.kept.Kept.{Kept}
+use Rattle.seghandles.specs.declared.status.Status.{Status}
+use Rattle.std.proofs.Common.{Option}
+use Rattle.seghandles.specs.Reading.{GotHeld}
+use Rattle.seghandles.proofs.Answering.{unanswered}
+use Rattle.seghandles.proofs.holding.raw_held_value.Goals as goal
+
+pub returns-in_default : goal.returns-in_default
+returns-in_default c =
+    unanswered (λ (b a : Option Kept) (returned : Status). GotHeld b a (c.args.value.now, c.args.value_len.now) (c.args.value.now, c.args.value_len.now) returned) _ _ _
+    c.in_default.ensures.kept c.in_default.ensures.kept c.number.ensures ((refl, refl), refl)

@@ -1,0 +1,12 @@
+use Rattle.std.proofs.Common.{refl}
+use Rattle.seghandles.specs.declared.kept.Kept.{Kept}
+use Rattle.seghandles.specs.declared.status.Status.{Status}
+use Rattle.std.proofs.Common.{Option}
+use Rattle.seghandles.specs.Many.{GotMany}
+use Rattle.seghandles.proofs.Answering.{unanswered}
+use Rattle.seghandles.proofs.many.get_many_by.Goals as goal
+
+pub returns-in_default : goal.returns-in_default
+returns-in_default c =
+    unanswered (λ (b a : Option Kept) (returned : Status). GotMany c.args.versioned c.args.keys.now c.args.now c.args.lookups.now c.args.lookups.now b a returned) _ _ _
+    c.in_default.ensures.kept c.in_default.ensures.kept c.number.ensures ((refl, refl), refl)

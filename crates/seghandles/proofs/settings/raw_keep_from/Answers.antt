@@ -1,0 +1,12 @@
+use Rattle.std.proofs.Common.{refl}
+use Rattle.seghandles.specs.declared.kept.Kept.{Kept}
+use Rattle.seghandles.specs.declared.status.Status.{Status}
+use Rattle.std.proofs.Common.{Option}
+use Rattle.seghandles.specs.Setting.{KeptFrom}
+use Rattle.seghandles.proofs.Answering.{unanswered}
+use Rattle.seghandles.proofs.settings.raw_keep_from.Goals as goal
+
+pub returns-in_default : goal.returns-in_default
+returns-in_default c =
+    unanswered (λ (b a : Option Kept) (returned : Status). KeptFrom c.args.cutoff b a returned) _ _ _
+    c.in_default.ensures.kept c.in_default.ensures.kept c.number.ensures (refl, refl)

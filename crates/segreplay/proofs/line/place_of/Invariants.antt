@@ -1,7 +1,0 @@
-use Rattle.std.proofs.Common.{◌≡◌, drop}
-use Rattle.segreplay.specs.Lines.{fields_of, place_named}
-use Rattle.segreplay.proofs.line.place_of.Given as goal
-
-abbrev pub invariant-loop-place : goal.invariant-loop-place
-invariant-loop-place l =
-    place_named l.column 0 (fields_of l.row.at l.row.line.now) ≡ place_named l.column l.place (drop l.place (fields_of l.row.at l.row.line.now))

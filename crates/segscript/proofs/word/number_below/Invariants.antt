@@ -1,9 +1,0 @@
-use Rattle.std.proofs.Common.{◌≡◌, ◌<◌, drop}
-use Rattle.segscript.specs.Reading.{number_from}
-use Rattle.segscript.proofs.word.number_below.Given as goal
-
-abbrev pub invariant-loop-byte : goal.invariant-loop-byte
-invariant-loop-byte l = record {
-  same : number_from l.limit 0 l.digits ≡ number_from l.limit l.number (drop l.byte-index l.digits);
-  small : l.number < l.limit;
-}

@@ -1,0 +1,5 @@
+pub mod Building
+pub mod NoHelp
+pub mod Options
+mod WordsFacts
+pub mod WordsRead

@@ -1,5 +1,0 @@
-use Rattle.segmodel.specs.declared.request.Request.TheVariants.{Delete}
-use Rattle.segwrite.proofs.removal.delete_and_tell.Given as goal
-
-abbrev pub ghost-remove : goal.ghost-remove
-ghost-remove a = Delete a.sought.now.key a.now

@@ -1,4 +1,0 @@
-use Rattle.segwrite.proofs.write.store.Given as goal
-
-abbrev pub ghost-link : goal.ghost-link
-ghost-link g a = g.request
