@@ -3,7 +3,7 @@ ghost use Rattle.std.specs.Prelude.{◌≡◌, IfOk, IfErr};
 ghost use Rattle.segword.specs.Words.{longest};
 
 use segbase::{Board, MakeFault, Pass};
-use segword::Shape;
+use segword::{Limits, Shape};
 use std::alloc::Global;
 
 /// The object index. It is used through its passes, each by one thread at a time.
@@ -15,7 +15,7 @@ pub struct Index {
 
 impl Index {
     ghost use Rattle.segbase.specs.Words.{IsMakeFault};
-    ghost use Rattle.segindex.specs.Index.{shape_of};
+    ghost use Rattle.segindex.specs.Index.{board_of, shape_of};
     ghost use Rattle.segindex.specs.Index.{IsNew};
 
     /// An index of this shape with its passes, in the order of their numbers.
@@ -33,5 +33,12 @@ impl Index {
         ensures { result ≡ shape_of self.now }
     {
         self.board.shape()
+    }
+
+    /// How long keys and values of the index are at most.
+    pub fn limits(&self) -> Limits
+        ensures { result ≡ (board_of self.now).limits }
+    {
+        self.board.limits()
     }
 }

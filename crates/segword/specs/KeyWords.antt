@@ -1,16 +1,11 @@
--- The part of a row's first words that is the key's: all but the value's length.
+-- The part of an item's first words that is the key's: all but the value's length.
 use Rattle.std.specs.Prelude.{ℕ, List, ◌∷◌, length, take, drop, slice_index}
 use Rattle.segword.specs.declared.key.TheConstants.{KEY_ROOM, KEY_WORDS}
 use Rattle.segword.specs.Row.{bytes_of, words_from}
-use Rattle.segword.specs.RowLayout.{key_length}
 
 -- a key's length, and its bytes in words
 abbrev pub key_words : List ℕ → List ℕ
 key_words key = length key ∷ words_from KEY_WORDS key 0
-
--- the same part of a row's first words
-abbrev pub key_part : List ℕ → List ℕ
-key_part words = key_length (slice_index words 0) ∷ drop 1 words
 
 -- the key that has these words, if one has them
 abbrev pub key_from : List ℕ → List ℕ

@@ -1,16 +1,13 @@
--- How many rows an item takes: one, or in a build for longer keys and values as many as it needs,
--- one behind the other. Each definition begins with a test of the constant.
+-- How many rows an item takes: as many as it needs, one behind the other.
 use Rattle.std.specs.Prelude.{ℕ, ◌+◌, ◌/◌, ◌%◌, ◌==◌, ◌&&◌, Bool, nat_le, nat_lt, List, length, if◌then◌else◌}
 use Rattle.std.specs.Int.{div_ceil}
 use Rattle.segword.specs.declared.row.TheConstants.{ROW_WORDS}
-use Rattle.segword.specs.declared.spans.TheConstants.{MOST_SPAN}
 use Rattle.segword.specs.Row.{key_width}
 use Rattle.segword.specs.RowLayout.{key_length, value_length}
 
 -- how many rows the item of a key and a value with these lengths takes
 abbrev pub span : ℕ → ℕ → ℕ
-span key value =
-    if MOST_SPAN == 1 then 1 else div_ceil (1 + key_width key + div_ceil value 8) ROW_WORDS
+span key value = div_ceil (1 + key_width key + div_ceil value 8) ROW_WORDS
 
 abbrev pub span_of : List ℕ → List ℕ → ℕ
 span_of key value = span (length key) (length value)
@@ -29,7 +26,7 @@ covers first rows row =
 
 -- the row of a place of an item that begins in a row, and the place in that row
 abbrev pub row_behind : ℕ → ℕ → ℕ
-row_behind first place = if MOST_SPAN == 1 then first else first + place / ROW_WORDS
+row_behind first place = first + place / ROW_WORDS
 
 abbrev pub place_behind : ℕ → ℕ
-place_behind place = if MOST_SPAN == 1 then place else place % ROW_WORDS
+place_behind place = place % ROW_WORDS

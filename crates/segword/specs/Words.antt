@@ -8,7 +8,7 @@ pub use Rattle.segword.specs.ChainWord.{chain_word, IsChainWord}
 pub use Rattle.segword.specs.Fnv.{hash_of, tag_from_hash, with_byte}
 pub use Rattle.segword.specs.InfoWord.{info_word}
 pub use Rattle.segword.specs.ItemWord.{item_word, tag_part}
-pub use Rattle.segword.specs.Limits.{IsWithin, longest}
+pub use Rattle.segword.specs.Limits.{IsWithin, longest, most_rows, SpansAreFew}
 pub use Rattle.segword.specs.Props.{either-prop, IsKey-prop, IsValid-prop, IsValue-prop, pair-prop}
 pub use Rattle.segword.specs.Props.{quadruple-prop, triple-prop}
 pub use Rattle.segword.specs.Reading.{IsProperReading, reading_word}

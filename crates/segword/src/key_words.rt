@@ -2,19 +2,17 @@
 ghost use Rattle.std.specs.Prelude.{◌≡◌, ◌↔◌, ◌<◌, ◌≤◌, ◌==◌, ◌+◌, IsTrue, List, ℕ, take, length, slice_index, if◌then◌else◌};
 ghost use Rattle.segword.specs.Bytes.{IsKey, IsValue};
 ghost use Rattle.segword.specs.Row.{row_of};
-ghost use Rattle.segword.specs.KeyWords.{key_words, key_part};
+ghost use Rattle.segword.specs.KeyWords.{key_words};
 ghost use Rattle.segword.specs.RowLayout.{key_length};
 ghost use Rattle.segword.specs.Row.{key_width};
 ghost use Rattle.segword.specs.Spans.{span_of};
 
-use crate::key::KEY_WORDS;
 use crate::row::HEAD_WORDS;
-use crate::spans::{ITEM_WORDS, MOST_SPAN, key_width, span};
-use crate::value::VALUE_WORDS;
+use crate::spans::{ITEM_WORDS, key_width, span};
 use crate::{Key, ValueBytes};
 use std::marker::Model;
 
-/// A key as rows hold it: its length, and its bytes in `KEY_WORDS` words.
+/// A key as rows hold it: its length, and its bytes in words.
 /// It is compared with rows word by word, so that no key is read out of a row. The key stays
 /// where it stands: its words are loaded from there.
 /// Contracts see it as the list of the key's bytes.
@@ -41,19 +39,6 @@ impl<'k> KeyWords<'k> {
         KeyWords { key: key.known() }
     }
 
-    /// Whether a row that begins with these words is one of this key.
-    pub fn begins(&self, words: &[u64; HEAD_WORDS]) -> bool
-        ensures value { IsTrue result ↔ (key_part words.now ≡ key_words self.now) }
-        ensures same_key { (key value : List ℕ) → IsKey key → IsValue value
-            → key_width (length key) ≡ KEY_WORDS
-            → take HEAD_WORDS (row_of key value) ≡ words.now
-            → IsTrue result ↔ (key ≡ self.now) }
-    {
-        let mut head = *words;
-        head[0] &= 0xff;
-        head == self.words()
-    }
-
     /// How many rows the item of this key and a value takes.
     #[inline(always)]
     pub fn span(&self, value: &ValueBytes<'_>) -> u32
@@ -63,32 +48,6 @@ impl<'k> KeyWords<'k> {
         ensures valid { IsValue value.now }
     {
         span(self.key.len() as u32, value.len() as u32)
-    }
-
-    /// The words of this key and a value.
-    #[inline(always)]
-    pub fn row(&self, value: &ValueBytes<'_>) -> [u64; ITEM_WORDS]
-        ensures row { result ≡ row_of self.now value.now }
-        ensures key { IsKey self.now }
-        ensures valid { IsValue value.now }
-    {
-        let head = self.head();
-        if MOST_SPAN > 1 {
-            let mut words = [0; ITEM_WORDS];
-            words[..head].copy_from_slice(&self.words()[..head]);
-            words[0] |= (value.len() as u64) << 8;
-            words[head..head + VALUE_WORDS].copy_from_slice(&value.words());
-            return words;
-        }
-        let words = value.words();
-        let mut row = [0; ITEM_WORDS];
-        for place in 0..head {
-            row[place] = self.item_word(value, place);
-        }
-        for place in 0..VALUE_WORDS {
-            row[head + place] = words[place];
-        }
-        row
     }
 
     /// The word at a place of the item of this key and a value.
@@ -128,19 +87,5 @@ impl<'k> KeyWords<'k> {
             return word & 0xff == self.key.len() as u64;
         }
         word == self.key.word(place - 1)
-    }
-
-    // The length and all words.
-    #[inline(always)]
-    fn words(&self) -> [u64; HEAD_WORDS]
-        ensures words { result ≡ key_words self.now }
-        ensures valid { IsKey self.now }
-    {
-        let mut words = [0; HEAD_WORDS];
-        words[0] = self.key.len() as u64;
-        for place in 0..KEY_WORDS {
-            words[1 + place] = self.key.word(place);
-        }
-        words
     }
 }

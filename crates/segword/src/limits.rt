@@ -1,8 +1,9 @@
 //! The limits of a table: how long its keys and values are at most.
 ghost use Rattle.std.specs.Prelude.{◌≡◌};
-ghost use Rattle.segword.specs.Limits.{longest};
+ghost use Rattle.segword.specs.Limits.{SpansAreFew, longest, most_rows};
 
 use crate::key::KEY_BYTES;
+use crate::spans::span;
 use crate::value::VALUE_BYTES;
 
 /// How many bytes a key and a value of a table have at most.
@@ -23,5 +24,13 @@ impl Limits {
             key: KEY_BYTES as u32,
             value: VALUE_BYTES as u32,
         }
+    }
+
+    /// How many rows an item of such a table takes at most.
+    pub fn most_rows(self) -> u32
+        ensures rows { result ≡ most_rows self }
+        ensures few { SpansAreFew }
+    {
+        span(self.key, self.value)
     }
 }

@@ -1,5 +1,4 @@
-//! How many rows an item takes: one, or in a build for longer keys and values as many as it needs,
-//! one behind the other.
+//! How many rows an item takes: as many as it needs, one behind the other.
 ghost use Rattle.std.specs.Prelude.{◌≡◌, ◌≤◌};
 ghost use Rattle.segword.specs.Row.{key_width};
 ghost use Rattle.segword.specs.Spans.{span, span_of, span_of_header, value_place};
@@ -12,7 +11,7 @@ use crate::{Key, Value, ValueBytes};
 /// How many words the longest item has, in whole rows.
 pub const ITEM_WORDS: usize = (HEAD_WORDS + VALUE_WORDS + ROW_WORDS - 1) / ROW_WORDS * ROW_WORDS;
 
-/// The most rows of an item. It is 1 where each item takes one row.
+/// The most rows of an item.
 pub const MOST_SPAN: usize = ITEM_WORDS / ROW_WORDS;
 
 // The least words that an item has for its key.
@@ -23,9 +22,6 @@ const LEAST_KEY_WORDS: u32 = 3;
 pub fn key_width(key_length: u32) -> u32
     ensures { result ≡ key_width key_length }
 {
-    if MOST_SPAN == 1 {
-        return KEY_WORDS as u32;
-    }
     key_length
         .div_ceil(8)
         .max(LEAST_KEY_WORDS)
@@ -38,9 +34,6 @@ pub fn span(key_length: u32, value_length: u32) -> u32
     ensures rows { result ≡ span key_length value_length }
     ensures some { 1 ≤ result }
 {
-    if MOST_SPAN == 1 {
-        return 1;
-    }
     let words = 1 + key_width(key_length) + value_length.div_ceil(8);
     words.div_ceil(ROW_WORDS as u32)
 }
@@ -49,7 +42,7 @@ pub fn span(key_length: u32, value_length: u32) -> u32
 #[inline(always)]
 pub fn value_place(header: u64) -> usize
     ensures place { result ≡ value_place header }
-    ensures inside { result ≤ 33 }
+    ensures inside { result ≤ HEAD_WORDS }
 {
     1 + key_width((header & 0xff) as u32) as usize
 }

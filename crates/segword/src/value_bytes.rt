@@ -1,11 +1,11 @@
 //! Values in place: the bytes stand in a `Value` or in any slice, and aren't copied.
 ghost use Rattle.std.specs.Prelude.{◌≡◌, ◌≤◌, ◌*◌, ◌↔◌, length, IsSome, IfSome};
 ghost use Rattle.segword.specs.Bytes.{IsValue};
-ghost use Rattle.segword.specs.Row.{word_at, words_from};
+ghost use Rattle.segword.specs.Row.{word_at};
 
 use crate::Value;
-use crate::value::{VALUE_BYTES, VALUE_WORDS};
-use crate::words::{word_at, words_of};
+use crate::value::VALUE_BYTES;
+use crate::words::word_at;
 use std::marker::Model;
 
 /// The bytes of a value where they stand: at most `VALUE_BYTES`, any bytes.
@@ -58,15 +58,6 @@ impl<'v> ValueBytes<'v> {
         ensures valid { IsValue self.now }
     {
         self.bytes.len()
-    }
-
-    // The bytes, eight to a word.
-    #[inline(always)]
-    pub(crate) fn words(&self) -> [u64; VALUE_WORDS]
-        ensures value { result ≡ words_from VALUE_WORDS self.now 0 }
-        ensures valid { IsValue self.now }
-    {
-        words_of::<VALUE_WORDS>(self.bytes)
     }
 
     // One of the words. Behind the last it is 0.

@@ -1,20 +1,7 @@
 //! Bytes as words and back, eight bytes to a word, the first the lowest.
 ghost use Rattle.std.specs.Prelude.{◌≡◌, ◌+◌, ◌*◌, ◌-◌, ◌<◌, ◌≤◌, ◌↔◌, IsTrue, length, take, drop};
-ghost use Rattle.segword.specs.Row.{word_of, word_at, words_from, bytes_of};
+ghost use Rattle.segword.specs.Row.{word_of, word_at, bytes_of};
 ghost use Rattle.segword.specs.RowLayout.{IsZeroFrom};
-
-// The first `N` words of these bytes. Missing bytes count as 0.
-#[inline(always)]
-pub(crate) fn words_of<const N: usize>(bytes: &[u8]) -> [u64; N]
-    requires { N ≤ 512 }
-    ensures { result ≡ words_from N bytes.now 0 }
-{
-    let mut words = [0; N];
-    for (i, word) in words.iter_mut().enumerate() {
-        *word = word_at(bytes, 8 * i);
-    }
-    words
-}
 
 // The word of the eight bytes from `from` on, or of as many as there are.
 #[inline(always)]
