@@ -1,13 +1,12 @@
 -- The rows that items of several rows take in a segment: one key, and one frequency, for each of them.
 use Rattle.std.proofs.Common.{◌≡◌, ℕ, zero, suc, ◌+◌, ◌<◌, ◌≤◌, ◌==◌, Bool, true, false, cond, List, [], ◌∷◌, ◌++◌, length, replicate, Option, Some, None, refl, sym, ap, ◌∙◌, subst, eq-eqb, inl, inr, arith, MatchBool, IsSomeAnd, ◌||◌, ◌⊎◌, append_assoc, add-one, vec_len}
-use Rattle.std.proofs.lemmas.Bool.{cases_eq, cond-true, leb-false, ltb-false, ne_eqb}
+use Rattle.std.proofs.lemmas.Bool.{cases_eq, leb-false, ltb-false, ne_eqb}
 use Rattle.std.proofs.lemmas.List.{append-nil, length-append, length-replicate}
-use Rattle.std.specs.Int.{div_ceil}
 use Rattle.std.specs.Prelude.{slice_get}
 use Rattle.std.specs.Vec.{vec_capacity}
 use Rattle.std.specs.List.{list_any}
 use Rattle.std.specs.BTreeMap.{is_at}
-use Rattle.segword.specs.Words.{key_width, most_span, row_width, Shape, span_of}
+use Rattle.segword.specs.Words.{Shape, span_of}
 use Rattle.segmodel.specs.Words.{Cached}
 use Rattle.segmodel.specs.declared.segment.Segment.{Segment}
 use Rattle.segmodel.specs.Cache.{key_cmp, standing, with_at}
@@ -26,11 +25,7 @@ item_span_some key None = omega arith
 item_span_some key (Some item) = span_some key item.value
 
 pub under_some : (state : State) (key : List ℕ) → 1 ≤ span_under state key
-under_some state key = by (most_span == 1) (item_span_some key (standing state.cache key))
-  where
-    by : (one : Bool) → 1 ≤ span_of_item key (standing state.cache key) → 1 ≤ cond one 1 (span_of_item key (standing state.cache key))
-    by true some = omega arith
-    by false some = some
+under_some state key = item_span_some key (standing state.cache key)
 
 -- ---- so many rows are left
 
@@ -195,18 +190,10 @@ space_left segments segment rows limit own roomy same left = by (is_there segmen
 
 -- the rows of an item that stands under a key, and of none
 pub under_is : (state : State) (key : List ℕ) (item : Cached) → standing state.cache key ≡ Some item → span_of key item.value ≡ span_under state key
-under_is state key item stands = by (most_span == 1) refl
-  where
-    by : (one : Bool) → (most_span == 1) ≡ one → span_of key item.value ≡ cond one 1 (span_of_item key (standing state.cache key))
-    by true is = cond-true (most_span == 1) 1 (div_ceil (1 + key_width (length key) + div_ceil (length item.value) 8) row_width) is
-    by false is = ap (span_of_item key) (sym stands)
+under_is state key item stands = ap (span_of_item key) (sym stands)
 
 pub under_none : (state : State) (key : List ℕ) → standing state.cache key ≡ None → 1 ≡ span_under state key
-under_none state key stands = by (most_span == 1)
-  where
-    by : (one : Bool) → 1 ≡ cond one 1 (span_of_item key (standing state.cache key))
-    by true = refl
-    by false = ap (span_of_item key) (sym stands)
+under_none state key stands = ap (span_of_item key) (sym stands)
 
 -- a key is among its own rows
 pub among_rows : (rows : ℕ) (key : List ℕ) → 1 ≤ rows → is_among (replicate rows key) key ≡ true

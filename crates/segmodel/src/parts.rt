@@ -14,7 +14,7 @@ ghost use Rattle.segmodel.specs.Segments.{deadlines, by_bucket};
 
 use crate::segment::Segment;
 use crate::{Cached, PlainFault, SegState};
-use segword::{Key, MOST_SPAN, Value, span_of};
+use segword::{Key, Value, span_of};
 use std::alloc::Global;
 use std::cmp::Ordering;
 use std::collections::BTreeMap;
@@ -87,13 +87,9 @@ pub fn add_row(segments: &mut Vec<Segment>, segment: usize, key: Key, value: &Va
     ensures deadlines { deadlines segments.new.items ≡ deadlines segments.old.items }
     ensures room { KeepsRoom segments.old.items segments.new.items }
 {
-    if MOST_SPAN > 1 {
-        for _row in 0..span_of(&key, value) {
-            push_row(segments, segment, key.copy(), frequency);
-        }
-        return;
+    for _row in 0..span_of(&key, value) {
+        push_row(segments, segment, key.copy(), frequency);
     }
-    push_row(segments, segment, key, frequency);
 }
 
 // Adds a key to a segment, for one row, with the frequency of its item.

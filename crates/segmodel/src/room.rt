@@ -4,25 +4,10 @@ ghost use Rattle.segword.specs.Words.{span_of};
 
 use crate::parts::used_rows;
 use crate::plain::Plain;
-use segword::{Key, MOST_SPAN, Value, span_of};
+use segword::{Key, Value, span_of};
 
 impl Plain {
-    ghost use Rattle.segmodel.specs.Plain.{filling_in, HasLeft, is_used_up, lacks_room, span_at};
-
-    // The segment that is filled, if it has a row left.
-    pub(crate) fn room(&self) -> Option<u32>
-        ensures current { IfSome result (λ segment. self.now.current ≡ Some segment) }
-        ensures left { IfSome result (λ segment.
-            length (filling_in self.now segment).keys < self.now.shape.rows) }
-        ensures some { IfSome result (λ segment. is_used_up self.now ≡ false) }
-        ensures none { IfNone result (is_used_up self.now ≡ true) }
-    {
-        let segment = self.current?;
-        if self.shape.rows as usize <= used_rows(&self.segments, segment as usize) {
-            return None;
-        }
-        Some(segment)
-    }
+    ghost use Rattle.segmodel.specs.Plain.{filling_in, HasLeft, lacks_room, span_at};
 
     // The segment that is filled, if it has rows left for this key and this value.
     pub(crate) fn room_for(&self, key: &Key, value: &Value) -> Option<u32>
@@ -33,13 +18,10 @@ impl Plain {
             lacks_room self.now (span_of key.now value.now) ≡ false) }
         ensures none { IfNone result (lacks_room self.now (span_of key.now value.now) ≡ true) }
     {
-        if MOST_SPAN > 1 {
-            let segment = self.current?;
-            let used = used_rows(&self.segments, segment as usize);
-            let rows = used + span_of(key, value) as usize;
-            return (rows <= self.shape.rows as usize).then_some(segment);
-        }
-        self.room()
+        let segment = self.current?;
+        let used = used_rows(&self.segments, segment as usize);
+        let rows = used + span_of(key, value) as usize;
+        (rows <= self.shape.rows as usize).then_some(segment)
     }
 
     // The segment that is filled, if it has rows left for the item under a row's key.
@@ -52,13 +34,10 @@ impl Plain {
             lacks_room self.now (span_at self.now segment row) ≡ false) }
         ensures none { IfNone result (lacks_room self.now (span_at self.now segment row) ≡ true) }
     {
-        if MOST_SPAN > 1 {
-            let to = self.current?;
-            let used = used_rows(&self.segments, to as usize);
-            let rows = used + self.span_at(segment, row) as usize;
-            return (rows <= self.shape.rows as usize).then_some(to);
-        }
-        self.room()
+        let to = self.current?;
+        let used = used_rows(&self.segments, to as usize);
+        let rows = used + self.span_at(segment, row) as usize;
+        (rows <= self.shape.rows as usize).then_some(to)
     }
 
     // How many rows the item under a row's key takes.
@@ -67,9 +46,6 @@ impl Plain {
         requires used { row < length (filling_in self.now segment).keys }
         ensures { result ≡ span_at self.now segment row }
     {
-        if MOST_SPAN == 1 {
-            return 1;
-        }
         let key = &self.segments[segment as usize].keys[row];
         match self.items.get(key) {
             Some(item) => span_of(key, &item.value),

@@ -43,8 +43,8 @@ loop-row-preserved c =
       left = λ rows all. c.push_row.ensures.left rows (c.loop-row.invariant.left (rows + 1) (omega (arith, all)));
     }
 
-pub returns-then-this-gt-MOST_SPAN-clause-added : goal.returns-then-this-gt-MOST_SPAN-clause-added
-returns-then-this-gt-MOST_SPAN-clause-added c =
+pub returns-clause-added : goal.returns-clause-added
+returns-clause-added c =
     let start = fillings c.args.segments.now.items in
     let rows : c.loop-row._row ≡ span_of c.args.key c.args.value.now = omega (arith, c.loop-row-test.false, c.loop-row.invariant.end) in
     c.loop-row.invariant.added

@@ -1,9 +1,0 @@
-use Rattle.std.proofs.Common.{rules, ◌≡◌, ◌<◌, Some, arith}
-use Rattle.segmodel.proofs.plain.Plain.room.Goals as goal
-
-pub used_rows-requires : goal.used_rows-requires
-used_rows-requires c =
-    let kept = c.args.self.now.kept in
-    let is : c.args.self.now.current ≡ Some c.in_ok-segment.segment = search rules in
-    let own : c.in_ok-segment.segment < c.args.self.now.shape.segments_each = kept.own _ (kept.in_use _ is) in
-    omega arith
