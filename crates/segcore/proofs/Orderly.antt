@@ -1,22 +1,21 @@
 -- What a lawful trace's marks count is what its events do: readers, rows, frequencies and drawn buckets; and they come in order.
-use Rattle.std.proofs.Common.{◌≡◌, ℕ, ◌+◌, ◌<◌, ◌≤◌, Bool, true, false, cond, eqb, ◌&&◌, ◌||◌, List, [], ◌∷◌, Some, None, MatchBool, ◌==◌, sym, refl, ap, ◌∙◌, subst, ⊎_elim, arith}
+use Rattle.std.proofs.Common.{◌≡◌, ℕ, ◌+◌, ◌<◌, ◌≤◌, Bool, true, false, cond, eqb, ◌&&◌, ◌||◌, List, [], ◌∷◌, Some, None, sym, refl, ap, ◌∙◌, subst, ⊎_elim, arith}
 use Rattle.std.proofs.lemmas.Bool.{and_from, and_parts, cases_Bool, cond-false, cond-true, eqb-true, false≢true}
 use Rattle.std.proofs.lemmas.Option.{none-some}
-use Rattle.segword.specs.RowLayout.{key_length, value_length}
-use Rattle.segword.specs.Words.{covers, most_span, Shape, span_of_header}
+use Rattle.segword.specs.Words.{covers, Shape, span_of_header}
 use Rattle.segmodel.specs.Words.{key_of}
 use Rattle.segcore.specs.Words.{Event, Leaving}
 use Rattle.segcore.specs.declared.event.Event.TheVariants.{Replied, Filled, Linked, Relinked, Unlinked, Drew, Chained, Bumped, Entered, Left, Refilled}
 use Rattle.segcore.specs.Event.{removal}
 use Rattle.segcore.specs.Overflow.{drawn_in}
-use Rattle.segcore.specs.Row.{frequency_of, Row, row_after, row_alone, writes_row}
+use Rattle.segcore.specs.Row.{frequency_of, Row, row_alone, writes_row}
 use Rattle.segcore.specs.Segment.{inside, readers, was_used}
 use Rattle.segcore.specs.Lawful.{IsLawful}
 use Rattle.segcore.specs.Mark.{Mark, enters, marked, all_drawn, all_entered, all_left, times_entered, times_left, is_segment_named, linked_in, frequency_in, IsOrderly}
 use Rattle.segcore.specs.declared.event.Leaving.TheVariants.{Deletes, Evicts}
 use Rattle.segcore.proofs.Quiet.{linked_first, moved_first, of_row}
 use Rattle.segcore.proofs.Readers.{is_counted}
-use Rattle.segcore.proofs.Spans.{covers-first, header_some, span_one}
+use Rattle.segcore.proofs.Spans.{covers-first, header_some}
 
 pub all_drawn_marked : (h : List Event) → all_drawn (marked h) ≡ drawn_in h
 all_drawn_marked [] = refl
@@ -38,18 +37,6 @@ named_marked (e ∷ h) s = named_marked h s
 
 -- ---- rows
 
--- where an item takes one row, it is that row
-one_row : (first header r : ℕ) → eqb most_span 1 ≡ true → covers first (span_of_header header) r ≡ eqb first r
-one_row first header r one = ap (λ n. covers first n r) (span_one (key_length header) (value_length header) one)
-
-linked_cond : (t : Bool) (u : Row) (k : List ℕ) → cond t (Some k) u.linked ≡ (cond t (record u { linked = Some k }) u).linked
-linked_cond true u k = refl
-linked_cond false u k = refl
-
-unlinked_cond : (t : Bool) (u : Row) → cond t None u.linked ≡ (cond t (record u { linked = None }) u).linked
-unlinked_cond true u = refl
-unlinked_cond false u = refl
-
 filled_cond : (t : Bool) (u v : Row) → v.linked ≡ u.linked → u.linked ≡ (cond t v u).linked
 filled_cond true u v e = sym e
 filled_cond false u v e = refl
@@ -57,21 +44,6 @@ filled_cond false u v e = refl
 removed_rows : (p : ℕ) (k : List ℕ) (why : Leaving) (h : List Mark) (s r : ℕ) → linked_in (enters (removal p k why) ∷ h) s r ≡ linked_in h s r
 removed_rows p k (Deletes m) h s r = refl
 removed_rows p k (Evicts t) h s r = refl
-
-linked_each : (h : List Event) (s r : ℕ) → eqb most_span 1 ≡ true → linked_in (marked h) s r ≡ (row_alone h s r).linked
-linked_each [] s r one = refl
-linked_each (Linked p q t i n ∷ h) s r one =
-    ap (cond (eqb t s && eqb i r) (Some (key_of q))) (linked_each h s r one)
-    ∙ ap (λ b. cond (eqb t s && b) (Some (key_of q)) (row_alone h s r).linked) (sym (one_row i ((row_alone h t i).words 0) r one))
-    ∙ linked_cond (of_row h (Linked p q t i n) s r) (row_alone h s r) (key_of q)
-linked_each (Relinked p k a b t i n ∷ h) s r one =
-    ap (cond (eqb t s && eqb i r) (Some k)) (linked_each h s r one)
-    ∙ ap (λ b. cond (eqb t s && b) (Some k) (row_alone h s r).linked) (sym (one_row i ((row_alone h t i).words 0) r one))
-    ∙ linked_cond (of_row h (Relinked p k a b t i n) s r) (row_alone h s r) k
-linked_each (Refilled p t d ∷ h) s r one = ap (cond (eqb t s) None) (linked_each h s r one) ∙ unlinked_cond (eqb t s) (row_alone h s r)
-linked_each (Filled p t i j w ∷ h) s r one = linked_each h s r one ∙ filled_cond (eqb t s && eqb i r) (row_alone h s r) (writes_row (Filled p t i j w) (row_alone h s r)) refl
-linked_each (Unlinked p k n why ∷ h) s r one = removed_rows p k why (marked h) s r ∙ linked_each h s r one
-linked_each (e ∷ h) s r one = linked_each h s r one
 
 -- what is linked isn't unlinked, and what an item takes has its first row
 never : {A : Type 0} (t : Bool) (u : Row) (k : List ℕ) → t ≡ true → (cond t (record u { linked = Some k }) u).linked ≡ None → A
@@ -108,15 +80,6 @@ unlinked_marked (Refilled p t d ∷ h) s r none = ⊎_elim
 unlinked_marked (Filled p t i j w ∷ h) s r none = unlinked_marked h s r (filled_cond (eqb t s && eqb i r) (row_alone h s r) (writes_row (Filled p t i j w) (row_alone h s r)) refl ∙ none)
 unlinked_marked (Unlinked p k n why ∷ h) s r none = removed_rows p k why (marked h) s r ∙ unlinked_marked h s r none
 unlinked_marked (e ∷ h) s r none = unlinked_marked h s r none
-
-either_says : (b : Bool) {A B : Type 0} → (b ≡ true → A) → B → MatchBool b A B
-either_says true f g = f refl
-either_says false f g = g
-
--- where each item takes one row, the marks say of each row whether it is linked
-pub linked_marked : (h : List Event) (s r : ℕ) → MatchBool (most_span == 1) (linked_in (marked h) s r ≡ (row_after h s r).linked)
-    ((row_after h s r).linked ≡ None → linked_in (marked h) s r ≡ None)
-linked_marked h s r = either_says (eqb most_span 1) (linked_each h s r) (unlinked_marked h s r)
 
 -- ---- readers
 

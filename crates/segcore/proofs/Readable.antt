@@ -9,7 +9,7 @@ use Rattle.segcore.specs.Lawful.{IsLawful}
 use Rattle.segcore.specs.Kind.{MayRead}
 use Rattle.segcore.proofs.Caches.{stands_in}
 use Rattle.segcore.proofs.Quiet.{quiet, quiet_alone, quiet_inside}
-use Rattle.segcore.proofs.Spans.{covered, header_span, item_after, row_still}
+use Rattle.segcore.proofs.Spans.{header_span, item_after, row_still}
 use Rattle.segcore.proofs.Entered.{row_stays, entered_row}
 use Rattle.segcore.proofs.Moments.{lawful_before}
 use Rattle.segcore.proofs.Segments.{is_pass}
@@ -48,7 +48,7 @@ read_row z more h p s r l none (inl own) = quiet_alone z more h s r l (subst (λ
 read_row z more h p s r l none (inr (inl (there, on))) = entered_row z more h p s r on.0 (is_pass z h p s (lawful_before z more h l) there) l none there on.1
 read_row z more h p s r l none (inr (inr (b, n, a, bit, is, es, er))) =
     subst (λ x. row_alone (more ++ h) x r ≡ row_alone h x r) es (named_row z h p b n a more l none bit.1 is r
-    (subst (λ x. covers a.row (span_in h x a.row) r ≡ true) (sym es) (covered h s a.row r er)))
+    (subst (λ x. covers a.row (span_in h x a.row) r ≡ true) (sym es) er))
 
 pub may_read : (z : Shape) (more h : List Event) (p s r : ℕ) → IsLawful z (more ++ h) → NoneBy p more → MayRead z h p s r → MayRead z (more ++ h) p s r
 may_read z more h p s r l none (inl own) = inl own

@@ -1,9 +1,8 @@
--- How many rows an item takes, and what the rows of an item have to do with the first of them: where each item takes one row, they are that row.
+-- How many rows an item takes, and what the rows of an item have to do with the first of them.
 use Rattle.std.proofs.Common.{◌≡◌, ℕ, ◌+◌, ◌*◌, ◌<◌, ◌≤◌, Bool, true, false, cond, eqb, nat_le, nat_lt, ◌&&◌, List, length, MatchBool, sym, refl, ap, ◌∙◌, subst, ⊎_elim, arith}
 use Rattle.std.proofs.lemmas.Bool.{cases_Bool, cond-true, cond-false, eqb-true, eq-eqb, and_from, le-leb, lt-ltb, ltb-true}
-use Rattle.std.specs.Int.{div_ceil}
 use Rattle.segword.specs.RowLayout.{key_length, value_length}
-use Rattle.segword.specs.Words.{covers, IsKey, IsValue, key_width, most_span, place_behind, row_behind, row_width, Shape}
+use Rattle.segword.specs.Words.{covers, IsKey, IsValue, place_behind, row_behind, row_width, Shape}
 use Rattle.segword.specs.Words.{span, span_of, span_of_header}
 use Rattle.segword.proofs.RowLemmas.{key_length-header, value_length-header}
 use Rattle.segcore.specs.Words.{Event}
@@ -15,9 +14,6 @@ use Rattle.segcore.specs.Kind.{IsRowOf}
 
 pub span_some : (key value : ℕ) → 1 ≤ span key value
 span_some key value = omega arith
-
-pub span_one : (key value : ℕ) → eqb most_span 1 ≡ true → span key value ≡ 1
-span_one key value one = cond-true (eqb most_span 1) 1 (div_ceil (1 + key_width key + div_ceil value 8) row_width) one
 
 pub header_some : (header : ℕ) → 1 ≤ span_of_header header
 header_some header = span_some (key_length header) (value_length header)
@@ -72,18 +68,9 @@ words_on-first rows r j lt =
     cond-true (nat_lt j (row_width * n)) ((rows (row_behind r j)).words (place_behind j)) 0 (lt-ltb j (row_width * n) inside)
     ∙ (λ t. (rows (row t)).words (place t))
 
-either_words : (b : Bool) (u v : Row) (f g : ℕ → ℕ) (j : ℕ) → u.words j ≡ v.words j → f j ≡ g j
-    → (cond b u (record u { words = f })).words j ≡ (cond b v (record v { words = g })).words j
-either_words true u v f g j e d = e
-either_words false u v f g j e d = d
-
-first_word : (b : Bool) (u : Row) (f : ℕ → ℕ) (j : ℕ) → f j ≡ u.words j → (cond b u (record u { words = f })).words j ≡ u.words j
-first_word true u f j e = refl
-first_word false u f j e = e
-
 -- the words of a row are the first ones of an item that begins there
 pub first_words : (h : List Event) (s r j : ℕ) → j < row_width → (row_after h s r).words j ≡ (row_alone h s r).words j
-first_words h s r j lt = first_word (eqb most_span 1) (row_alone h s r) (words_on (row_alone h s) r) j (words_on-first (row_alone h s) r j lt)
+first_words h s r j lt = words_on-first (row_alone h s) r j lt
 
 by_test : (b : Bool) (x y : ℕ) → (b ≡ true → x ≡ y) → cond b x 0 ≡ cond b y 0
 by_test true x y e = e refl
@@ -105,7 +92,7 @@ same_after h g s r same =
     let header = (row_alone h s r).words 0 in
     let first : row_alone g s r ≡ row_alone h s r = same r (covers-first r (span_of_header header) (header_some header)) in
     let words = same_on (row_alone h s) (row_alone g s) r same in
-    λ t. cond (eqb most_span 1) (first t) (record (first t) { words = λ place. words place t })
+    λ t. record (first t) { words = λ place. words place t }
 
 -- the same where the rows are told by the item's first word
 pub item_after : (h g : List Event) (s r : ℕ) → ((i : ℕ) → covers r (span_in h s r) i ≡ true → row_alone g s i ≡ row_alone h s i) → row_after g s r ≡ row_after h s r
@@ -116,8 +103,7 @@ item_after h g s r same = same_after h g s r (λ i c. same i
 pub same_words_after : (h g : List Event) (s r : ℕ) → ((i j : ℕ) → (row_alone g s i).words j ≡ (row_alone h s i).words j)
     → (j : ℕ) → (row_after g s r).words j ≡ (row_after h s r).words j
 same_words_after h g s r same j =
-    either_words (eqb most_span 1) (row_alone g s r) (row_alone h s r) (words_on (row_alone g s) r) (words_on (row_alone h s) r) j (same r j)
-    (λ t. cond (nat_lt j (row_width * span_of_header (same r 0 t))) (same (row_behind r j) (place_behind j) t) 0)
+    λ t. cond (nat_lt j (row_width * span_of_header (same r 0 t))) (same (row_behind r j) (place_behind j) t) 0
 
 -- ---- the rows of an item that holds a pair
 
@@ -133,18 +119,6 @@ pub alone_span : (h : List Event) (s r : ℕ) (k v : List ℕ) → IsKey k → I
 alone_span h s r k v is_key is_value holds =
     ap span_of_header (sym (first_words h s r 0 (omega arith))) ∙ header_span (row_after h s r) k v is_key is_value holds
 
--- a row of an item, and one of so many from the first on, are one and the same
-pub covered : (h : List Event) (s first r : ℕ) → IsRowOf h s first r → covers first (span_in h s first) r ≡ true
-covered h s first r is =
-    let header = (row_after h s first).words 0 in
-    let One = first ≡ r in let All = covers first (span_in h s first) r ≡ true in ⊎_elim
-    (λ t. ap (λ n. covers first n r) (span_one (key_length header) (value_length header) t) ∙ eq-eqb first r (subst (λ b. MatchBool b One All) t is))
-    (λ f. subst (λ b. MatchBool b One All) f is)
-    (cases_Bool (eqb most_span 1))
-
--- and it is one still where the first row is as before
+-- a row of an item is one still where the first row is as before
 pub row_still : (g h : List Event) (s first r : ℕ) → row_after g s first ≡ row_after h s first → IsRowOf h s first r → IsRowOf g s first r
-row_still g h s first r same is =
-    let before = covers first (span_in h s first) r ≡ true in let after = covers first (span_in g s first) r ≡ true in
-    let still : before → after = λ c. subst (λ (u : Row). covers first (span_of_header (u.words 0)) r ≡ true) (sym same) c in
-    own_by (eqb most_span 1) {A = first ≡ r} {B = before} {C = first ≡ r} {D = after} (λ e. e) still is
+row_still g h s first r same is = subst (λ (u : Row). covers first (span_of_header (u.words 0)) r ≡ true) (sym same) is

@@ -1,8 +1,8 @@
 -- The kinds of step: the one word that each touches, what that word becomes,
 -- the events that the step adds, and when a pass may take it.
-use Rattle.std.specs.Prelude.{◌≡◌, ℕ, ◌+◌, ◌%◌, ◌^◌, ◌<◌, ◌≤◌, ◌==◌, ◌⊎◌, Bool, true, false, List, [], ◌∷◌, ◌++◌, Option, Some, None, bit_or, if◌then◌else◌, ◌*◌, MatchBool}
+use Rattle.std.specs.Prelude.{◌≡◌, ℕ, ◌+◌, ◌%◌, ◌^◌, ◌<◌, ◌≤◌, ◌==◌, ◌⊎◌, Bool, true, false, List, [], ◌∷◌, ◌++◌, Option, Some, None, bit_or, if◌then◌else◌, ◌*◌}
 use prog.Atomic.{either}
-use Rattle.segword.specs.Words.{chain_word, covers, most_span, row_width, Shape}
+use Rattle.segword.specs.Words.{chain_word, covers, row_width, Shape}
 use Rattle.segmodel.specs.declared.entry.Entry.TheVariants as entry
 use Rattle.segmodel.specs.Words.{after, bucket_of, Follows, key_of, owner, Reply, Request, tag_of}
 use Rattle.segcore.specs.declared.event.Event.{Event}
@@ -161,12 +161,9 @@ MayLookAt (OfBucket bucket w) = 0 < w
 MayLookAt (OfOverflow number w) = 0 < w
 MayLookAt _ = ⊥
 
--- the row is one of the item that begins in another one, and that one where items take one row
+-- the row is one of the item that begins in this first one
 abbrev pub IsRowOf : List Event → ℕ → ℕ → ℕ → Type 0
-IsRowOf trace segment first row =
-    MatchBool (most_span == 1)
-    (first ≡ row)
-    (covers first (span_in trace segment first) row ≡ true)
+IsRowOf trace segment first row = covers first (span_in trace segment first) row ≡ true
 
 -- The row is the pass's own.
 -- Or the pass is in the row's segment, and the row was linked in this filling.

@@ -1,7 +1,7 @@
 -- The state of a segment's rows after a trace: the words of each,
 -- which key was linked to it in this filling, and the frequency of its item.
 use Rattle.std.specs.Prelude.{◌≡◌, ℕ, ◌*◌, ◌<◌, ◌==◌, ◌&&◌, Bool, false, nat_lt, List, [], ◌∷◌, Option, Some, None, slice_index, if◌then◌else◌}
-use Rattle.segword.specs.Words.{covers, most_span, place_behind, row_behind, row_of, row_width}
+use Rattle.segword.specs.Words.{covers, place_behind, row_behind, row_of, row_width}
 use Rattle.segword.specs.Words.{span_of, span_of_header}
 use Rattle.segmodel.specs.Words.{key_of, with_at}
 use Rattle.segcore.specs.declared.event.Event.{Event}
@@ -31,16 +31,12 @@ writes_row _ row = row
 
 -- whether a link or a move, by a word 0 for each segment and row, has this row among those of its
 -- item; any other event is of one row at most, or of all of a segment
-abbrev pub row_among : (ℕ → ℕ → ℕ) → Event → ℕ → ℕ → Bool
-row_among header (Linked pass request s r position) segment row =
-    (s == segment) && covers r (span_of_header (header s r)) row
-row_among header (Relinked pass key from from_row s r position) segment row =
-    (s == segment) && covers r (span_of_header (header s r)) row
-row_among header event segment row = row_at event segment row
-
 abbrev pub is_of_row : (ℕ → ℕ → ℕ) → Event → ℕ → ℕ → Bool
-is_of_row header event segment row =
-    if most_span == 1 then row_at event segment row else row_among header event segment row
+is_of_row header (Linked pass request s r position) segment row =
+    (s == segment) && covers r (span_of_header (header s r)) row
+is_of_row header (Relinked pass key from from_row s r position) segment row =
+    (s == segment) && covers r (span_of_header (header s r)) row
+is_of_row header event segment row = row_at event segment row
 
 -- the state of a row by itself after a trace
 abbrev pub row_alone : List Event → ℕ → ℕ → Row
@@ -58,12 +54,10 @@ words_on rows first place =
     then (rows (row_behind first place)).words (place_behind place)
     else 0
 
--- the state of a row after a trace; where items take several rows, its words are those of the item
--- that begins there
+-- the state of a row after a trace; its words are those of the item that begins there
 abbrev pub row_after : List Event → ℕ → ℕ → Row
 row_after trace segment row =
-    if most_span == 1 then row_alone trace segment row else
-    (record (row_alone trace segment row) { words = words_on (row_alone trace segment) row })
+    record (row_alone trace segment row) { words = words_on (row_alone trace segment) row }
 
 -- the row's words, and those of the rows of the item behind it, are those of the pair
 abbrev pub Holds : Row → List ℕ → List ℕ → Type 0
