@@ -1,7 +1,7 @@
 -- The words of a board that was closed, and what had happened by then.
-use Rattle.std.specs.Prelude.{◌≡◌, ℕ, ◌-◌, ◌*◌, ◌<◌, ◌≤◌, ◌==◌, min, nat_lt, if◌then◌else◌, List, ◌++◌, Some, slice_get, slice_index}
+use Rattle.std.specs.Prelude.{◌≡◌, ℕ, ◌-◌, ◌*◌, ◌<◌, ◌≤◌, min, nat_lt, if◌then◌else◌, List, ◌++◌, Some, slice_get, slice_index}
 use Rattle.std.specs.Slots.{slots_items}
-use Rattle.segword.specs.Words.{IsValid, item_width, most_span, place_behind, row_behind}
+use Rattle.segword.specs.Words.{IsValid, item_width, place_behind, row_behind}
 use Rattle.segword.specs.Words.{row_width, Shape, span_of_header}
 use Rattle.segcore.specs.declared.cell.Cell.TheVariants.{OfRow}
 use Rattle.segcore.specs.Words.{address, Cell, Event, IsCell, IsLawful, Knows, NoneBy, word}
@@ -25,10 +25,9 @@ rows_there words segment row =
 -- the word at a place of the item that begins in a row; behind its rows is 0
 abbrev pub word_on : Words → ℕ → ℕ → ℕ → ℕ
 word_on words segment row place =
-    if most_span == 1 then word_of_cell words (OfRow segment row place) else (
     if nat_lt place (row_width * rows_there words segment row)
     then word_of_cell words (OfRow segment (row_behind row place) (place_behind place))
-    else 0)
+    else 0
 
 -- these are the words of a row, and of the rows behind it as far as its item goes on there
 abbrev pub HasWordsOf : Words → ℕ → ℕ → List ℕ → Type 0

@@ -13,7 +13,7 @@ use crate::layout::Layout;
 use crate::pass::Pass;
 use crate::place::{Place, Spot};
 use atomic_table::{Closed, Seat};
-use segword::{ITEM_WORDS, MOST_SPAN, ROW_WORDS, Shape, span_of_header};
+use segword::{ITEM_WORDS, ROW_WORDS, Shape, span_of_header};
 use std::alloc::Global;
 
 /// The words of a board that was closed.
@@ -126,35 +126,25 @@ impl Words {
         self.word(Spot::Item(place))
     }
 
-    /// The words of a row, or of the item of several rows that begins there.
+    /// The words of a row, and of those behind it of the item that begins there.
     /// Behind them is 0.
     pub fn row(&self, segment: u32, row: u32) -> [u64; ITEM_WORDS]
         requires segment { IsSegment (shape_of self.now) segment }
         requires row { row < (shape_of self.now).rows }
         ensures { HasWordsOf self.now segment row result }
     {
+        let header = self.word(Spot::Row {
+            segment,
+            row,
+            word: 0,
+        });
+        let rows = span_of_header(header).min(self.shape.rows - row);
         let mut words = [0; ITEM_WORDS];
-        if MOST_SPAN > 1 {
-            let header = self.word(Spot::Row {
+        for at in 0..ITEM_WORDS.min(ROW_WORDS * rows as usize) {
+            words[at] = self.word(Spot::Row {
                 segment,
-                row,
-                word: 0,
-            });
-            let rows = span_of_header(header).min(self.shape.rows - row);
-            for at in 0..ITEM_WORDS.min(ROW_WORDS * rows as usize) {
-                words[at] = self.word(Spot::Row {
-                    segment,
-                    row: row + (at / ROW_WORDS) as u32,
-                    word: (at % ROW_WORDS) as u8,
-                });
-            }
-            return words;
-        }
-        for place in 0..ROW_WORDS as u8 {
-            words[place as usize] = self.word(Spot::Row {
-                segment,
-                row,
-                word: place,
+                row: row + (at / ROW_WORDS) as u32,
+                word: (at % ROW_WORDS) as u8,
             });
         }
         words

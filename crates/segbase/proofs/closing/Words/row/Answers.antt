@@ -1,7 +1,7 @@
-use Rattle.std.proofs.Common.{◌≡◌, ℕ, zero, suc, ◌+◌, ◌-◌, ◌*◌, ◌/◌, ◌%◌, ◌<◌, ◌≤◌, ◌==◌, Bool, true, false, cond, get_or, min, nat_lt, replicate, refl, ap, ◌∙◌, arith, below_more, length-set, get_or-set_other, get_or-set_same}
-use Rattle.std.proofs.lemmas.Bool.{cond-true, eqb-true, ltb-false, ltb-true}
+use Rattle.std.proofs.Common.{◌≡◌, ℕ, zero, suc, ◌+◌, ◌-◌, ◌*◌, ◌/◌, ◌%◌, ◌<◌, ◌≤◌, Bool, true, false, cond, get_or, min, nat_lt, replicate, refl, ap, ◌∙◌, arith, below_more, length-set, get_or-set_other, get_or-set_same}
+use Rattle.std.proofs.lemmas.Bool.{ltb-false, ltb-true}
 use Rattle.std.proofs.lemmas.List.{length-replicate}
-use Rattle.segword.specs.Words.{item_width, most_span, place_behind, row_behind, row_width, span_of_header}
+use Rattle.segword.specs.Words.{item_width, place_behind, row_behind, row_width, span_of_header}
 use Rattle.segcore.specs.declared.cell.Cell.TheVariants.{OfRow}
 use Rattle.segbase.specs.declared.closing.Words.{Words}
 use Rattle.segbase.specs.Closing.{rows_there, shape_of, word_of_cell, word_on}
@@ -22,28 +22,17 @@ at_place words segment row place inside =
     λ i. word_of_cell words (OfRow segment (at i) (within i))
 
 -- the word that was loaded is the one that is there
-module _ (words : Words) (segment row at place found : ℕ) (own : row < (shape_of words).rows) (end : at ≡ min item_width (row_width * rows_there words segment row))
+module _ (words : Words) (segment row at place found : ℕ) (end : at ≡ min item_width (row_width * rows_there words segment row))
     (inside : place < item_width) (before : place < at → found ≡ word_of_cell words (OfRow segment (row_behind row place) (place_behind place))) (behind : at ≤ place → found ≡ 0) where
-  some : 1 ≤ rows_there words segment row
-  some = omega (arith, own)
-
   abbrev row_word : ℕ
   row_word = word_of_cell words (OfRow segment (row_behind row place) (place_behind place))
 
   is_word : found ≡ word_on words segment row place
-  is_word = by (most_span == 1) refl
+  is_word = of (nat_lt place (row_width * rows_there words segment row)) refl
     where
       of : (here : Bool) → nat_lt place (row_width * rows_there words segment row) ≡ here → found ≡ cond here row_word 0
       of true is = let low = ltb-true place (row_width * rows_there words segment row) is in before (omega (arith, low, inside, end))
       of false is = let high = ltb-false place (row_width * rows_there words segment row) is in behind (omega (arith, high, end))
-
-      by : (one : Bool) → (most_span == 1) ≡ one
-          → found ≡ cond one (word_of_cell words (OfRow segment row place)) (cond (nat_lt place (row_width * rows_there words segment row)) row_word 0)
-      by true is =
-          let first = some in let single = eqb-true most_span 1 is in
-          before (omega (arith, first, single, inside, end))
-          ∙ (λ i. word_of_cell words (OfRow segment (cond-true (most_span == 1) row (row + place / row_width) is i) (cond-true (most_span == 1) place (place % row_width) is i)))
-      by false is = of (nat_lt place (row_width * rows_there words segment row)) refl
 
 pub loop-at-init : goal.loop-at-init
 loop-at-init c = record {
@@ -69,18 +58,8 @@ loop-at-preserved c =
       behind = λ k le. get_or-set_other words i k c.word.result 0 (λ e. omega (arith, le, e)) ∙ inv.behind k (omega (arith, le));
     }
 
-pub returns-then-this-gt-MOST_SPAN : goal.returns-then-this-gt-MOST_SPAN
-returns-then-this-gt-MOST_SPAN c = λ place inside.
+pub returns : goal.returns
+returns c = λ place inside.
     let inv = c.loop-at.invariant in let over = c.loop-at-test.false in let end = inv.end in
-    is_word c.args.self.now c.args.segment c.args.row c.loop-at.at place (get_or c.loop-at.words place 0) c.requires.row (omega (arith, over, end)) inside
+    is_word c.args.self.now c.args.segment c.args.row c.loop-at.at place (get_or c.loop-at.words place 0) (omega (arith, over, end)) inside
     (inv.found place) (inv.behind place)
-
-pub loop-place-preserved : goal.loop-place-preserved
-loop-place-preserved c =
-    let words = c.loop-place.words in let i = c.loop-place.place in let inv = c.loop-place.invariant in
-    let long = inv.0 in let below = c.loop-place-test.true in (
-      length-set words i c.word-in-loop-place.result ∙ inv.0,
-      below_more _ _
-          (λ k lt. get_or-set_other words i k c.word-in-loop-place.result 0 (λ e. omega arith) ∙ inv.1 k lt)
-          (get_or-set_same words i c.word-in-loop-place.result 0 (omega arith) ∙ c.word-in-loop-place.ensures),
-    )

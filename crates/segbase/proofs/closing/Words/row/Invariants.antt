@@ -4,9 +4,6 @@ use Rattle.segcore.specs.declared.cell.Cell.TheVariants.{OfRow}
 use Rattle.segbase.specs.Closing.{rows_there, word_of_cell}
 use Rattle.segbase.proofs.closing.Words.row.Given as goal
 
-abbrev pub invariant-loop-place : goal.invariant-loop-place
-invariant-loop-place l = (length l.words ≡ item_width) × ((k : ℕ) → k < l.place → get_or l.words k 0 ≡ word_of_cell l.self (OfRow l.segment l.row k))
-
 -- so many words of an item of several rows, and 0 behind them
 abbrev pub invariant-loop-at : goal.invariant-loop-at
 invariant-loop-at l = record {
