@@ -1,44 +1,29 @@
 -- The rows of an item that begins in a row: its words by the rows that have them, and rows behind those of the table.
-use Rattle.std.proofs.Common.{◌≡◌, ◌≢◌, ℕ, ◌+◌, ◌-◌, ◌*◌, ◌/◌, ◌%◌, ◌<◌, ◌≤◌, Bool, true, false, cond, eqb, nat_le, nat_lt, ◌&&◌, List, get_or, length, slice_index, take, [], ◌∷◌, None, MatchBool, refl, sym, ap, ◌∙◌, subst, ⊎_elim, arith}
+use Rattle.std.proofs.Common.{◌≡◌, ◌≢◌, ℕ, ◌+◌, ◌-◌, ◌*◌, ◌<◌, ◌≤◌, Bool, true, false, cond, eqb, nat_le, nat_lt, ◌&&◌, List, get_or, length, slice_index, take, [], ◌∷◌, None, MatchBool, refl, sym, ap, ◌∙◌, subst, ⊎_elim, arith}
 use Rattle.std.proofs.lemmas.Bool.{and_from, and_parts, cases_Bool, cases_eq, cases_lt, cond-false, cond-true, eq-eqb, eqb-true, false_from_ne_true, false≢true, le-leb, le-ltb, leb-true, lt-ltb, ltb-true, ne_eqb}
 use Rattle.std.proofs.lemmas.Grind.{same_number_lists}
 use Rattle.std.proofs.lemmas.List.{drop_all, get_or-drop}
 use Rattle.std.specs.Int.{div_ceil}
 use Rattle.segword.specs.Row.{value_width, word_of}
-use Rattle.segword.specs.RowLayout.{key_length, value_length}
-use Rattle.segword.specs.Words.{covers, IsKey, IsValue, item_width, key_width, most_span, place_behind, row_behind, row_of, row_width, Shape, span, span_of, span_of_header, value_place}
+use Rattle.segword.specs.RowLayout.{value_length}
+use Rattle.segword.specs.Words.{covers, IsKey, IsValue, item_width, key_width, place_behind, row_behind, row_of, row_width, Shape, span, span_of, span_of_header, value_place}
 use Rattle.segword.specs.Words as word
 use Rattle.segword.proofs.RowLemmas.{get_or-words_from, key_length-header, length-row_of, value_in_row, value_length-header, widths}
 use Rattle.segcore.specs.declared.event.Event.TheVariants.{Filled, Linked, Relinked, Refilled}
-use Rattle.segcore.specs.Row.{words_on, writes_row}
+use Rattle.segcore.specs.Row.{writes_row}
 use Rattle.segcore.specs.Words.{AreOwnRows, Event, Holds, IsLawful, IsOwnRow, Row, row_after, row_alone, span_in}
 use Rattle.segcore.specs.Lawful.{Suits}
 use Rattle.segcore.proofs.Quiet.{linked_own, moved_own, of_row}
-use Rattle.segcore.proofs.Spans.{covers-behind, covers-first, first_words, header_span, own_row, span_one, span_some}
+use Rattle.segcore.proofs.Spans.{covers-behind, covers-first, first_words, header_span, own_row, span_some}
 
 -- what is so in each of two cases
-pub in_each : (b : Bool) {A B : Type 0} → (b ≡ true → A) → (b ≡ false → B) → MatchBool b A B
-in_each true f g = f refl
-in_each false f g = g refl
+in_either : (b : Bool) {A B : Type 0} → A → B → MatchBool b A B
+in_either true f g = f
+in_either false f g = g
 
 pub in_same : (b : Bool) {A B C D : Type 0} → (A → C) → (B → D) → MatchBool b A B → MatchBool b C D
 in_same true f g is = f is
 in_same false f g is = g is
-
--- ---- where each item takes one row
-
-pub one_covers : (first header row : ℕ) → eqb most_span 1 ≡ true → covers first (span_of_header header) row ≡ true → first ≡ row
-one_covers first header row one c =
-    eqb-true first row (sym (ap (λ n. covers first n row) (span_one (key_length header) (value_length header) one)) ∙ c)
-
-pub one_width : eqb most_span 1 ≡ true → item_width ≡ row_width
-one_width one = let rows = eqb-true most_span 1 one in omega (arith, rows)
-
-behind_one : (first place : ℕ) → eqb most_span 1 ≡ true → row_behind first place ≡ first
-behind_one first place one = cond-true (eqb most_span 1) first (first + place / row_width) one
-
-place_one : (place : ℕ) → eqb most_span 1 ≡ true → place_behind place ≡ place
-place_one place one = cond-true (eqb most_span 1) place (place % row_width) one
 
 -- ---- rows and places
 
@@ -94,29 +79,20 @@ covers-more first few rows row le c = let low = covers-low first few row c in le
 
 -- ---- words of an item
 
-chosen : (b : Bool) (u : Row) (f : ℕ → ℕ) (place word : ℕ) → (b ≡ true → u.words place ≡ word) → (b ≡ false → f place ≡ word)
-    → (cond b u (record u { words = f })).words place ≡ word
-chosen true u f place word alone on = alone refl
-chosen false u f place word alone on = on refl
-
 -- they are those of its rows
 pub item_word : (h : List Event) (s r place : ℕ) → place < row_width * span_in h s r
     → (row_after h s r).words place ≡ (row_alone h s (row_behind r place)).words (place_behind place)
 item_word h s r place lt =
     let header = (row_alone h s r).words 0 in let word = (row_alone h s (row_behind r place)).words (place_behind place) in
     let inside : place < row_width * span_of_header header = subst (λ w. place < row_width * span_of_header w) (first_words h s r 0 (omega arith)) lt in
-    chosen (eqb most_span 1) (row_alone h s r) (words_on (row_alone h s) r) place word
-    (λ one t. (row_alone h s (sym (behind_one r place one) t)).words (sym (place_one place one) t))
-    (λ _. cond-true (nat_lt place (row_width * span_of_header header)) word 0 (lt-ltb place (row_width * span_of_header header) inside))
+    cond-true (nat_lt place (row_width * span_of_header header)) word 0 (lt-ltb place (row_width * span_of_header header) inside)
 
--- and 0 behind them, where items take several
-pub past_item : (h : List Event) (s r place : ℕ) → eqb most_span 1 ≡ false → row_width * span_in h s r ≤ place → (row_after h s r).words place ≡ 0
-past_item h s r place several le =
+-- and 0 behind them
+pub past_item : (h : List Event) (s r place : ℕ) → row_width * span_in h s r ≤ place → (row_after h s r).words place ≡ 0
+past_item h s r place le =
     let header = (row_alone h s r).words 0 in let word = (row_alone h s (row_behind r place)).words (place_behind place) in
     let past : row_width * span_of_header header ≤ place = subst (λ w. row_width * span_of_header w ≤ place) (first_words h s r 0 (omega arith)) le in
-    chosen (eqb most_span 1) (row_alone h s r) (words_on (row_alone h s) r) place 0
-    (λ one. absurd (false≢true (sym several ∙ one)))
-    (λ _. cond-false (nat_lt place (row_width * span_of_header header)) word 0 (le-ltb place (row_width * span_of_header header) past))
+    cond-false (nat_lt place (row_width * span_of_header header)) word 0 (le-ltb place (row_width * span_of_header header) past)
 
 -- the words of a pair behind its rows are 0
 row_past : (key value : List ℕ) (place : ℕ) → row_width * span_of key value ≤ place → place < item_width → slice_index (row_of key value) place ≡ 0
@@ -137,10 +113,7 @@ item_is_pair h s r key value found is_key is_value holds long each =
     same_number_lists (row_of key value) found (length-row_of key value ∙ sym long) (λ place less.
     let lt : place < item_width = omega (arith, less, length-row_of key value) in ⊎_elim
     (λ inside. sym (each place lt ∙ holds place inside))
-    (λ past. row_past key value place past lt ∙ sym (each place lt ∙ ⊎_elim
-    (λ one. let width = one_width one in let single = span_one (length key) (length value) one in absurd (omega (arith, width, single, past, lt)))
-    (λ several. past_item h s r place several (subst (λ n. row_width * n ≤ place) (sym rows) past))
-    (cases_Bool (eqb most_span 1))))
+    (λ past. row_past key value place past lt ∙ sym (each place lt ∙ past_item h s r place (subst (λ n. row_width * n ≤ place) (sym rows) past)))
     (cases_lt place (row_width * span_of key value)))
 
 -- rows that have the words of a pair hold it
@@ -184,9 +157,9 @@ own_place z h p s r rows place own lt = own_row z h p s r rows (row_behind r pla
 
 -- and so are fewer of them
 pub own_fewer : (z : Shape) (h : List Event) (p s r few rows : ℕ) → 1 ≤ few → few ≤ rows → AreOwnRows z h p s r rows → AreOwnRows z h p s r few
-own_fewer z h p s r few rows some le own = in_each (eqb few 1)
-    (λ _. own_row z h p s r rows r own (covers-more r few rows r le (covers-first r few some)))
-    (λ _ i c. own_row z h p s r rows i own (covers-more r few rows i le c))
+own_fewer z h p s r few rows some le own = in_either (eqb few 1)
+    (own_row z h p s r rows r own (covers-more r few rows r le (covers-first r few some)))
+    (λ i c. own_row z h p s r rows i own (covers-more r few rows i le c))
 
 -- ---- rows behind those of the table
 

@@ -1,9 +1,8 @@
 -- All rows of an item that was found are linked to its key, and so they stay until their segment is refilled.
-use Rattle.std.proofs.Common.{◌≡◌, ℕ, ◌<◌, true, eqb, List, ◌++◌, Some, MatchBool, sym, ap, ◌∙◌, subst, inl, inr, ⊎_elim, arith}
-use Rattle.std.proofs.lemmas.Bool.{cases_Bool}
+use Rattle.std.proofs.Common.{◌≡◌, ℕ, ◌<◌, true, List, ◌++◌, Some, sym, ap, ◌∙◌, subst, inl, inr, arith}
 use Rattle.std.proofs.lemmas.Option.{same_Some}
-use Rattle.segword.specs.Words.{covers, IsValid, most_span, Shape, span_of_header}
-use Rattle.segcore.specs.Words.{Event, inside, IsLawful, MayRead, NoneRefills, Row, row_after, row_alone}
+use Rattle.segword.specs.Words.{covers, IsValid, Shape, span_of_header}
+use Rattle.segcore.specs.Words.{Event, inside, IsLawful, NoneRefills, Row, row_after, row_alone}
 use Rattle.segcore.proofs.Exact.{named_at, tagged}
 use Rattle.segcore.proofs.Segments.{row_since}
 use Rattle.segcore.proofs.Spans.{alone_span, covers-first, first_words, header_some, same_after}
@@ -27,12 +26,7 @@ same_header h s r = ap span_of_header (first_words h s r 0 (omega arith))
 -- a pass in the segment may read all of them
 pub may_read_linked : (z : Shape) (h : List Event) (pass s r : ℕ) (k : List ℕ) → 0 < inside h pass s → AllLinked h s r k → MayReadItem z h pass s r
 may_read_linked z h pass s r k there all =
-    let One = MayRead z h pass s r in
-    let All = (other : ℕ) → covers r (span_of_header ((row_after h s r).words 0)) other ≡ true → other < z.rows → MayRead z h pass s other in ⊎_elim
-    (λ t. subst (λ b. MatchBool b One All) (sym t) (inr (inl (there, (k, first_linked h s r k all)))))
-    (λ f. subst (λ b. MatchBool b One All) (sym f)
-    (λ other c within. inr (inl (there, (k, all other (subst (λ n. covers r n other ≡ true) (same_header h s r) c))))))
-    (cases_Bool (eqb most_span 1))
+    λ other c within. inr (inl (there, (k, all other (subst (λ n. covers r n other ≡ true) (same_header h s r) c))))
 
 -- ---- since a moment
 

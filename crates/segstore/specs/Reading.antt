@@ -1,6 +1,6 @@
 -- What a pass reads of a row, and what the pass does by that.
-use Rattle.std.specs.Prelude.{◌≡◌, ℕ, zero, suc, ◌+◌, ◌<◌, ◌==◌, true, List, [], ◌∷◌, MatchBool}
-use Rattle.segword.specs.Words.{covers, IsKey, IsValue, most_span, Shape}
+use Rattle.std.specs.Prelude.{◌≡◌, ℕ, ◌<◌, true, List, [], ◌∷◌}
+use Rattle.segword.specs.Words.{covers, IsKey, IsValue, Shape}
 use Rattle.segcore.specs.Words.{Event, Holds, IsSegment, MayRead, Row, row_after, span_in}
 use Rattle.segcore.specs.declared.event.Event.TheVariants.{Entered, Left}
 use Rattle.segbase.specs.Words.{AddsAtOnce, AddsEvents, Board, number, Pass, Reads, ReadsIn, sight}
@@ -16,12 +16,10 @@ pub record OnlyLooks (b : Board) (p q : Pass) : Type 0 where
 -- the pass may read the row, and the rows behind it of the item that begins there
 abbrev pub MayReadItem : Shape → List Event → ℕ → ℕ → ℕ → Type 0
 MayReadItem shape trace pass segment row =
-    MatchBool (most_span == 1)
-    (MayRead shape trace pass segment row)
-    ((other : ℕ)
+    (other : ℕ)
     → covers row (span_in trace segment row) other ≡ true
     → other < shape.rows
-    → MayRead shape trace pass segment other)
+    → MayRead shape trace pass segment other
 
 -- the row is one of the table, and the pass may read it: no one changes it meanwhile
 abbrev pub IsReadable : Board → Pass → ℕ → ℕ → Type 0
@@ -43,11 +41,6 @@ pub record HoldsPair (row : Row) : Type 0 where
   pub is_key : IsKey key
   pub is_value : IsValue value
   pub holds : Holds row key value
-
--- so many words of a row, from a place on
-abbrev pub words_at : (ℕ → ℕ) → ℕ → ℕ → List ℕ
-words_at words from zero = []
-words_at words from (suc count) = words from ∷ words_at words (from + 1) count
 
 -- ---- coming into segments, and leaving them
 

@@ -1,8 +1,8 @@
 -- What the writing of a row adds to a trace, and what the row holds then.
-use Rattle.std.specs.Prelude.{ℕ, ◌==◌, List, [], ◌∷◌, slice_index, MatchBool}
+use Rattle.std.specs.Prelude.{ℕ, List, [], ◌∷◌, slice_index}
 use Rattle.segcore.specs.Words.{Event, Holds, Row}
 use Rattle.segcore.specs.declared.event.Event.TheVariants.{Filled}
-use Rattle.segword.specs.Words.{IsKey, IsValue, most_span, place_behind, row_behind, row_of}
+use Rattle.segword.specs.Words.{IsKey, IsValue, place_behind, row_behind, row_of}
 use Rattle.segbase.specs.Words.{AddsEvents, Board, number, Pass}
 
 -- the pass stored words into these places of the item that begins in the row, the last place first
@@ -21,14 +21,11 @@ StoresRow b segment row words p q =
 abbrev pub FillsRow : Board → ℕ → ℕ → List ℕ → List ℕ → Pass → Pass → Type 0
 FillsRow b segment row key value p q = StoresRow b segment row (row_of key value) p q
 
--- The second row holds each pair that the first one holds.
--- Where items take several rows, this is said of only keys and values.
+-- the second row holds each key and value that the first one holds
 abbrev pub HoldsAlso : Row → Row → Type 0
 HoldsAlso row other =
-    MatchBool (most_span == 1)
-    ((key value : List ℕ) → Holds row key value → Holds other key value)
-    ((key value : List ℕ)
+    (key value : List ℕ)
     → IsKey key
     → IsValue value
     → Holds row key value
-    → Holds other key value)
+    → Holds other key value

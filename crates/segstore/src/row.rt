@@ -5,7 +5,7 @@ ghost use Rattle.segword.specs.Words.{head_width, IsKey, IsValue};
 ghost use Rattle.segcore.specs.Words.{Holds, row_after};
 ghost use Rattle.segbase.specs.Words.{IsPassOf, trace};
 ghost use Rattle.segstore.specs.Calls.{TakesAtMost};
-ghost use Rattle.segstore.specs.Reading.{IsReadable, ReadsRow, words_at};
+ghost use Rattle.segstore.specs.Reading.{IsReadable, ReadsRow};
 
 use crate::spans::{load_place, load_places};
 use segbase::{Board, Pass};
@@ -21,30 +21,6 @@ pub struct RowRef {
     pub row: u32,
 }
 
-// So many words of a row, from a place on.
-#[inline(always)]
-pub(crate) fn load_words<const N: usize>(
-    board: &Board,
-    pass: &mut Pass,
-    segment: u32,
-    row: u32,
-    from: u8,
-) -> [u64; N]
-    requires pass { IsPassOf board.now pass.old }
-    requires readable { IsReadable board.now pass.old segment row }
-    requires fits { from + N ≤ ROW_WORDS }
-    ensures reads { ReadsRow board.now pass.old pass.new segment row }
-    ensures steps { TakesAtMost N pass.old pass.new }
-    ensures words { result ≡ words_at (row_after (trace pass.new) segment row).words from N }
-{
-    let at = board.row_at(segment, row);
-    let mut words = [0; N];
-    for place in 0..N as u8 {
-        words[place as usize] = board.row_load_at(pass, at, from + place);
-    }
-    words
-}
-
 // All words of the item that begins in a row. Behind its rows is 0.
 #[inline(always)]
 pub(crate) fn load_item(board: &Board, pass: &mut Pass, segment: u32, row: u32) -> [u64; ITEM_WORDS]
@@ -55,16 +31,13 @@ pub(crate) fn load_item(board: &Board, pass: &mut Pass, segment: u32, row: u32) 
     ensures words { (place : ℕ) → place < ITEM_WORDS
         → slice_index result place ≡ (row_after (trace pass.new) segment row).words place }
 {
-    if MOST_SPAN > 1 {
-        let at = board.row_at(segment, row);
-        let mut words = [0; ITEM_WORDS];
-        let header = load_place(board, pass, at, 0);
-        words[0] = header;
-        let rows = span_of_header(header).min(MOST_SPAN as u32);
-        load_places(board, pass, at, 0, &mut words, 1, ROW_WORDS * rows as usize);
-        return words;
-    }
-    load_words(board, pass, segment, row, 0)
+    let at = board.row_at(segment, row);
+    let mut words = [0; ITEM_WORDS];
+    let header = load_place(board, pass, at, 0);
+    words[0] = header;
+    let rows = span_of_header(header).min(MOST_SPAN as u32);
+    load_places(board, pass, at, 0, &mut words, 1, ROW_WORDS * rows as usize);
+    words
 }
 
 /// Word 0 of a row, if the row is one of the key:
@@ -87,25 +60,18 @@ pub fn row_of_key(
         → Holds (row_after (trace pass.new) segment row) held value
         → IsSome result ↔ (held ≡ key.now) }
 {
-    if MOST_SPAN > 1 {
-        let at = board.row_at(segment, row);
-        let header = load_place(board, pass, at, 0);
-        if !key.has_word(0, header) {
-            return None;
-        }
-        for place in 1..key.head() {
-            let word = load_place(board, pass, at, place as u32);
-            if !key.has_word(place, word) {
-                return None;
-            }
-        }
-        return Some(header);
-    }
-    let words = load_words(board, pass, segment, row, 0);
-    if !key.begins(&words) {
+    let at = board.row_at(segment, row);
+    let header = load_place(board, pass, at, 0);
+    if !key.has_word(0, header) {
         return None;
     }
-    Some(words[0])
+    for place in 1..key.head() {
+        let word = load_place(board, pass, at, place as u32);
+        if !key.has_word(place, word) {
+            return None;
+        }
+    }
+    Some(header)
 }
 
 /// The key of a row.
@@ -117,15 +83,12 @@ pub fn key_of_row(board: &Board, pass: &mut Pass, segment: u32, row: u32) -> Opt
     ensures key { (key value : List ℕ) → IsKey key → IsValue value
         → Holds (row_after (trace pass.new) segment row) key value → result ≡ Some key }
 {
-    if MOST_SPAN > 1 {
-        let at = board.row_at(segment, row);
-        let mut words = [0; HEAD_WORDS];
-        let header = load_place(board, pass, at, 0);
-        words[0] = header;
-        load_places(board, pass, at, 0, &mut words, 1, value_place(header));
-        return read_key(&words);
-    }
-    read_key(&load_words(board, pass, segment, row, 0))
+    let at = board.row_at(segment, row);
+    let mut words = [0; HEAD_WORDS];
+    let header = load_place(board, pass, at, 0);
+    words[0] = header;
+    load_places(board, pass, at, 0, &mut words, 1, value_place(header));
+    read_key(&words)
 }
 
 /// The key and the value of a row.

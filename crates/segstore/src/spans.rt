@@ -1,8 +1,8 @@
-//! The words of an item of several rows, by their places in it, and how many rows it takes.
+//! The words of an item, by their places in it, and how many rows it takes.
 ghost use Rattle.std.specs.Prelude.{◌≡◌, ◌==◌, ℕ, ◌+◌, ◌-◌, ◌*◌, ◌^◌, ◌<◌, ◌≤◌, slice_index};
 ghost use Rattle.std.specs.Prelude.{if◌then◌else◌};
 ghost use Rattle.segword.specs.RowLayout.{value_length};
-ghost use Rattle.segword.specs.Words.{most_span, place_behind, row_behind, row_width};
+ghost use Rattle.segword.specs.Words.{place_behind, row_behind, row_width};
 ghost use Rattle.segcore.specs.declared.cell.Cell.TheVariants.{OfRow};
 ghost use Rattle.segcore.specs.Words.{IsCell, row_after, span_in};
 ghost use Rattle.segbase.specs.Words.{IsPassOf, trace};
@@ -12,22 +12,18 @@ ghost use Rattle.segstore.specs.Reading.{IsReadable, ReadsRow};
 
 use crate::row::RowRef;
 use segbase::{Board, Pass, RowPlace};
-use segword::{MOST_SPAN, ROW_WORDS, span_of_header};
+use segword::{ROW_WORDS, span_of_header};
 
 const ROW: u32 = ROW_WORDS as u32;
 
 /// How many rows the item takes that begins in a row, by its word 0.
-/// Where each item takes one row, it looks at none.
 pub fn span_of_row(board: &Board, pass: &mut Pass, row: RowRef) -> u32
     requires pass { IsPassOf board.now pass.old }
     requires readable { IsReadable board.now pass.old row.segment row.row }
     ensures reads { ReadsRow board.now pass.old pass.new row.segment row.row }
     ensures span { result ≡ span_in (trace pass.new) row.segment row.row }
-    ensures steps { TakesAtMost (if most_span == 1 then 0 else 1) pass.old pass.new }
+    ensures steps { TakesAtMost 1 pass.old pass.new }
 {
-    if MOST_SPAN == 1 {
-        return 1;
-    }
     span_of_header(board.row_load(pass, row.segment, row.row, 0))
 }
 
@@ -43,9 +39,6 @@ pub(crate) fn load_place(board: &Board, pass: &mut Pass, at: RowPlace, place: u3
     ensures steps { TakesAtMost 1 pass.old pass.new }
     ensures word { result ≡ (row_after (trace pass.new) at.segment at.row).words place }
 {
-    if MOST_SPAN == 1 {
-        return board.row_load_at(pass, at, place as u8);
-    }
     if place < ROW {
         return board.row_load_at(pass, at, place as u8);
     }
@@ -106,8 +99,5 @@ pub(crate) fn row_of_place(board: &Board, at: RowPlace, place: u32) -> (RowPlace
     ensures place { result.1 ≡ place_behind place }
     ensures start { IsRowAt board.now.shape result.0 }
 {
-    if MOST_SPAN == 1 {
-        return (at, place as u8);
-    }
     (board.row_behind(at, place / ROW), (place % ROW) as u8)
 }

@@ -71,11 +71,7 @@ pub fn fill_row(
     ensures plain { pass.new.plain ≡ pass.old.plain }
     ensures memo { (sight pass.new).memo ≡ (sight pass.old).memo }
 {
-    if MOST_SPAN > 1 {
-        store_item(board, pass, row, key, value);
-        return;
-    }
-    store_words(board, pass, row, key.span(value), &key.row(value));
+    store_item(board, pass, row, key, value);
 }
 
 /// Writes into a row of the pass's own, that no item named in this filling, and into as many behind

@@ -1,12 +1,12 @@
 use Rattle.std.proofs.Common.{◌≡◌, ℕ, suc, ◌+◌, ◌-◌, ◌*◌, ◌≤◌, get_or, length, sym, ap, subst, ◌∙◌, arith}
 use Rattle.segword.specs.RowLayout.{key_length}
-use Rattle.segword.specs.Words.{head_width, item_width, row_width, span_of_header}
+use Rattle.segword.specs.Words.{head_width, row_width, span_of_header}
 use Rattle.segcore.specs.Words.{Row, row_after}
 use Rattle.segcore.proofs.Spans.{header_some}
 use Rattle.segbase.specs.Words.{trace}
 use Rattle.segstore.proofs.ItemRows.{head_inside}
 use Rattle.segstore.proofs.KeyRows.{key_header, key_taken, read_as}
-use Rattle.segstore.proofs.Looks.{head_words, reads_then, same_readable, same_reads}
+use Rattle.segstore.proofs.Looks.{reads_then, same_readable, same_reads}
 use Rattle.segstore.proofs.row.key_of_row.Goals as goal
 
 pub load_place-header-requires-clause-readable : goal.load_place-header-requires-clause-readable
@@ -25,13 +25,13 @@ load_places-requires c = let load = c.load_place-header in
       (load.ensures.reads.looked.did.moved.pass, (c.row_at-at.ensures.start, (load.ensures.reads.readable, (omega (arith, end), (omega (arith, end), (places, omega (arith, most))))))),
     )
 
-pub returns-then-this-gt-MOST_SPAN-clause-reads : goal.returns-then-this-gt-MOST_SPAN-clause-reads
-returns-then-this-gt-MOST_SPAN-clause-reads c = let at = c.row_at-at.result in let b = c.args.board.now in
+pub returns-clause-reads : goal.returns-clause-reads
+returns-clause-reads c = let at = c.row_at-at.result in let b = c.args.board.now in
     same_reads b c.args.pass.now c.load_places.new.pass at c.args.segment c.args.row c.row_at-at.ensures.row
     (reads_then b _ _ _ at.segment at.row c.load_place-header.ensures.reads c.load_places.ensures.reads)
 
-pub returns-then-this-gt-MOST_SPAN-clause-key : goal.returns-then-this-gt-MOST_SPAN-clause-key
-returns-then-this-gt-MOST_SPAN-clause-key c = λ key value is_key is_value holds.
+pub returns-clause-key : goal.returns-clause-key
+returns-clause-key c = λ key value is_key is_value holds.
     let at = c.row_at-at.result in let e = c.row_at-at.ensures.row in let q = trace c.load_places.new.pass in
     let first = c.load_place-header in let load = c.load_places.ensures in let words = c.load_places.new.words in
     let row = row_after q c.args.segment c.args.row in
@@ -45,9 +45,3 @@ returns-then-this-gt-MOST_SPAN-clause-key c = λ key value is_key is_value holds
     (key_taken row key value is_key is_value holds words (8 * (head_width - 1)) (omega (arith, is_key.fits)) found
     (λ k lt. load.loaded (suc k) (omega arith) (omega (arith, lt, end, header)) ∙ here (0 + suc k) ∙ ap row.words (let n : 0 + suc k ≡ suc k = omega arith in n)))
     (omega (arith, long, is_key.not_empty)) (omega (arith, long, is_key.fits))
-
--- where each item takes one row
-pub returns-clause-key : goal.returns-clause-key
-returns-clause-key c = λ key value is_key is_value holds.
-    let one : item_width ≡ row_width = omega arith in
-    c.read_key-2.ensures.packed key value is_key is_value (head_words _ key value one holds ∙ sym c.load_words.ensures.words)

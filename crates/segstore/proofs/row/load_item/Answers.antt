@@ -1,13 +1,13 @@
-use Rattle.std.proofs.Common.{◌≡◌, ◌+◌, ◌-◌, ◌*◌, ◌≤◌, false, eqb, get_or, set, replicate, sym, ap, ◌∙◌, ⊎_elim, subst, arith, get_or-set_other}
-use Rattle.std.proofs.lemmas.Bool.{cases_eq, cases_lt, ne_eqb}
+use Rattle.std.proofs.Common.{◌≡◌, ◌+◌, ◌*◌, ◌≤◌, get_or, set, replicate, sym, ap, ◌∙◌, ⊎_elim, subst, arith, get_or-set_other}
+use Rattle.std.proofs.lemmas.Bool.{cases_eq, cases_lt}
 use Rattle.std.proofs.lemmas.List.{get_or-replicate}
 use Rattle.std.specs.Prelude.{slice_index}
-use Rattle.segword.specs.Words.{item_width, most_span, row_width, span_of_header}
+use Rattle.segword.specs.Words.{item_width, row_width, span_of_header}
 use Rattle.segcore.specs.Words.{Row, row_after}
 use Rattle.segcore.proofs.Spans.{header_some}
 use Rattle.segbase.specs.Words.{trace}
 use Rattle.segstore.proofs.ItemRows.{past_item}
-use Rattle.segstore.proofs.Looks.{get_or-words_at, reads_then, same_readable, same_reads}
+use Rattle.segstore.proofs.Looks.{reads_then, same_readable, same_reads}
 use Rattle.segstore.proofs.row.load_item.Goals as goal
 
 pub load_place-header-requires-clause-readable : goal.load_place-header-requires-clause-readable
@@ -27,18 +27,17 @@ load_places-requires c = let load = c.load_place-header in
       (load.ensures.reads.looked.did.moved.pass, (c.row_at-at.ensures.start, (load.ensures.reads.readable, (omega (arith, few, some), (omega (arith, few), (places, omega (arith, few))))))),
     )
 
-pub returns-then-this-gt-MOST_SPAN-clause-reads : goal.returns-then-this-gt-MOST_SPAN-clause-reads
-returns-then-this-gt-MOST_SPAN-clause-reads c = let at = c.row_at-at.result in let b = c.args.board.now in
+pub returns-clause-reads : goal.returns-clause-reads
+returns-clause-reads c = let at = c.row_at-at.result in let b = c.args.board.now in
     same_reads b c.args.pass.now c.load_places.new.pass at c.args.segment c.args.row c.row_at-at.ensures.row
     (reads_then b _ _ _ at.segment at.row c.load_place-header.ensures.reads c.load_places.ensures.reads)
 
-pub returns-then-this-gt-MOST_SPAN-clause-words : goal.returns-then-this-gt-MOST_SPAN-clause-words
-returns-then-this-gt-MOST_SPAN-clause-words c = λ place lt.
+pub returns-clause-words : goal.returns-clause-words
+returns-clause-words c = λ place lt.
     let at = c.row_at-at.result in let e = c.row_at-at.ensures.row in let q = trace c.load_places.new.pass in
     let first = c.load_place-header in let load = c.load_places.ensures in let words = c.load_places.new.words in
     let few = c.min-rows.ensures in let rows = c.span_of_header.ensures.rows in
     let begun : first.result ≡ (row_after q at.segment at.row).words 0 = first.ensures.word ∙ ap (λ (x : Row). x.words 0) (sym load.reads.same) in
-    let several : eqb most_span 1 ≡ false = ne_eqb most_span 1 (λ one. let more = c.if-this-gt-MOST_SPAN.true in omega (arith, more, one)) in
     let zero : 1 ≤ place → get_or (set (replicate item_width 0) 0 first.result) place 0 ≡ 0 = λ low.
     get_or-set_other (replicate item_width 0) 0 place first.result 0 (λ n. omega (arith, low, n)) ∙ get_or-replicate item_width place 0 0 lt in
     let here : slice_index words place ≡ (row_after q at.segment at.row).words place = ⊎_elim
@@ -46,13 +45,7 @@ returns-then-this-gt-MOST_SPAN-clause-words c = λ place lt.
     (λ other. ⊎_elim
     (λ inside. load.loaded place (omega (arith, other)) inside ∙ ap (row_after q at.segment at.row).words (let n : 0 + place ≡ place = omega arith in n))
     (λ past. load.behind place past ∙ zero (omega (arith, other))
-    ∙ sym (past_item q at.segment at.row place several (subst (λ w. row_width * span_of_header w ≤ place) begun (omega (arith, past, lt, few, rows)))))
+    ∙ sym (past_item q at.segment at.row place (subst (λ w. row_width * span_of_header w ≤ place) begun (omega (arith, past, lt, few, rows)))))
     (cases_lt place (row_width * c.min-rows.result)))
     (cases_eq place 0) in
     here ∙ (λ t. (row_after q (e.0 t) (e.1 t)).words place)
-
--- where each item takes one row
-pub returns-clause-words : goal.returns-clause-words
-returns-clause-words c = λ place lt. let load = c.load_words.ensures in let q = trace c.load_words.new.pass in
-    let row = (row_after q c.args.segment c.args.row).words in
-    ap (λ ws. get_or ws place 0) load.words ∙ get_or-words_at row 0 item_width place lt ∙ ap row (let n : 0 + place ≡ place = omega arith in n)

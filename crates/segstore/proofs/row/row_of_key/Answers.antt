@@ -84,12 +84,12 @@ returns-then-not-has_word-2-clause-key c = λ held value is_key is_value holds.
     )
 
 -- and the key
-pub returns-then-this-gt-MOST_SPAN-clause-header : goal.returns-then-this-gt-MOST_SPAN-clause-header
-returns-then-this-gt-MOST_SPAN-clause-header c = let e = c.row_at-at.ensures.row in let q = trace c.loop-place.pass in let load = c.load_place-header.ensures in
+pub returns-clause-header : goal.returns-clause-header
+returns-clause-header c = let e = c.row_at-at.ensures.row in let q = trace c.loop-place.pass in let load = c.load_place-header.ensures in
     load.word ∙ ap (λ (x : Row). x.words 0) (load.reads.same ∙ sym c.loop-place.invariant.reads.same) ∙ (λ t. (row_after q (e.0 t) (e.1 t)).words 0)
 
-pub returns-then-this-gt-MOST_SPAN-clause-key : goal.returns-then-this-gt-MOST_SPAN-clause-key
-returns-then-this-gt-MOST_SPAN-clause-key c = λ held value is_key is_value holds.
+pub returns-clause-key : goal.returns-clause-key
+returns-clause-key c = λ held value is_key is_value holds.
     let e = c.row_at-at.ensures.row in let q = trace c.loop-place.pass in let i = c.loop-place.invariant in let load = c.load_place-header.ensures in
     let row = row_after q c.args.segment c.args.row in
     let head = c.head-place-end.ensures.words in let done = c.loop-place-test.false in

@@ -5,18 +5,14 @@ use Rattle.segbase.specs.Words.{trace}
 use Rattle.segstore.proofs.Looks.{found_place, loaded, loaded_in, may_load, may_load_place, none_place, reads_nothing}
 use Rattle.segstore.proofs.spans.load_place.Goals as goal
 
-pub returns-then-this-eq-MOST_SPAN-clause-reads : goal.returns-then-this-eq-MOST_SPAN-clause-reads
-returns-then-this-eq-MOST_SPAN-clause-reads c =
-    loaded c.args.board.now c.args.pass.now c.row_load_at.new.pass c.args.at.segment c.args.at.row _ _ c.requires.readable c.row_load_at.ensures.step
-
 -- in the first row
-pub row_load_at-requires-then-place-lt-ROW-clause-may : goal.row_load_at-requires-then-place-lt-ROW-clause-may
-row_load_at-requires-then-place-lt-ROW-clause-may c =
+pub row_load_at-requires-clause-may : goal.row_load_at-requires-clause-may
+row_load_at-requires-clause-may c =
     may_load c.args.board.now c.args.pass.now c.args.at.segment c.args.at.row c.args.place c.requires.readable c.if-place-lt-ROW.true
 
 pub returns-then-place-lt-ROW-clause-reads : goal.returns-then-place-lt-ROW-clause-reads
 returns-then-place-lt-ROW-clause-reads c =
-    loaded c.args.board.now c.args.pass.now c.row_load_at-then-place-lt-ROW.new.pass c.args.at.segment c.args.at.row _ _ c.requires.readable c.row_load_at-then-place-lt-ROW.ensures.step
+    loaded c.args.board.now c.args.pass.now c.row_load_at.new.pass c.args.at.segment c.args.at.row _ _ c.requires.readable c.row_load_at.ensures.step
 
 -- behind the segment's rows
 pub returns-then-rows_behind-behind-clause-reads : goal.returns-then-rows_behind-behind-clause-reads

@@ -1,11 +1,7 @@
 use Rattle.std.proofs.Common.{ap, ◌∙◌, arith}
 use Rattle.segword.specs.Words.{span_of_header}
-use Rattle.segstore.proofs.Looks.{loaded, may_load, one_step, reads_nothing}
+use Rattle.segstore.proofs.Looks.{loaded, may_load, one_step}
 use Rattle.segstore.proofs.spans.span_of_row.Goals as goal
-
-pub returns-then-this-eq-MOST_SPAN-clause-reads : goal.returns-then-this-eq-MOST_SPAN-clause-reads
-returns-then-this-eq-MOST_SPAN-clause-reads c =
-    reads_nothing c.args.board.now c.args.pass.now c.args.row.segment c.args.row.row c.requires.pass c.requires.readable
 
 pub row_load-requires-clause-may : goal.row_load-requires-clause-may
 row_load-requires-clause-may c = may_load c.args.board.now c.args.pass.now c.args.row.segment c.args.row.row 0 c.requires.readable (omega arith)

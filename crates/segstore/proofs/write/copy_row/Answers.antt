@@ -1,12 +1,11 @@
-use Rattle.std.proofs.Common.{◌≡◌, ◌*◌, ◌<◌, ℕ, List, [], length, eqb, refl, ap, ◌∙◌, arith}
+use Rattle.std.proofs.Common.{◌≡◌, ◌*◌, ◌<◌, ℕ, List, [], refl, ap, ◌∙◌, arith}
 use Rattle.std.specs.Prelude.{slice_index}
-use Rattle.segword.specs.RowLayout.{key_length, value_length}
-use Rattle.segword.specs.Words.{IsKey, IsValue, most_span, place_behind, row_behind, row_of, row_width, span_of_header}
-use Rattle.segcore.specs.Words.{Holds, Row, row_after, row_alone, span_in}
-use Rattle.segcore.proofs.Spans.{header_some, header_span, span_one}
+use Rattle.segword.specs.Words.{place_behind, row_behind, row_of, row_width, span_of_header}
+use Rattle.segcore.specs.Words.{Row, row_after, row_alone, span_in}
+use Rattle.segcore.proofs.Spans.{header_some, header_span}
 use Rattle.segbase.specs.Words.{AddsAtOnce, Board, number, Pass, trace}
 use Rattle.segstore.specs.Rows.{StoresRow}
-use Rattle.segstore.proofs.ItemRows.{in_each, item_word, own_fewer, span_fits, words_hold}
+use Rattle.segstore.proofs.ItemRows.{own_fewer, span_fits, words_hold}
 use Rattle.segstore.proofs.Keeping.{own_stored}
 use Rattle.segstore.proofs.Rows.{own_rows_looked, stores_nothing, stores_then}
 use Rattle.segstore.proofs.write.copy_row.Goals as goal
@@ -53,16 +52,7 @@ returns-clause-holds c =
     let each : (place : ℕ) → place < row_width * c.min-rows.result
     → (row_alone g to.segment (row_behind to.row place)).words (place_behind place) ≡ old.words place =
     λ place lt. c.store_words.ensures.words place lt ∙ load.words place (omega (arith, lt, few)) ∙ ap (λ (x : Row). x.words place) load.reads.same in
-    in_each (eqb most_span 1)
-    {A = (key value : List ℕ) → Holds old key value → Holds new key value}
-    {B = (key value : List ℕ) → IsKey key → IsValue value → Holds old key value → Holds new key value}
-    (λ one key value holds place lt.
-    let single = span_one (length key) (length value) one in
-    let alone = span_one (key_length (new.words 0)) (value_length (new.words 0)) one in
-    let some = c.span_of_header.ensures.some in
-    item_word g to.segment to.row place (omega (arith, lt, single, alone))
-    ∙ each place (omega (arith, lt, single, few, some)) ∙ holds place lt)
-    (λ _ key value is_key is_value holds.
+    λ key value is_key is_value holds.
     let spans = header_span old key value is_key is_value holds in let fits = span_fits key value is_key is_value in
     words_hold g to.segment to.row key value (row_of key value) is_key is_value refl
-    (λ place lt. each place (omega (arith, lt, few, told, same, spans, fits)) ∙ holds place lt))
+    (λ place lt. each place (omega (arith, lt, few, told, same, spans, fits)) ∙ holds place lt)
