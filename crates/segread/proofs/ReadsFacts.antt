@@ -2,8 +2,7 @@
 -- and how many steps they may take.
 use Rattle.std.proofs.Common.{◌≡◌, ◌⊎◌, ℕ, ◌+◌, ◌-◌, ◌≤◌, List, [], ◌∷◌, ◌++◌, Option, Some, None, length, refl, sym, ap, ◌∙◌, subst, inl, inr, ⊎_elim, arith}
 use Rattle.std.proofs.lemmas.List.{length-append}
-use Rattle.std.specs.Prelude.{◌==◌, if◌then◌else◌}
-use Rattle.segword.specs.Words.{most_span}
+use Rattle.segword.specs.Words.{head_width, value_width}
 use Rattle.segmodel.specs.declared.answer.GetAnswer.TheVariants as get
 use Rattle.segmodel.specs.Example.{shape, a, e, one, two, added, refused}
 use Rattle.segmodel.specs.Words.{after, Begins, Entry, IsBetween, reads, stirred}
@@ -137,25 +136,23 @@ absent_key_is_not_disturbed p q s before after d =
 
 -- ---- steps
 
--- a get takes 670 at most, and no more; where items take several rows it takes 3813
-abbrev steps_of_get : ℕ
-steps_of_get = if most_span == 1 then 670 else 3813
+-- where the lengths and the longest key have four words, and the longest value has four
+abbrev IsShort : Type 0
+IsShort = (head_width ≡ 4) × (value_width ≡ 4)
 
-get_in_steps : (p q : Pass) → step_count p ≡ 5 → step_count q ≡ 5 + steps_of_get → TakesAtMost most_steps_of_get p q
-get_in_steps p q before after = omega (arith, before, after)
+-- there a get takes 670 at most, and no more
+get_in_steps : (p q : Pass) → IsShort → step_count p ≡ 5 → step_count q ≡ 5 + 670 → TakesAtMost most_steps_of_get p q
+get_in_steps p q short before after = omega (arith, short.0, short.1, before, after)
 
-get_in_no_more : (p q : Pass) → step_count p ≡ 5 → step_count q ≡ 6 + steps_of_get → ¬ (TakesAtMost most_steps_of_get p q)
-get_in_no_more p q before after took = absurd (omega (arith, before, after, took))
+get_in_no_more : (p q : Pass) → IsShort → step_count p ≡ 5 → step_count q ≡ 6 + 670 → ¬ (TakesAtMost most_steps_of_get p q)
+get_in_no_more p q short before after took = absurd (omega (arith, short.0, short.1, before, after, took))
 
--- a gets takes 1302 at most, and no more; where items take several rows it takes 49805
-abbrev steps_of_gets : ℕ
-steps_of_gets = if most_span == 1 then 1302 else 49805
+-- a gets takes 1302 at most, and no more
+gets_in_steps : (p q : Pass) → IsShort → step_count p ≡ 5 → step_count q ≡ 5 + 1302 → TakesAtMost most_steps_of_gets p q
+gets_in_steps p q short before after = omega (arith, short.0, short.1, before, after)
 
-gets_in_steps : (p q : Pass) → step_count p ≡ 5 → step_count q ≡ 5 + steps_of_gets → TakesAtMost most_steps_of_gets p q
-gets_in_steps p q before after = omega (arith, before, after)
-
-gets_in_no_more : (p q : Pass) → step_count p ≡ 5 → step_count q ≡ 6 + steps_of_gets → ¬ (TakesAtMost most_steps_of_gets p q)
-gets_in_no_more p q before after took = absurd (omega (arith, before, after, took))
+gets_in_no_more : (p q : Pass) → IsShort → step_count p ≡ 5 → step_count q ≡ 6 + 1302 → ¬ (TakesAtMost most_steps_of_gets p q)
+gets_in_no_more p q short before after took = absurd (omega (arith, short.0, short.1, before, after, took))
 
 -- two comings into segments pay for two looks that found a bucket's bit set, and not for three
 two_are_paid : (p q : Pass) → ((bucket : ℕ) → count (glanced bucket) q ≤ count (glanced bucket) p + 2) → count entered p ≡ 7 → count entered q ≡ 9 → PaysForGlances p q

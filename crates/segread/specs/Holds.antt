@@ -1,6 +1,6 @@
 -- What a hold says of the pass that has it, and what the calls of holds do.
-use Rattle.std.specs.Prelude.{◌≡◌, ◌≢◌, ◌↔◌, ℕ, ◌+◌, ◌<◌, ◌≤◌, ◌==◌, true, is_some, List, [], ◌∷◌, ◌++◌, MatchBool, Option, Some, None, IfSome}
-use Rattle.segword.specs.Words.{covers, IsKey, IsValue, most_span, Shape, value_width}
+use Rattle.std.specs.Prelude.{◌≡◌, ◌≢◌, ◌↔◌, ℕ, ◌+◌, ◌<◌, ◌≤◌, true, is_some, List, [], ◌∷◌, ◌++◌, Option, Some, None, IfSome}
+use Rattle.segword.specs.Words.{covers, IsKey, IsValue, Shape, value_width}
 use Rattle.segmodel.specs.declared.entry.Entry.TheVariants.{Refilled}
 use Rattle.segmodel.specs.Words.{after, Entry, IsBetween, present, stirred}
 use Rattle.segcore.specs.Event as event
@@ -18,11 +18,9 @@ use Rattle.segread.specs.Reads.{ReadsBetween}
 -- the row is linked to the key, and so are those behind it of the item that begins there
 abbrev pub AreLinked : List Event → ℕ → ℕ → List ℕ → Type 0
 AreLinked trace segment row key =
-    MatchBool (most_span == 1)
-    ((row_after trace segment row).linked ≡ Some key)
-    ((other : ℕ)
+    (other : ℕ)
     → covers row (span_in trace segment row) other ≡ true
-    → (row_after trace segment other).linked ≡ Some key)
+    → (row_after trace segment other).linked ≡ Some key
 
 -- the row is linked to the key of what is held, and holds the pair
 pub record IsRowOf (trace : List Event) (row : HeldRow) (held : Held) : Type 0 where

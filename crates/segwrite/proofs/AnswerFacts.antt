@@ -1,7 +1,6 @@
 -- Worked examples: what the answers to writes leave as it was, what a set isn't told, and how many steps they take.
-use Rattle.std.proofs.Common.{◌≡◌, ℕ, ◌+◌, [], arith}
-use Rattle.std.specs.Prelude.{◌==◌, if◌then◌else◌}
-use Rattle.segword.specs.Words.{most_span, Shape}
+use Rattle.std.proofs.Common.{◌≡◌, ◌+◌, [], arith}
+use Rattle.segword.specs.Words.{head_width, item_width, Shape}
 use Rattle.segmodel.specs.declared.answer.WriteAnswer.TheVariants as write
 use Rattle.segmodel.specs.declared.answer.DeleteAnswer.TheVariants as delete
 use Rattle.segmodel.specs.declared.request.Request.TheVariants.{Set, Cas}
@@ -27,24 +26,24 @@ not_found set = set
 
 -- ---- steps
 
--- a number where each item takes one row, and another where items take several
-abbrev one_or : ℕ → ℕ → ℕ
-one_or alone several = if most_span == 1 then alone else several
+-- where the lengths and the longest key have four words, and the longest item has eight
+abbrev IsShort : Type 0
+IsShort = (head_width ≡ 4) × (item_width ≡ 8)
 
--- a set that finds a word takes 477 at most, and no more
-set_in_steps : (p q : Pass) → step_count p ≡ 5 → step_count q ≡ 5 + one_or 477 2361 → TakesAtMost (most_steps_of_write (Set [] [] 0)) p q
-set_in_steps p q before after = omega (arith, before, after)
+-- there a set that finds a word takes 477 at most, and no more
+set_in_steps : (p q : Pass) → IsShort → step_count p ≡ 5 → step_count q ≡ 5 + 477 → TakesAtMost (most_steps_of_write (Set [] [] 0)) p q
+set_in_steps p q short before after = omega (arith, short.0, short.1, before, after)
 
-set_in_no_more : (p q : Pass) → step_count p ≡ 5 → step_count q ≡ 6 + one_or 477 2361 → ¬ (TakesAtMost (most_steps_of_write (Set [] [] 0)) p q)
-set_in_no_more p q before after took = absurd (omega (arith, before, after, took))
+set_in_no_more : (p q : Pass) → IsShort → step_count p ≡ 5 → step_count q ≡ 6 + 477 → ¬ (TakesAtMost (most_steps_of_write (Set [] [] 0)) p q)
+set_in_no_more p q short before after took = absurd (omega (arith, short.0, short.1, before, after, took))
 
 -- a cas that finds one 480
-cas_in_no_more : (p q : Pass) → step_count p ≡ 5 → step_count q ≡ 6 + one_or 480 2364 → ¬ (TakesAtMost (most_steps_of_write (Cas [] [] 0 0)) p q)
-cas_in_no_more p q before after took = absurd (omega (arith, before, after, took))
+cas_in_no_more : (p q : Pass) → IsShort → step_count p ≡ 5 → step_count q ≡ 6 + 480 → ¬ (TakesAtMost (most_steps_of_write (Cas [] [] 0 0)) p q)
+cas_in_no_more p q short before after took = absurd (omega (arith, short.0, short.1, before, after, took))
 
 -- a delete 463, or 207 where the key is absent
-delete_in_no_more : (p q : Pass) → step_count p ≡ 5 → step_count q ≡ 6 + one_or 463 1275 → ¬ (TakesAtMost (most_steps_of_delete delete.Deleted) p q)
-delete_in_no_more p q before after took = absurd (omega (arith, before, after, took))
+delete_in_no_more : (p q : Pass) → IsShort → step_count p ≡ 5 → step_count q ≡ 6 + 463 → ¬ (TakesAtMost (most_steps_of_delete delete.Deleted) p q)
+delete_in_no_more p q short before after took = absurd (omega (arith, short.0, short.1, before, after, took))
 
-absent_in_no_more : (p q : Pass) → step_count p ≡ 5 → step_count q ≡ 6 + one_or 207 1019 → ¬ (TakesAtMost (most_steps_of_delete delete.NotFound) p q)
-absent_in_no_more p q before after took = absurd (omega (arith, before, after, took))
+absent_in_no_more : (p q : Pass) → IsShort → step_count p ≡ 5 → step_count q ≡ 6 + 207 → ¬ (TakesAtMost (most_steps_of_delete delete.NotFound) p q)
+absent_in_no_more p q short before after took = absurd (omega (arith, short.0, short.1, before, after, took))

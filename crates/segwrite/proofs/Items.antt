@@ -1,11 +1,9 @@
 -- What a word of a chain, read under the bucket's bit, says of the item there.
-use Rattle.std.proofs.Common.{◌≡◌, ◌↔◌, ℕ, ◌+◌, ◌*◌, ◌/◌, ◌%◌, ◌^◌, ◌<◌, ◌≤◌, List, [], refl, sym, ap, ◌∙◌, subst, inr, ⊎_elim, ◌==◌, Bool, true, arith}
-use Rattle.std.specs.Prelude.{MatchBool}
-use Rattle.std.proofs.lemmas.Bool.{cases_Bool}
-use Rattle.segword.specs.Words.{covers, IsKey, IsValid, IsValue, Item, item_word, most_span, Shape}
+use Rattle.std.proofs.Common.{◌≡◌, ◌↔◌, ℕ, ◌+◌, ◌*◌, ◌/◌, ◌%◌, ◌^◌, ◌<◌, ◌≤◌, List, [], refl, sym, ap, ◌∙◌, subst, inr, true, arith}
+use Rattle.segword.specs.Words.{covers, IsKey, IsValid, IsValue, Item, item_word, Shape}
 use Rattle.segmodel.specs.Words.{tag_of}
 use Rattle.segcore.specs.Words.{bucket_after, Content, copy, Event, HasBit, Holds, IsLawful}
-use Rattle.segcore.specs.Words.{IsWordOf, item, MayRead, next, nothing, row_after, Slot, span_in}
+use Rattle.segcore.specs.Words.{IsWordOf, item, next, nothing, row_after, Slot, span_in}
 use Rattle.segcore.proofs.Chains.{chain_of, same_item}
 use Rattle.segcore.proofs.Coherent.{IsContent}
 use Rattle.segcore.proofs.Limits.{few_drawn, home_in, low_row, low_segment}
@@ -67,25 +65,15 @@ named_later b p q bucket place read i bit chain name = record {
 -- with the bit of an item's bucket, a pass may read the item's row, and those behind it
 may_read_named : (z : Shape) (h : List Event) (pass b n : ℕ) (a : Slot) (s r : ℕ) → HasBit z h pass b
     → (bucket_after z h b).items n ≡ item a → a.segment ≡ s → a.row ≡ r → MayReadItem z h pass s r
-may_read_named z h pass b n a s r bit here es er = ⊎_elim
-    (λ one. subst either (sym one) (inr (inr (b, n, a, bit, here, es, subst (among r) (sym one) er))))
-    (λ more. subst either (sym more) (λ other covered within. inr (inr (
-      b,
-      n,
-      a,
-      bit,
-      here,
-      es,
-      subst (among other) (sym more) (subst (λ f. covers f (span_in h s f) other ≡ true) (sym er) covered),
-    ))))
-    (cases_Bool (most_span == 1))
-  where
-    either : Bool → Type 0
-    either one = MatchBool one (MayRead z h pass s r)
-        ((other : ℕ) → covers r (span_in h s r) other ≡ true → other < z.rows → MayRead z h pass s other)
-
-    among : ℕ → Bool → Type 0
-    among row one = MatchBool one (a.row ≡ row) (covers a.row (span_in h s a.row) row ≡ true)
+may_read_named z h pass b n a s r bit here es er = λ other covered within. inr (inr (
+  b,
+  n,
+  a,
+  bit,
+  here,
+  es,
+  subst (λ f. covers f (span_in h s f) other ≡ true) (sym er) covered,
+))
 
 -- the pass may read its row
 pub item_readable : (b : Board) (p : Pass) (bucket n : ℕ) (read : Item) → IsPassOf b p

@@ -2,9 +2,8 @@
 use Rattle.std.proofs.Common.{◌≡◌, ℕ, ◌+◌, ◌^◌, ◌<◌, ◌≤◌, List, [], ◌∷◌, Option, Some, None, option_map, refl, sym, ap, ◌∙◌, subst, inl, inr, ⊎_elim, arith}
 use Rattle.std.proofs.lemmas.Bool.{eq-eqb}
 use Rattle.std.proofs.lemmas.Option.{same_Some}
-use Rattle.std.specs.Prelude.{◌==◌, Bool, true, false, if◌then◌else◌, is_some, length}
-use Rattle.std.specs.Int.{div_ceil}
-use Rattle.segword.specs.Words.{IsKey, IsValid, IsValue, key_width, most_span, row_of, row_width, Shape, span_of}
+use Rattle.std.specs.Prelude.{is_some, length}
+use Rattle.segword.specs.Words.{IsKey, IsValid, IsValue, row_of, Shape, span_of}
 use Rattle.segmodel.specs.declared.request.Reply.TheVariants.{Stored}
 use Rattle.segmodel.specs.Words.{after, bucket_of, IsSameAt, key_of, moment_of, reply_in, reply_to, Request}
 use Rattle.segmodel.specs.Words.{value_of}
@@ -24,7 +23,7 @@ use Rattle.segstore.specs.Words.{AreRows, fills, HasCleanBit, KeepsSegments, mem
 use Rattle.segstore.proofs.Keeping.{same_used, keeps_plain, keeps_named}
 use Rattle.segwrite.specs.Words.{Target}
 use Rattle.segwrite.specs.FirstEmpty.{AreTakenBefore}
-use Rattle.segwrite.specs.Spans.{or_one, rows_of}
+use Rattle.segwrite.specs.Spans.{rows_of}
 use Rattle.segwrite.specs.Writes.{more, UsesRows}
 use Rattle.segwrite.specs.Writing.{IsTarget}
 use Rattle.segwrite.specs.Storing.{IsNextRow, Requests, StoresUnderBit, stores, HasWritten}
@@ -45,22 +44,12 @@ some_rows request = span_some (length (key_of request)) (length (value_of reques
 pub rows_asked : (b : Board) (request : Request) (key value : List ℕ) (p : Pass) → Requests b request key value p → rows_of request ≡ span_of key value
 rows_asked b request key value p asks = λ t. span_of (asks.of.0 t) (asks.of.1 t)
 
-one_or : (one : Bool) (rows : ℕ)
-    → (if one then 1 else (if one then 1 else rows)) ≡ (if one then 1 else rows)
-one_or true rows = refl
-one_or false rows = refl
-
--- the rows that are counted are those that the request's item takes
-counts_rows : (request : Request) (rows : ℕ) → rows ≡ rows_of request → or_one rows ≡ rows_of request
-counts_rows request rows is = ap or_one is ∙ one_or (most_span == 1)
-    (div_ceil (1 + key_width (length (key_of request)) + div_ceil (length (value_of request)) 8) row_width)
-
--- and where they are in the table, they end at a number of 32 bits
+-- where the rows of a request's item are in the table, they end at a number of 32 bits
 pub rows_end : (z : Shape) (request : Request) (row rows : ℕ) → IsValid z → AreRows z row (rows_of request) → rows ≡ rows_of request
-    → row + or_one rows < 2 ^ 32
+    → row + rows < 2 ^ 32
 rows_end z request row rows valid fits is =
     let within = left_rows (rows_of request) row z.rows fits in let most = valid.0.1.1 in
-    subst (λ n. row + n < 2 ^ 32) (sym (counts_rows request rows is)) (omega (arith, within, most))
+    subst (λ n. row + n < 2 ^ 32) (sym is) (omega (arith, within, most))
 
 -- ---- what stays so while the rows are written
 
@@ -143,12 +132,12 @@ rows_used segment row rows x used = own_alike x segment (counted (row + rows)) (
     same (Some own) is = ap (λ n. Some (counted (n + rows) own)) (sym (same_Some own.used row is))
 
 pub used_all : (request : Request) (segment row rows : ℕ) (k v : List ℕ) (r s : Pass)
-    → s ≡ record r { plain = with_used segment (row + or_one rows) r.plain } → rows ≡ span_of k v
+    → s ≡ record r { plain = with_used segment (row + rows) r.plain } → rows ≡ span_of k v
     → key_of request ≡ k → value_of request ≡ v
     → record r { plain = with_used segment (row + rows_of request) r.plain } ≡ s
 used_all request segment row rows k v r s is takes same_key same_value =
     sym (is ∙ ap (λ n. record r { plain = with_used segment (row + n) r.plain })
-    (counts_rows request rows (takes ∙ (λ t. span_of (sym same_key t) (sym same_value t)))))
+    (takes ∙ (λ t. span_of (sym same_key t) (sym same_value t))))
 
 module _ (b : Board) (request : Request) (target : Target) (segment row : ℕ) (p q r : Pass) (next : IsNextRow b request segment row p)
     (places : List ℕ) (m : AddsEvents b (fills (number p) segment row (row_of (key_of request) (value_of request))

@@ -1,7 +1,7 @@
 -- The words of this crate that others use, from one place.
 pub use Rattle.segwrite.specs.Full.{CanGrow, GrowsFor, HasNoWord, WasFull}
 pub use Rattle.segwrite.specs.Refusing.{request_of}
-pub use Rattle.segwrite.specs.Spans.{or_one, rows_of}
+pub use Rattle.segwrite.specs.Spans.{rows_of}
 pub use Rattle.segwrite.specs.Steps.{most_steps_of_delete, most_steps_of_row, most_steps_of_write}
 pub use Rattle.segwrite.specs.Steps.{most_tries_for_bit, most_tries_to_exchange, WritesInSteps}
 pub use Rattle.segwrite.specs.Storing.{IsNextRow}

@@ -1,23 +1,17 @@
 //! The rows that an item is stored into: one, or where items take several as many as its own needs.
 ghost use Rattle.std.specs.Prelude.{◌≡◌, ◌+◌, ◌<◌, ◌^◌, IsSome};
 ghost use Rattle.segbase.specs.Words.{used_of, with_used};
-ghost use Rattle.segwrite.specs.Spans.{or_one};
 
 use segbase::Pass;
 use segstore::RowRef;
-use segword::MOST_SPAN;
 
 // Counts so many rows from this one on as used.
 #[inline(always)]
 pub(crate) fn use_rows(pass: &mut Pass, row: RowRef, rows: u32)
     requires own { IsSome (used_of pass.old row.segment) }
-    requires fits { row.row + or_one rows < 2 ^ 32 }
+    requires fits { row.row + rows < 2 ^ 32 }
     ensures { pass.new
-        ≡ record pass.old { plain = with_used row.segment (row.row + or_one rows) pass.old.plain } }
+        ≡ record pass.old { plain = with_used row.segment (row.row + rows) pass.old.plain } }
 {
-    if MOST_SPAN == 1 {
-        pass.set_used(row.segment, row.row + 1);
-        return;
-    }
     pass.set_used(row.segment, row.row + rows);
 }
