@@ -122,7 +122,8 @@ fn store_words(board: &Board, pass: &mut Pass, row: RowRef, rows: u32, words: &[
 }
 
 // Makes rows of the pass's own, as many as the item takes, that no item named in this filling, have
-// the words of this key and this value, one by one from where they stand.
+// the words of this key and this value, one by one from where they stand: those of the key, and
+// behind them those of the value.
 #[inline(always)]
 fn store_item(
     board: &Board,
@@ -147,8 +148,12 @@ fn store_item(
     ensures memo { (sight pass.new).memo ≡ (sight pass.old).memo }
 {
     let at = board.row_at(row.segment, row.row);
+    let head = key.head() as u32;
     let rows = key.span(value);
-    for place in 0..ROW_WORDS as u32 * rows {
+    for place in 0..head {
+        store_word(board, pass, at, place, key.item_word(value, place as usize));
+    }
+    for place in head..ROW_WORDS as u32 * rows {
         store_word(board, pass, at, place, key.item_word(value, place as usize));
     }
 }
