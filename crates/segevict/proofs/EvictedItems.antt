@@ -1,13 +1,13 @@
 -- The eviction of a segment, item by item: the rows behind an item's first are gone over by no step.
-use Rattle.std.proofs.Common.{◌≡◌, ℕ, zero, suc, ◌+◌, ◌-◌, ◌<◌, ◌≤◌, eqb, List, [], refl, sym, ap, ◌∙◌, subst, inr, ⊎_elim, Some, arith}
+use Rattle.std.proofs.Common.{◌≡◌, ℕ, zero, suc, ◌+◌, ◌-◌, ◌<◌, ◌≤◌, List, [], refl, sym, ap, ◌∙◌, subst, inr, ⊎_elim, Some, arith}
 use Rattle.std.proofs.lemmas.Bool.{cases_lt}
 use Rattle.std.proofs.lemmas.Option.{same_Some}
-use Rattle.segword.specs.Words.{most_span, Shape}
+use Rattle.segword.specs.Words.{Shape}
 use Rattle.segmodel.specs.declared.answer.SegState.TheVariants.{InUse}
 use Rattle.segmodel.specs.Words.{owner}
 use Rattle.segcore.specs.Words.{row_after, RowGone, span_in}
 use Rattle.segcore.proofs.Spans.{header_some}
-use Rattle.segbase.specs.Words.{Board, IsPassOf, number, Pass, state_of, trace, used_of}
+use Rattle.segbase.specs.Words.{Board, number, Pass, state_of, trace, used_of}
 use Rattle.segstore.specs.Words.{GoesOn, Idles, IsQuiet, TakesAtMost}
 use Rattle.segstore.proofs.Draws.{moved_undrawn}
 use Rattle.segstore.proofs.Idling.{does_nothing, goes_nowhere}
@@ -21,12 +21,11 @@ use Rattle.segevict.specs.Evicting.{LooksForFirst}
 use Rattle.segevict.specs.Naming.{AreUnnamed}
 use Rattle.segevict.specs.Rows.{HasRow, IsUsedRow, KeepsGone}
 use Rattle.segevict.specs.Spans.{IsFirstRow}
-use Rattle.segevict.specs.Steps.{loads_of_span, most_steps_of_evict_row}
+use Rattle.segevict.specs.Steps.{most_steps_of_evict_row}
 use Rattle.segevict.specs.Tries.{StoodIn, TriesFor}
 use Rattle.segevict.specs.Unlinking.{EvictsRow}
 use Rattle.segevict.proofs.EvictedRow.{row_out}
 use Rattle.segevict.proofs.Evictions.{Evicting, evicting_none, evicting_one, row_there}
-use Rattle.segevict.proofs.IfNamed.{from_either}
 use Rattle.segevict.proofs.Items.{first_stays, IsItem, item_at, item_behind}
 use Rattle.segevict.proofs.KeyTries.{no_tries}
 use Rattle.segevict.proofs.Naming.{gone_unless_named, quiet_still}
@@ -130,14 +129,11 @@ module _ (b : Board) (segment from row used rows : ℕ) (p q r : Pass) (quiet : 
         most = omega (arith, few, load, lt);
       }
 
-looked : (b : Board) (from : ℕ) (p q : Pass) → IsPassOf b p → LooksForFirst b from p q → Idles b p q
-looked b from p q is = from_either (eqb most_span 1) (q ≡ p) (Idles b p q × TakesAtMost from p q) (Idles b p q) (λ same. subst (Idles b p) (sym same) (idles b p is)) (λ x. x.0)
-
 -- the pass looked which row from this one on is an item's first
 evicting_looked : (b : Board) (segment from used : ℕ) (p q : Pass) → IsQuiet b p → used_of p segment ≡ Some used → AreUnnamed b.shape segment from p
     → LooksForFirst b from p q → Evicting b segment from from 0 p q
 evicting_looked b segment from used p q quiet is none looks =
-    let i = looked b from p q quiet.pass looks in
+    let i = looks.0 in
     let keeps = calm_keeps_gone b segment [] p q i.moved tt (owns_used b p segment used quiet.pass is) in record {
       on = goes_nowhere b p q quiet i.moved i.plain i.memo;
       keeps = keeps;
@@ -171,7 +167,7 @@ pub items_first : (b : Board) (segment from row used : ℕ) (p q : Pass) → IsQ
     → LooksForFirst b from p q → from ≤ row → row ≤ used → (IsUsedRow segment row q → IsFirstRow (trace q) segment row)
     → ((i : ℕ) → from ≤ i → i < row → RowGone b.shape segment i (trace q)) → EvictingItems b segment from row 0 p q
 items_first b segment from row used p q quiet in_use is none looks later within first behind =
-    let i = looked b from p q quiet.pass looks in record {
+    let i = looks.0 in record {
       evicting = evicting_to b segment from 0 p q from row (evicting_looked b segment from used p q quiet is none looks) later
           (λ n lt. has_used segment used n p q i.plain in_use is (omega (arith, lt, within))) behind;
       within = λ other there. subst (λ n. row ≤ n) (same_Some used other (sym is ∙ there)) within;
@@ -205,20 +201,20 @@ module _ (b : Board) (segment from row taken used rows : ℕ) (p q : Pass) (in_u
           first = λ _. (suc first_then.0, ap (λ m. m + span_in (trace t) segment m) first_then.1 ∙ ap (λ m. row + m) (sym span));
         }
 
-  module _ (r t : Pass) (i : Idles b r t) (load : TakesAtMost (loads_of_span 1) r t) (span : rows ≡ span_in (trace t) segment row) where
+  module _ (r t : Pass) (i : Idles b r t) (load : TakesAtMost 1 r t) (span : rows ≡ span_in (trace t) segment row) where
     own : owner b.shape segment ≡ number q
     own = owns_used b q segment used e.evicting.on.quiet.pass used_now
 
     has : HasRow segment row q
     has = row_there b segment from row taken used p q e.evicting in_use is lt
 
-    pub items_evicted : EvictsRow b segment row evict_row.Evicted q r → TakesAtMost (most_steps_of_evict_row evict_row.Evicted - loads_of_span 1) q r
+    pub items_evicted : EvictsRow b segment row evict_row.Evicted q r → TakesAtMost (most_steps_of_evict_row evict_row.Evicted - 1) q r
         → EvictingItems b segment from (row + rows) (taken + 1) p t
     items_evicted one steps =
         let x = evicted_looked b segment row q r t own i one in
         items_on t x.answer.0 x.on x.plain span (taken + 1) (evicting_one b segment from row taken p q t e.evicting has x (omega (arith, steps, load)))
 
-    pub items_left : EvictsRow b segment row evict_row.Left q r → TakesAtMost (most_steps_of_evict_row evict_row.Left - loads_of_span 1) q r
+    pub items_left : EvictsRow b segment row evict_row.Left q r → TakesAtMost (most_steps_of_evict_row evict_row.Left - 1) q r
         → EvictingItems b segment from (row + rows) taken p t
     items_left one steps =
         let x = left_looked b segment row q r t own i one in

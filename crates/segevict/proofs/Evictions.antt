@@ -2,7 +2,7 @@
 use Rattle.std.proofs.Common.{◌≡◌, ◌≢◌, ℕ, zero, suc, ◌+◌, ◌<◌, ◌≤◌, Bool, true, false, cond, eqb, is_some, List, [], ◌∷◌, ◌++◌, length, Option, Some, None, refl, sym, ap, ◌∙◌, subst, inl, inr, ⊎_elim, arith}
 use Rattle.std.proofs.lemmas.Bool.{cases_eq, cases_Bool, cond-true, cond-false, eq-eqb, ne_eqb, ltb-true, false≢true}
 use Rattle.std.proofs.lemmas.Option.{none-some, same_Some}
-use Rattle.segword.specs.Words.{most_span, Shape}
+use Rattle.segword.specs.Words.{Shape}
 use Rattle.segmodel.specs.declared.entry.Entry.TheVariants as entry
 use Rattle.segmodel.specs.declared.answer.EvictAnswer.TheVariants as evict
 use Rattle.segmodel.specs.declared.answer.SegState.TheVariants.{InUse, Evicted}
@@ -18,7 +18,7 @@ use Rattle.segbase.specs.Words.{Board, count, current_of, IsPassOf, mine, number
 use Rattle.segbase.specs.Words.{state_in, state_of, trace, used_of, with_current, with_state}
 use Rattle.segbase.proofs.Known.{state_set, state_apart, used_kept, owner_stated, deadline_stated}
 use Rattle.segbase.proofs.Owned.{owner_of, state_there, still_pass}
-use Rattle.segstore.specs.Words.{DrawsNothing, GoesOn, Idles, IsQuiet, KeepsSegments, memo, ReadsNothing, TakesAtMost}
+use Rattle.segstore.specs.Words.{DrawsNothing, GoesOn, IsQuiet, KeepsSegments, memo, ReadsNothing, TakesAtMost}
 use Rattle.segevict.specs.Steps.{most_steps_of_evict_row}
 use Rattle.segstore.proofs.Keeping.{same_states, same_used}
 use Rattle.segstore.proofs.Refills.{idles}
@@ -33,7 +33,6 @@ use Rattle.segevict.specs.Tries.{IsInTheWay, StoodIn, TriesFor}
 use Rattle.segevict.specs.Unlinking.{EvictsRow}
 use Rattle.segstore.proofs.Draws.{draws_none_then}
 use Rattle.segevict.proofs.EvictedRow.{row_out}
-use Rattle.segevict.proofs.IfNamed.{each_way}
 use Rattle.segevict.proofs.KeyTries.{of_row, rows_tried_then, stood_before}
 use Rattle.segevict.proofs.RowsOut.{goes_then, keeps_gone_then}
 
@@ -89,7 +88,7 @@ pub record Evicting (b : Board) (segment from row taken : ℕ) (p q : Pass) : Ty
 
 -- the pass looks for no item's first row
 pub looks_for_none : (b : Board) (from : ℕ) (p : Pass) → IsPassOf b p → LooksForFirst b from p p
-looks_for_none b from p is = each_way (eqb most_span 1) (p ≡ p) (Idles b p p × TakesAtMost from p p) (λ one. refl) (λ several. (idles b p is, omega arith))
+looks_for_none b from p is = (idles b p is, omega arith)
 
 -- the rows that no item names are used ones
 pub unnamed_few : (shape : Shape) (segment from used : ℕ) (p : Pass) → AreUnnamed shape segment from p → used_of p segment ≡ Some used → from ≤ used

@@ -1,14 +1,13 @@
 -- The items of a segment of the pass's own, by their first rows: from each to the next one, over rows that no word names.
-use Rattle.std.proofs.Common.{◌≡◌, ◌≢◌, ℕ, zero, suc, ◌+◌, ◌-◌, ◌<◌, ◌≤◌, true, is_some, nat_lt, eqb, List, [], ◌∷◌, ◌++◌, Some, refl, sym, ap, ◌∙◌, subst, ⊎_elim, add-one, arith}
+use Rattle.std.proofs.Common.{◌≡◌, ℕ, zero, suc, ◌+◌, ◌-◌, ◌<◌, ◌≤◌, true, is_some, nat_lt, eqb, List, [], ◌∷◌, ◌++◌, Some, refl, sym, ap, ◌∙◌, subst, ⊎_elim, arith}
 use Rattle.std.specs.Prelude.{IsSome}
 use Rattle.std.proofs.lemmas.Bool.{cases_Bool, cases_eq, cases_lt, eq-eqb, false≢true, ltb-true, lt-ltb}
 use Rattle.std.proofs.lemmas.Option.{none-some}
-use Rattle.segword.specs.RowLayout.{key_length, value_length}
-use Rattle.segword.specs.Words.{covers, most_span, Shape, span_of_header}
+use Rattle.segword.specs.Words.{covers, Shape, span_of_header}
 use Rattle.segmodel.specs.Words.{owner}
 use Rattle.segcore.specs.Words.{by, Event, IsLawful, NoneRefills, Row, row_after, RowAt, RowGone, span_in}
 use Rattle.segcore.proofs.Segments.{row_since}
-use Rattle.segcore.proofs.Spans.{first_words, header_some, span_one}
+use Rattle.segcore.proofs.Spans.{first_words, header_some}
 use Rattle.segbase.specs.Words.{AddsEvents, Board, number, own_of, Pass, trace, used_of}
 use Rattle.segstore.specs.Words.{HoldsPair, IsQuiet}
 use Rattle.segstore.proofs.ItemRows.{covers-high, covers-low, not_covered, outside}
@@ -54,13 +53,6 @@ first_same h g s used same (suc n) le =
     let row = first_row h s n in let lt = before_sum row (span_in h s row) used (header_some ((row_after h s row).words 0)) le in
     let i : first_row g s n ≡ row = first_same h g s used same n (omega (arith, lt)) in
     (λ t. i t + span_in g s (i t)) ∙ ap (λ m. row + m) (same row lt)
-
--- where each item takes one row, each row is first
-pub each_first : (h : List Event) (s n : ℕ) → eqb most_span 1 ≡ true → first_row h s n ≡ n
-each_first h s zero one = refl
-each_first h s (suc n) one =
-    let header = (row_after h s (first_row h s n)).words 0 in
-    (λ t. each_first h s n one t + span_one (key_length header) (value_length header) one t) ∙ add-one n
 
 -- first rows stay so, as far as the rows are used
 pub first_stays : (b : Board) (segment row used : ℕ) (p q : Pass) → IsQuiet b p → KeepsGone b segment p q → used_of p segment ≡ Some used → row ≤ used

@@ -1,9 +1,8 @@
 -- A keep, row by row: what was moved so far, and that what stands in the segment was read too seldom once all its rows are gone over.
-use Rattle.std.proofs.Common.{◌≡◌, ◌≢◌, ◌⊎◌, ℕ, suc, ◌+◌, ◌<◌, ◌≤◌, Bool, true, false, eqb, is_some, List, [], ◌∷◌, ◌++◌, length, Option, Some, None, MatchBool, refl, sym, ap, ◌∙◌, subst, inl, inr, ⊎_elim, arith}
-use Rattle.std.specs.Prelude.{◌==◌}
+use Rattle.std.proofs.Common.{◌≡◌, ◌≢◌, ◌⊎◌, ℕ, suc, ◌+◌, ◌<◌, ◌≤◌, Bool, true, false, is_some, List, [], ◌∷◌, ◌++◌, length, Option, Some, None, refl, sym, ap, ◌∙◌, subst, inl, inr, ⊎_elim, arith}
 use Rattle.std.proofs.lemmas.Bool.{cases_eq, lt-ltb, ltb-true}
 use Rattle.std.proofs.lemmas.Option.{none-some, same_Some}
-use Rattle.segword.specs.Words.{most_span}
+use Rattle.segword.specs.Words.{most_rows}
 use Rattle.segmodel.specs.declared.entry.Entry.TheVariants as entry
 use Rattle.segmodel.specs.declared.answer.KeepAnswer.TheVariants as keep
 use Rattle.segmodel.specs.declared.answer.SegState.TheVariants.{InUse}
@@ -16,22 +15,21 @@ use Rattle.segbase.specs.declared.pass.PlainPart.{PlainPart}
 use Rattle.segbase.specs.Words.{Board, marked, mine, number, Pass, seen, state_of, TakesSteps}
 use Rattle.segbase.specs.Words.{trace, used_of}
 use Rattle.segbase.proofs.Moves.{moved_count, stays}
-use Rattle.segstore.specs.Words.{ChangesNothing, DrawsNothing, GoesOn, has_room, has_room_for, TakesAtMost}
+use Rattle.segstore.specs.Words.{ChangesNothing, DrawsNothing, GoesOn, has_room_for, TakesAtMost}
 use Rattle.segevict.specs.Steps.{most_steps_of_keep_row}
 use Rattle.segstore.specs.Words.{IsQuiet, ReadsNothing}
-use Rattle.segstore.proofs.ItemRows.{in_each}
 use Rattle.segstore.proofs.Keeping.{owns_used}
 use Rattle.segstore.proofs.Draws.{draws_none_then}
 use Rattle.segevict.specs.declared.retention.KeepRowAnswer.{KeepRowAnswer}
 use Rattle.segevict.specs.declared.retention.KeepRowAnswer.TheVariants as kept
 use Rattle.segevict.specs.Frequencies.{WasOften, WasSeldom}
-use Rattle.segevict.specs.Keeping.{AreMoves, AreSeldom, GoesOver, KeepsItems, MovesAway, UsesSome}
+use Rattle.segevict.specs.Keeping.{AreMoves, AreSeldom, GoesOver, KeepsItems, MovesAway}
 use Rattle.segevict.specs.Moving.{KeepsRow, SeesRow}
 use Rattle.segevict.specs.OneRow.{KeepsItem}
-use Rattle.segevict.specs.Rows.{HasRow, IsUsedRow, KeepsGone}
+use Rattle.segevict.specs.Rows.{HasRow, KeepsGone}
 use Rattle.segevict.specs.Target.{has_rows_in, IsKeepTarget, UsesRows}
 use Rattle.segevict.specs.Tries.{TriesFor}
-use Rattle.segevict.proofs.Alone.{span_single}
+use Rattle.segevict.proofs.FewRows.{AreSome, none_yet, one_more, seen_few}
 use Rattle.segevict.proofs.AfterRow.{idle_changes, idle_gone, left_changes, left_gone, moved_gone, seen_span, uses_more, uses_none, uses_then}
 use Rattle.segevict.proofs.Evictions.{bounced_grows}
 use Rattle.segevict.proofs.Frequencies.{had_after, had_at, had_before, had_seen}
@@ -53,33 +51,12 @@ abbrev pub IsSettled : Board → ℕ → ℕ → ℕ → Pass → Pass → Type 
 IsSettled b segment cutoff row p q = RowGone b.shape segment row (trace q)
     ⊎ ((key : List ℕ) × ((row_after (trace q) segment row).linked ≡ Some key) × WasSeldom b.shape segment cutoff p q key)
 
--- so many items take that many rows: one each, or at least one
-abbrev pub AreSome : ℕ → ℕ → Type 0
-AreSome count rows = MatchBool (most_span == 1) (rows ≡ count) (count ≤ rows)
-
-more_some : (one : Bool) (count rows more : ℕ) → (one ≡ true → more ≡ 1) → 1 ≤ more → MatchBool one (rows ≡ count) (count ≤ rows)
-    → MatchBool one (rows + more ≡ count + 1) (count + 1 ≤ rows + more)
-more_some true count rows more single some is = let one = single refl in omega (arith, is, one)
-more_some false count rows more single some le = omega (arith, le, some)
-
-as_many : (one : Bool) (count : ℕ) → MatchBool one (count ≡ count) (count ≤ count)
-as_many true count = refl
-as_many false count = omega arith
-
-use_some : (one : Bool) (into count rows : ℕ) (p q : Pass) → MatchBool one (rows ≡ count) (count ≤ rows) → UsesRows into rows p q
-    → MatchBool one (UsesRows into count p q) ((rows : ℕ) × (count ≤ rows) × UsesRows into rows p q)
-use_some true into count rows p q same uses = subst (λ n. UsesRows into n p q) same uses
-use_some false into count rows p q le uses = (rows, le, uses)
-
-uses_some : (into count rows : ℕ) (p q : Pass) → AreSome count rows → UsesRows into rows p q → UsesSome into count p q
-uses_some = use_some (eqb most_span 1)
-
 pub record Keeping (b : Board) (segment into cutoff row count : ℕ) (p q : Pass) : Type 0 where
   pub on : GoesOn b p q
   pub keeps : KeepsGone b segment p q
   pub rows : ℕ
   pub uses : UsesRows into rows p q
-  pub some : AreSome count rows
+  pub some : AreSome count (most_rows b.limits) rows
   pub draws_nothing : DrawsNothing p q
   pub reads_nothing : ReadsNothing p q
   pub moves : List Entry
@@ -98,7 +75,7 @@ keeping_first b segment into cutoff p quiet = record {
   keeps = record { grew = ([], refl); linked = λ row. refl; spans = λ row on. refl; lasts = λ row gone. gone };
   rows = 0;
   uses = uses_none into p p refl refl;
-  some = as_many (eqb most_span 1) 0;
+  some = none_yet (most_rows b.limits);
   draws_nothing = λ bucket. refl;
   reads_nothing = refl;
   moves = [];
@@ -151,8 +128,8 @@ module _ (b : Board) (segment into cutoff row count : ℕ) (p q r : Pass) (own :
         rows = e.rows + span_in (trace a.0) segment row;
         uses = uses_then into e.rows (span_in (trace a.0) segment row) (e.rows + span_in (trace a.0) segment row) p q r refl e.uses
             (uses_more into q r (span_in (trace a.0) segment row) a.11 k.memo);
-        some = more_some (eqb most_span 1) count e.rows (span_in (trace a.0) segment row) (span_single (trace a.0) segment row)
-            (header_some ((row_after (trace a.0) segment row).words 0)) e.some;
+        some = one_more count (most_rows b.limits) e.rows (span_in (trace a.0) segment row) (header_some ((row_after (trace a.0) segment row).words 0))
+            (seen_few b segment row (λ n. cutoff ≤ n) q a.0 a.1) e.some;
         draws_nothing = draws_none_then p q r e.draws_nothing k.draws_nothing;
         reads_nothing = k.reads_nothing ∙ e.reads_nothing;
         moves = entry.Moved (number p) key segment into ∷ e.moves;
@@ -230,26 +207,27 @@ module _ (b : Board) (segment into cutoff row count : ℕ) (p q : Pass) (quiet :
           deadlines = e.uses.deadlines segment ∙ (target.deadlines ∙ sym (e.uses.deadlines into));
         }
 
-    -- the room for its item is that for as many rows as it took at the start
+    -- its item takes as many rows as it took at the start
+    took : row < used → (f : Pass) → SeesRow b segment row (λ n. cutoff ≤ n) q f → span_in (trace f) segment row ≡ span_in (trace p) segment row
+    took within f s =
+        let few = quiet.segments.few segment used is_used in
+        let on = quiet.segments.rows segment used row is_used (omega (arith, within, few)) ∙ lt-ltb row used within in
+        seen_span b segment row (λ n. cutoff ≤ n) q f (own ∙ sym e.on.same) s ∙ e.keeps.spans row on
+
+    -- the room for it is that for so many
     room_then : (r : Pass) → row < used → (f : Pass) → SeesRow b segment row (λ n. cutoff ≤ n) q f → r.plain ≡ q.plain → (has : Bool)
         → has_rows_in b.shape into (span_in (trace f) segment row) q ≡ has → has_room_for b.shape (span_in (trace p) segment row) r ≡ has
     room_then r within f s plain has is =
-        let few = quiet.segments.few segment used is_used in
-        let on = quiet.segments.rows segment used row is_used (omega (arith, within, few)) ∙ lt-ltb row used within in
-        let takes = seen_span b segment row (λ n. cutoff ≤ n) q f (own ∙ sym e.on.same) s ∙ e.keeps.spans row on in
+        let takes = took within f s in
         subst (λ (x : PlainPart). has_room_for b.shape (span_in (trace p) segment row) (record q { plain = x }) ≡ has) (sym plain)
         (sym (room_now b into (span_in (trace p) segment row) q (e.uses.current ∙ target.current)) ∙ subst (λ n. has_rows_in b.shape into n q ≡ has) takes is)
 
-    room_told : (r : Pass) → row < used → (f : Pass) → SeesRow b segment row (λ n. cutoff ≤ n) q f → r.plain ≡ q.plain → (has : Bool)
-        → has_rows_in b.shape into (span_in (trace f) segment row) q ≡ has
-        → MatchBool (eqb most_span 1) (has_room b.shape r ≡ has) ((row : ℕ) × IsUsedRow segment row p × (has_room_for b.shape (span_in (trace p) segment row) r ≡ has))
-    room_told r within f s plain has is = let told = room_then r within f s plain has is in
-        in_each (eqb most_span 1) {A = has_room b.shape r ≡ has} {B = (row : ℕ) × IsUsedRow segment row p × (has_room_for b.shape (span_in (trace p) segment row) r ≡ has)}
-        (λ one. subst (λ n. has_room_for b.shape n r ≡ has) (span_single (trace p) segment row one) told)
-        (λ several. (row, (used, is_used, within), told))
+    -- it takes no more than the limits allow
+    took_few : row < used → (f : Pass) → SeesRow b segment row (λ n. cutoff ≤ n) q f → span_in (trace p) segment row ≤ most_rows b.limits
+    took_few within f s = subst (λ n. n ≤ most_rows b.limits) (took within f s) (seen_few b segment row (λ n. cutoff ≤ n) q f s)
 
     module _ (r : Pass) (later : TakesSteps q r) (none : ChangesNothing q r) (within : row < used) (tries : TriesFor b.shape (WasOften b.shape segment cutoff q r) 1 q r) where
-      moved_away : MovesAway b.shape segment cutoff count p r
+      moved_away : MovesAway b segment cutoff count p r
       moved_away = (
         in_use,
         (
@@ -262,7 +240,7 @@ module _ (b : Board) (segment into cutoff row count : ℕ) (p q : Pass) (quiet :
                 (WasOften b.shape segment cutoff p r) (often_then b segment into cutoff row count p q r own e later)
                 e.moves e.all;
             entries = none.entries ∙ e.entries;
-            uses = uses_some into count e.rows p r e.some (uses_then into e.rows 0 e.rows p q r (omega arith) e.uses (uses_none into q r none.plain none.memo));
+            uses = (e.rows, e.some.some, e.some.few, uses_then into e.rows 0 e.rows p q r (omega arith) e.uses (uses_none into q r none.plain none.memo));
           },
         ),
       )
@@ -279,7 +257,7 @@ module _ (b : Board) (segment into cutoff row count : ℕ) (p q : Pass) (quiet :
           on = goes_then b p q r e.on k.on;
           answer = inr (
             moved_away r k.on.steps none within k.tries,
-            room_told r within r s none.plain false k.answer.1,
+            (row, (used, is_used, within), took_few within r s, room_then r within r s none.plain false k.answer.1),
             (s.key, (row, had_at b segment row (λ n. cutoff ≤ n) q r s (marked r) (marked r) ([], refl) ([], refl))),
           );
           not_yours = ((λ other. absurd (not_so other)), (λ nobody. absurd (none-some InUse (sym nobody ∙ in_use))));
@@ -304,7 +282,7 @@ module _ (b : Board) (segment into cutoff row count : ℕ) (p q : Pass) (quiet :
           on = goes_then b p q r e.on k.on;
           answer = (
             moved_away r k.on.steps none within k.tries,
-            room_told r within f s none.plain true a.3,
+            (row, (used, is_used, within), room_then r within f s none.plain true a.3),
             (
               s.key,
               often_now b segment into cutoff row count p q r own e s.key (row, had_seen b segment row (λ n. cutoff ≤ n) q f r s a.2.steps),
@@ -363,7 +341,7 @@ module _ (b : Board) (segment into cutoff row count : ℕ) (p q : Pass) (quiet :
               counted = e.counted;
               all = e.all;
               entries = e.entries;
-              uses = uses_some into count e.rows p q e.some e.uses;
+              uses = (e.rows, e.some.some, e.some.few, e.uses);
             },
           ),
         ),

@@ -21,7 +21,7 @@ use Rattle.segevict.specs.Moving.{IsKeptRow, KeepsRow}
 use Rattle.segevict.specs.OneRow.{AfterLooks, TriesForRow}
 use Rattle.segevict.specs.Rows.{IsUsedRow, KeepsGone}
 use Rattle.segevict.specs.Spans.{IsFirstRow}
-use Rattle.segevict.specs.Steps.{loads_of_span, most_steps_of_keep_row}
+use Rattle.segevict.specs.Steps.{most_steps_of_keep_row}
 use Rattle.segevict.specs.Target.{has_rows_in, IsKeepTarget}
 use Rattle.segevict.proofs.AfterRow.{idle_changes, left_changes, left_gone, moved_gone, uses_more}
 use Rattle.segevict.proofs.Frequencies.{had_after}
@@ -215,8 +215,8 @@ module _ (b : Board) (segment into cutoff row count used rows : ℕ) (p q : Pass
     pub used_left : KeepsRow b segment row into cutoff kept.Left q r → IsUsedRow segment row r
     used_left k = (used, same_used q r segment (left_changes b segment row into cutoff q r e.keeping.on.quiet k).plain ∙ used_q, lt)
 
-  module _ (r t : Pass) (i : Idles b r t) (load : TakesAtMost (loads_of_span 1) r t) (span : rows ≡ span_in (trace t) segment row) where
-    pub items_moved : KeepsRow b segment row into cutoff kept.Moved q r → TakesAtMost (most_steps_of_keep_row kept.Moved - loads_of_span 1) q r
+  module _ (r t : Pass) (i : Idles b r t) (load : TakesAtMost 1 r t) (span : rows ≡ span_in (trace t) segment row) where
+    pub items_moved : KeepsRow b segment row into cutoff kept.Moved q r → TakesAtMost (most_steps_of_keep_row kept.Moved - 1) q r
         → KeepingItems b segment into cutoff (row + rows) (count + 1) p t
     items_moved one steps =
         let k = moved_looked b segment row into cutoff q r t own_q i one in
@@ -224,7 +224,7 @@ module _ (b : Board) (segment into cutoff row count used rows : ℕ) (p q : Pass
         (keeping_moved b segment into cutoff row count p q t own_p e.keeping target.other k
         (item_of b segment into cutoff row count p q quiet in_use target e.keeping used is t lt kept.Moved k (omega (arith, steps, load))))
 
-    pub items_left : KeepsRow b segment row into cutoff kept.Left q r → TakesAtMost (most_steps_of_keep_row kept.Left - loads_of_span 1) q r
+    pub items_left : KeepsRow b segment row into cutoff kept.Left q r → TakesAtMost (most_steps_of_keep_row kept.Left - 1) q r
         → KeepingItems b segment into cutoff (row + rows) count p t
     items_left one steps =
         let k = left_looked b segment row into cutoff q r t own_q i one in

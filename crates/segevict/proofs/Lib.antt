@@ -1,6 +1,6 @@
 pub mod Own
 pub mod Walking
-pub mod IfNamed
+pub mod Longest
 pub mod Tiles
 pub mod Unnamed
 pub mod Seeking
@@ -13,7 +13,8 @@ pub mod EvictedRow
 pub mod Evictions
 pub mod EvictedItems
 pub mod Frequencies
-pub mod Alone
+pub mod RowsLeft
+pub mod FewRows
 pub mod Relinking
 pub mod Moving
 pub mod LookedFor

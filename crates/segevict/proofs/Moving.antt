@@ -1,8 +1,8 @@
 -- The item of a row is moved under the bit: it may be, into the pair's copy, and after that no word names the row that it left.
-use Rattle.std.proofs.Common.{◌≡◌, ℕ, ◌+◌, ◌<◌, ◌≤◌, true, false, eqb, is_some, List, [], ◌∷◌, ◌++◌, Option, Some, None, option_map, refl, sym, ap, ◌∙◌, subst, append-nil, arith}
+use Rattle.std.proofs.Common.{◌≡◌, ℕ, ◌+◌, ◌<◌, ◌≤◌, true, false, is_some, List, [], ◌∷◌, ◌++◌, Option, Some, None, option_map, refl, sym, ap, ◌∙◌, subst, append-nil, arith}
 use Rattle.std.proofs.lemmas.Bool.{eq-eqb}
 use Rattle.std.proofs.lemmas.Option.{none-some, same_Some}
-use Rattle.segword.specs.Words.{IsKey, IsSameItem, IsValue, Item, most_span}
+use Rattle.segword.specs.Words.{IsKey, IsSameItem, Item}
 use Rattle.segmodel.specs.Words.{after, bucket_of, IsSameAt}
 use Rattle.segcore.specs.declared.event.Event.TheVariants.{Relinked}
 use Rattle.segcore.specs.Event as event
@@ -33,7 +33,6 @@ use Rattle.segevict.specs.Moving.{moves, MovesRow}
 use Rattle.segevict.specs.Target.{AreNextIn, IsMoveTarget}
 use Rattle.segevict.specs.Relinking.{HasRelinked, relinked, Relinks}
 use Rattle.segevict.specs.Rows.{IsNamedAt, IsStoredIn}
-use Rattle.segevict.proofs.IfNamed.{from_either}
 use Rattle.segevict.proofs.Items.{span_over}
 use Rattle.segevict.proofs.Relinking.{relinked_gone}
 use Rattle.segevict.proofs.StoredRows.{may_read_own}
@@ -62,14 +61,6 @@ rows_used segment row rows x used = own_alike x segment (counted (row + rows)) (
 known_deadline : (o : Option OwnSegment) (used : ℕ) → used_in o ≡ Some used → (deadline : ℕ) × (deadline_in o ≡ Some deadline)
 known_deadline None used is = absurd (none-some used is)
 known_deadline (Some own) used is = (own.deadline, refl)
-
--- a pair that is held is held where pairs are held also
-holds_also : (row other : Row) (key value : List ℕ) → IsKey key → IsValue value → HoldsAlso row other → Holds row key value → Holds other key value
-holds_also row other key value is_key is_value = from_either (eqb most_span 1)
-    ((k v : List ℕ) → Holds row k v → Holds other k v)
-    ((k v : List ℕ) → IsKey k → IsValue v → Holds row k v → Holds other k v)
-    (Holds row key value → Holds other key value)
-    (λ all. all key value) (λ all. all key value is_key is_value)
 
 -- two own segments whose deadlines the pass knows as equal have equal ones
 same_deadlines : (b : Board) (p : Pass) (s t used : ℕ) → KeepsSegments b p → used_of p t ≡ Some used → deadline_of p s ≡ deadline_of p t
@@ -207,7 +198,7 @@ module _ (b : Board) (bucket : ℕ) (sought : Item) (into to : ℕ) (p f : Pass)
             (subst (λ r. Holds (row_after (trace f) a.segment r) key st.value) n.named.2.1 (subst (λ k. Holds (row_after (trace f) a.segment a.row) k st.value) of_key st.holds))
 
         copied : Holds (row_after (trace c) into to) key st.value
-        copied = holds_also (row_after (trace f) sought.seg sought.row) (row_after (trace c) into to) key st.value is_key st.valid.1 holds held
+        copied = holds key st.value is_key st.valid.1 held
 
         -- the copy takes as many rows
         pub rows_c : span_in (trace c) into to ≡ rows

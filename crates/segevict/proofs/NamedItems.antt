@@ -1,17 +1,14 @@
 -- How many rows of a segment are those of named items, from item to item.
-use Rattle.std.proofs.Common.{◌≡◌, ℕ, zero, suc, ◌+◌, ◌<◌, ◌≤◌, true, false, eqb, [], Some, refl, sym, ap, ◌∙◌, subst, inl, inr, ⊎_elim, arith}
+use Rattle.std.proofs.Common.{◌≡◌, ℕ, zero, suc, ◌+◌, ◌<◌, ◌≤◌, true, false, [], Some, refl, sym, ap, ◌∙◌, subst, inl, inr, ⊎_elim, arith}
 use Rattle.std.proofs.lemmas.Bool.{cases_lt}
 use Rattle.std.proofs.lemmas.Option.{same_Some}
-use Rattle.segword.specs.Words.{most_span}
 use Rattle.segcore.specs.Words.{row_after, RowGone, span_in}
 use Rattle.segbase.specs.Words.{Board, HasStep, Pass, trace, used_of}
 use Rattle.segstore.specs.Words.{HoldsPair, Idles, IsQuiet}
 use Rattle.segstore.proofs.Keeping.{owns_used, same_used}
 use Rattle.segwrite.proofs.Places.{idles_then}
 use Rattle.segevict.specs.Naming.{FindsNamed, ReturnsNamed, Tallies}
-use Rattle.segevict.specs.Rows.{IfSeveral}
 use Rattle.segevict.specs.Spans.{IsFirstRow}
-use Rattle.segevict.proofs.IfNamed.{each_way}
 use Rattle.segevict.proofs.Items.{first_stays, IsItem, item_at, item_behind, item_linked, item_pair}
 use Rattle.segevict.proofs.Naming.{Counting, counting_first, finds_after, named_in, quiet_still, taken_by}
 use Rattle.segevict.proofs.RowsOut.{calm_keeps_gone}
@@ -60,9 +57,8 @@ module _ (b : Board) (segment row count used rows : ℕ) (p q f : Pass) (quiet :
       let all = idles_then b p q r c.counting.idles j in
       item_at b segment row used r (quiet_still b p r quiet all) (same_used p r segment all.plain ∙ is) lt (first_at r j)
 
-  pub has_pair : IfSeveral (HoldsPair (row_after (trace f) segment row))
-  has_pair = each_way (eqb most_span 1) (Unit {0}) (HoldsPair (row_after (trace f) segment row)) (λ one. tt)
-      (λ several. item_pair b.shape (trace f) segment looked.moved.pass.lawful row used (item_now f i))
+  pub has_pair : HoldsPair (row_after (trace f) segment row)
+  has_pair = item_pair b.shape (trace f) segment looked.moved.pass.lawful row used (item_now f i)
 
   pub counted_ends : row + rows ≤ used
   counted_ends = let ends = (item_now f i).ends in omega (arith, span, ends)

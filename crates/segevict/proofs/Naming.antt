@@ -1,19 +1,17 @@
 -- Which rows items name, and how many: from a search along one chain to the sums over a pass's own segments.
-use Rattle.std.proofs.Common.{◌≡◌, ℕ, zero, suc, ◌+◌, ◌*◌, ◌<◌, ◌≤◌, Bool, true, eqb, is_some, List, [], Option, Some, None, refl, sym, ap, ◌∙◌, subst, inl, inr, arith}
+use Rattle.std.proofs.Common.{◌≡◌, ℕ, zero, suc, ◌+◌, ◌*◌, ◌<◌, ◌≤◌, Bool, true, is_some, List, [], Option, Some, None, refl, sym, ap, ◌∙◌, subst, inl, inr, arith}
 use Rattle.std.proofs.lemmas.Bool.{lt-ltb}
 use Rattle.std.proofs.lemmas.Nat.{div-mul-add}
 use Rattle.std.proofs.lemmas.Option.{same_Some}
-use Rattle.segword.specs.RowLayout.{key_length, value_length}
-use Rattle.segword.specs.Words.{covers, Item, most_span, Shape}
+use Rattle.segword.specs.Words.{covers, Item, Shape}
 use Rattle.segmodel.specs.Words.{after, bucket_of, owner, StandsIn}
 use Rattle.segcore.specs.Event as event
 use Rattle.segcore.specs.Mark as mark
-use Rattle.segcore.specs.Words.{cached, Event, IsLawful, last_at, row_after, RowAt, RowGone, Slot, slot, span_in}
+use Rattle.segcore.specs.Words.{cached, Event, IsLawful, last_at, RowAt, RowGone, Slot, slot, span_in}
 use Rattle.segcore.proofs.Caches.{has_value, stands_in}
 use Rattle.segcore.proofs.Coherent.{IsStanding}
 use Rattle.segcore.proofs.Marked.{entries_marked}
 use Rattle.segcore.proofs.Moments.{begins_on, marked_begins}
-use Rattle.segcore.proofs.Spans.{span_one}
 use Rattle.segcore.proofs.Standing.{coherent}
 use Rattle.segbase.specs.Words.{Board, IsPassOf, marked, number, number_of, own_segment, Pass, position, trace}
 use Rattle.segbase.specs.Words.{HasStep, TakesSteps, used_in, used_of}
@@ -27,7 +25,6 @@ use Rattle.segwrite.specs.Words.{Target}
 use Rattle.segwrite.proofs.Places.{idles_then}
 use Rattle.segevict.specs.Naming.{AreNamed, CountsRows, FindsNamed, IsNamed, or_zero, own_at, sum_below, SumsUp, Tallies, ReturnsNamed, used_at, WasNamed, WasNamedIn, WasTaken}
 use Rattle.segevict.specs.Rows.{FindsRow, IsNamedAt, IsUsedRow}
-use Rattle.segevict.proofs.IfNamed.{each_way, in_either}
 use Rattle.segevict.proofs.Items.{in_rows, span_over}
 use Rattle.segevict.proofs.Unnamed.{gone_over}
 
@@ -85,21 +82,13 @@ was_after z s r p q f steps was = since_then p q f (λ start. WasNamed z s r (ma
 
 -- ---- the rows of an item that was named
 
-abbrev IsOneOf : Shape → ℕ → ℕ → Pass → Pass → Type 0
-IsOneOf z s r p q = (first : ℕ) × IsUsedRow s first q × (covers first (span_in (trace q) s first) r ≡ true) × WasNamedIn z s first p q
-
 taken_map : (z : Shape) (s r : ℕ) (p q p' q' : Pass) → ((first : ℕ) → WasNamedIn z s first p q → WasNamedIn z s first p' q')
     → ((first : ℕ) → IsUsedRow s first q → IsUsedRow s first q' × (span_in (trace q') s first ≡ span_in (trace q) s first)) → WasTaken z s r p q → WasTaken z s r p' q'
-taken_map z s r p q p' q' named used =
-    in_either (eqb most_span 1) (WasNamedIn z s r p q) (IsOneOf z s r p q) (WasNamedIn z s r p' q') (IsOneOf z s r p' q') (named r)
-    (λ x. let u = used x.0 x.1 in (x.0, u.0, subst (λ n. covers x.0 n r ≡ true) (sym u.1) x.2, named x.0 x.3))
+taken_map z s r p q p' q' named used x = let u = used x.0 x.1 in (x.0, u.0, subst (λ n. covers x.0 n r ≡ true) (sym u.1) x.2, named x.0 x.3)
 
 pub taken_by : (b : Board) (s row i used : ℕ) (p q : Pass) → used_of q s ≡ Some used → row < used → row ≤ i → i < row + span_in (trace q) s row
     → WasNamedIn b.shape s row p q → WasTaken b.shape s i p q
-taken_by b s row i used p q is lt low high was = each_way (eqb most_span 1) (WasNamedIn b.shape s i p q) (IsOneOf b.shape s i p q)
-    (λ one. let header = (row_after (trace q) s row).words 0 in let rows = span_one (key_length header) (value_length header) one in
-    let same : row ≡ i = omega (arith, low, high, rows) in subst (λ r. WasNamedIn b.shape s r p q) same was)
-    (λ several. (row, (used, is, lt), in_rows row (span_in (trace q) s row) i low high, was))
+taken_by b s row i used p q is lt low high was = (row, (used, is, lt), in_rows row (span_in (trace q) s row) i low high, was)
 
 -- ---- how many
 

@@ -20,7 +20,6 @@ use Rattle.segstore.proofs.Refills.{idles}
 use Rattle.segstore.specs.Words.{IsNext, LeadsNowhere, LeadsTo, next_word}
 use Rattle.segwrite.specs.Words.{IsInChain}
 use Rattle.segevict.specs.Rows.{IfNamed, IsStoredIn}
-use Rattle.segevict.proofs.IfNamed.{home_named, home_over, home_within, named_over, so_named}
 use Rattle.segwrite.proofs.Items.{item_here}
 use Rattle.segwrite.proofs.Onward.{chain_ends}
 use Rattle.segwrite.proofs.Places.{idles_then}
@@ -54,7 +53,7 @@ names_no_row z h b n word sought key v l on tag reads other at =
     let ls = low_segment z a.segment v stands.within.0 in let lr = low_row z a.row v stands.within.1 in
     let same : a.key ≡ key = same_Some a.key key (sym stands.linked ∙ ((λ t. (row_after h (at.2.0 t) (at.2.1 t)).linked) ∙ on)) in
     let here : IsWordOfContent (item a) word = subst (λ x. IsWordOfContent x word) at.1 reads in
-    let tagged = so_named z h b n sought.seg sought.row (sought.tag ≡ tag_of key) at tag in
+    let tagged = tag b n at in
     let is = here.0.2 in let few : here.0.0 < 2 ^ 8 = (let lt = here.0.1 in omega arith) in
     other (
       here.1,
@@ -77,7 +76,7 @@ pub record Seeking (b : Board) (bucket : ℕ) (sought : Item) (first p : Pass) (
 pub seeking_first : (b : Board) (bucket : ℕ) (sought : Item) (p : Pass) → IsPassOf b p → IsStoredIn b bucket sought p → Seeking b bucket sought p p (record { bucket = bucket; word = 1 })
 seeking_first b bucket sought p is stored =
     let z = b.shape in let place : Place = record { bucket = bucket; word = 1 } in
-    let lt : bucket < z.buckets = home_within z (trace p) sought.seg sought.row bucket stored.key is.valid stored.home in
+    let lt : bucket < z.buckets = stored.home.0 in
     let one : position z (trace p) place ≡ 1 = cond-true (ltb bucket z.buckets) 1 _ (lt-ltb bucket z.buckets lt) in record {
       idles = idles b p is;
       stored = stored;
@@ -89,8 +88,7 @@ seeking_first b bucket sought p is stored =
             there.0,
             there.1,
             subst (λ k. RowAt z k sought.seg sought.row (trace p) there.0)
-                (sym (so_named z (trace p) (bucket_of z stored.key) there.0 sought.seg sought.row (bucket ≡ bucket_of z stored.key) there.2
-                (home_named z (trace p) sought.seg sought.row bucket stored.key stored.home))) there.2,
+                (sym (stored.home.1 (bucket_of z stored.key) there.0 there.2)) there.2,
           ))
           (ahead_first z stored.key sought.seg sought.row (trace p) is.lawful stored.linked));
     }
@@ -107,8 +105,8 @@ stored_over b bucket sought own p q m calm stored =
       key = stored.key;
       own = stored.own ∙ sym m.same;
       linked = ap (λ h. (row_after h sought.seg sought.row).linked) m.goes_on ∙ (own_linked b.shape m.more (trace p) (number p) sought.seg sought.row l c stored.own ∙ stored.linked);
-      home = home_over b.shape (trace p) (trace q) sought.seg sought.row bucket stored.key there stored.home;
-      tag = named_over b.shape (trace p) (trace q) sought.seg sought.row (sought.tag ≡ tag_of stored.key) there stored.tag;
+      home = (stored.home.0, λ k n at. let was = there k n at in stored.home.1 was.0 was.1 was.2);
+      tag = λ k n at. let was = there k n at in stored.tag was.0 was.1 was.2;
     }
 
 -- a look at the word of the place

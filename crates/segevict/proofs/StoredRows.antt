@@ -1,20 +1,16 @@
 -- A used row of a segment of the pass's own: the pass may read it, and it holds the pair of the key that was linked to it.
-use Rattle.std.proofs.Common.{◌≡◌, ℕ, ◌<◌, ◌==◌, Bool, true, false, eqb, is_some, List, Option, Some, None, refl, sym, ap, ◌∙◌, subst, inl, ⊎_elim, arith}
-use Rattle.std.proofs.lemmas.Bool.{cases_Bool, eqb-true, lt-ltb, false≢true}
+use Rattle.std.proofs.Common.{◌≡◌, ℕ, ◌<◌, true, is_some, List, Option, Some, None, refl, sym, ap, ◌∙◌, subst, inl, arith}
+use Rattle.std.proofs.lemmas.Bool.{lt-ltb, false≢true}
 use Rattle.std.proofs.lemmas.Option.{same_Some}
-use Rattle.std.specs.Prelude.{MatchBool}
-use Rattle.segword.specs.Words.{covers, most_span, Shape}
+use Rattle.segword.specs.Words.{Shape}
 use Rattle.segmodel.specs.Words.{owner}
-use Rattle.segword.specs.RowLayout.{key_length, value_length}
-use Rattle.segcore.specs.Words.{Event, IsLawful, MayRead, Row, row_after, row_alone, RowAt, span_in}
-use Rattle.segcore.proofs.Spans.{span_one}
+use Rattle.segcore.specs.Words.{Event, IsLawful, Row, row_after, RowAt}
 use Rattle.segcore.proofs.Standing.{coherent}
 use Rattle.segbase.specs.Words.{Board, number, Pass, trace}
 use Rattle.segstore.specs.Words.{HoldsPair, IsQuiet, IsReadable, MayReadItem, ReadsRow}
 use Rattle.segstore.proofs.Held.{IsPairOf}
 use Rattle.segstore.proofs.Keeping.{in_table, owns_used}
-use Rattle.segevict.specs.Rows.{IfSeveral, IsUsedRow}
-use Rattle.segevict.proofs.Tiles.{item_of}
+use Rattle.segevict.specs.Rows.{IsUsedRow}
 
 pub record OfRow (b : Board) (segment row : ℕ) (p : Pass) : Type 0 where
   pub own : owner b.shape segment ≡ number p
@@ -22,15 +18,9 @@ pub record OfRow (b : Board) (segment row : ℕ) (p : Pass) : Type 0 where
   pub key : List ℕ
   pub linked : (row_after (trace p) segment row).linked ≡ Some key
 
--- the pass may read the rows of its own segments, and those behind them too
-in_both : (one : Bool) (A B : Type 0) → A → B → MatchBool one A B
-in_both true A B alone behind = alone
-in_both false A B alone behind = behind
-
+-- the pass may read the rows of its own segments
 pub may_read_own : (z : Shape) (h : List Event) (pass segment row : ℕ) → owner z segment ≡ pass → MayReadItem z h pass segment row
-may_read_own z h pass segment row own = in_both (most_span == 1) (MayRead z h pass segment row)
-    ((other : ℕ) → covers row (span_in h segment row) other ≡ true → other < z.rows → MayRead z h pass segment other)
-    (inl own) (λ other covered within. inl own)
+may_read_own z h pass segment row own = λ other covered within. inl own
 
 pub some_key : (o : Option (List ℕ)) → is_some o ≡ true → (key : List ℕ) × (o ≡ Some key)
 some_key None t = absurd (false≢true t)
@@ -60,26 +50,10 @@ module _ (b : Board) (segment row : ℕ) (p q : Pass) (of : OfRow b segment row 
 
 -- ---- the pair of a row
 
--- where each item takes one row, it holds that of its key
-pub pair_alone : (z : Shape) (h : List Event) (s r : ℕ) (key : List ℕ) → IsLawful z h → eqb most_span 1 ≡ true → (row_after h s r).linked ≡ Some key → IsPairOf (row_after h s r) key
-pair_alone z h s r key l one on =
-    let x = item_of z h s r key l on in let header = (row_alone h s x.0).words 0 in
-    let first : x.0 ≡ r = eqb-true x.0 r (subst (λ n. covers x.0 n r ≡ true) (span_one (key_length header) (value_length header) one) x.1.within) in
-    subst (λ i. IsPairOf (row_after h s i) key) first x.1.pair
-
--- and so does a row that a word names
+-- a row that a word names holds that of its key
 pub pair_named : (z : Shape) (h : List Event) (b n s r : ℕ) (key : List ℕ) → IsLawful z h → RowAt z b s r h n → (row_after h s r).linked ≡ Some key → IsPairOf (row_after h s r) key
 pair_named z h b n s r key l at on =
     let a = at.0 in let st = (coherent z h l).items b n a at.1 in
     let same : a.key ≡ key = same_Some a.key key (sym st.linked ∙ ((λ t. (row_after h (at.2.0 t) (at.2.1 t)).linked) ∙ on)) in
     let pair : IsPairOf (row_after h a.segment a.row) a.key = record { value = st.value; valid = st.valid; holds = st.holds } in
     subst (λ t. IsPairOf (row_after h t r) key) at.2.0 (subst (λ i. IsPairOf (row_after h a.segment i) key) at.2.1 (subst (IsPairOf (row_after h a.segment a.row)) same pair))
-
--- where items take several rows, it is told that the row holds one
-pub pair_there : (b : Board) (segment row : ℕ) (p : Pass) → OfRow b segment row p → IsLawful b.shape (trace p)
-    → IfSeveral (HoldsPair (row_after (trace p) segment row)) → HoldsPair (row_after (trace p) segment row)
-pair_there b segment row p of l told = let u = row_after (trace p) segment row in ⊎_elim
-    (λ one. let pair = pair_alone b.shape (trace p) segment row of.key l one of.linked in
-    record { key = of.key; value = pair.value; is_key = pair.valid.0; is_value = pair.valid.1; holds = pair.holds })
-    (λ several. subst (λ t. MatchBool t (Unit {0}) (HoldsPair u)) several told)
-    (cases_Bool (eqb most_span 1))

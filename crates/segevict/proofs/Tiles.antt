@@ -1,15 +1,18 @@
 -- The rows of a segment by items: a linked row is one of the item that was linked or moved over it last, and that item's first row holds its pair.
-use Rattle.std.proofs.Common.{◌≡◌, ◌≢◌, ℕ, Bool, true, false, cond, eqb, List, [], ◌∷◌, Some, refl, sym, ap, ◌∙◌, subst, ⊎_elim}
+use Rattle.std.proofs.Common.{◌≡◌, ◌≢◌, ◌≤◌, ℕ, Bool, true, false, cond, eqb, List, [], ◌∷◌, Some, refl, sym, ap, ◌∙◌, subst, ⊎_elim}
 use Rattle.std.proofs.lemmas.Bool.{and_from, and_parts, cases_Bool, cond-false, cond-true, eq-eqb, eqb-true, false_from_ne_true}
 use Rattle.std.proofs.lemmas.Option.{none-some, same_Some}
-use Rattle.segword.specs.Words.{covers, Shape, span_of_header}
+use Rattle.segword.specs.Words.{covers, IsKey, IsValue, IsWithin, Limits, most_rows, Shape, span_of_header}
 use Rattle.segmodel.specs.Words.{key_of, Request, value_of}
 use Rattle.segcore.specs.declared.event.Event.TheVariants.{Filled, Linked, Refilled, Relinked}
-use Rattle.segcore.specs.Words.{Event, IsLawful, Row, row_after, row_alone, slot, writes_row}
+use Rattle.segcore.specs.Words.{AreWithin, cached, Event, Holds, IsLawful, Row, row_after, row_alone, seen, slot, writes_row}
+use Rattle.segcore.proofs.Moments.{seen_begins}
 use Rattle.segcore.proofs.Quiet.{at_unlinked, of_row}
-use Rattle.segcore.proofs.Spans.{same_after}
+use Rattle.segcore.proofs.Spans.{alone_span, same_after}
 use Rattle.segcore.proofs.Standing.{coherent, link_words, now_linked, now_moved, relinks, row_itself}
+use Rattle.segcore.proofs.Within.{began_within, stands_within}
 use Rattle.segstore.proofs.Held.{IsPairOf}
+use Rattle.segevict.proofs.Longest.{spans_few}
 
 -- how many rows the item has whose first row this is
 abbrev pub rows_at : List Event → ℕ → ℕ → ℕ
@@ -32,6 +35,20 @@ pub record IsRowFrom (h : List Event) (s first r : ℕ) (k : List ℕ) : Type 0 
   pub within : covers first (rows_at h s first) r ≡ true
   pub all : (i : ℕ) → covers first (rows_at h s first) i ≡ true → ((row_alone h s i).linked ≡ Some k) × (start_at h s i ≡ first)
   pub pair : IsPairOf (row_after h s first) k
+  -- where nothing that was stored is longer than the limits allow, the item takes no more rows than the longest one
+  pub few : (limits : Limits) → AreWithin limits (seen h) → rows_at h s first ≤ most_rows limits
+
+-- ---- limits
+
+-- what was stored before was within them too
+within_before : (limits : Limits) (e : Event) (h : List Event) → AreWithin limits (seen (e ∷ h)) → AreWithin limits (seen h)
+within_before limits e h all = began_within limits (seen h) (seen (e ∷ h)) (seen_begins h (e ∷ h) (e ∷ [], refl)) all
+
+-- the rows of a pair that is held are few
+held_few : (h : List Event) (s first : ℕ) (k v : List ℕ) (limits : Limits) → IsKey k × IsValue v → Holds (row_after h s first) k v → IsWithin limits k v
+    → rows_at h s first ≤ most_rows limits
+held_few h s first k v limits valid holds within =
+    subst (λ n. n ≤ most_rows limits) (sym (alone_span h s first k v valid.0 valid.1 holds)) (spans_few limits k v within)
 
 -- ---- an event that touches no linked row of the segment
 
@@ -52,6 +69,7 @@ module _ (e : Event) (h : List Event) (s first r : ℕ) (k : List ℕ) (off : (i
         within = subst (λ (u : Row). covers first (span_of_header (u.words 0)) r ≡ true) (sym (same_row first on)) t.within;
         all = λ i c. let x = t.all i (back i c) in (ap (λ (u : Row). u.linked) (same_row i x.0) ∙ x.0, same_start i x.0 ∙ x.1);
         pair = subst (λ u. IsPairOf u k) (sym item_same) t.pair;
+        few = λ limits all. subst (λ (u : Row). span_of_header (u.words 0) ≤ most_rows limits) (sym (same_row first on)) (t.few limits (within_before limits e h all));
       }
 
 -- as no event does but a refilling
@@ -75,6 +93,8 @@ of_linked z h p q s first n r l c =
       within = subst (λ m. covers first m r ≡ true) (sym same) c;
       all = λ i c. let c' = subst (λ m. covers first m i ≡ true) same c in (now_linked h p q s first n i c', starts i c');
       pair = record { value = value_of q; valid = (l.1.suits.5, l.1.suits.6); holds = λ j lt. link_words h p q s first n s first j ∙ l.1.suits.1 j lt };
+      few = λ limits all. held_few (e ∷ h) s first (key_of q) (value_of q) limits (l.1.suits.5, l.1.suits.6)
+          (λ j lt. link_words h p q s first n s first j ∙ l.1.suits.1 j lt) all.0;
     }
 
 of_moved : (z : Shape) (h : List Event) (p : ℕ) (k : List ℕ) (a f s first n r : ℕ) → IsLawful z (Relinked p k a f s first n ∷ h)
@@ -89,6 +109,8 @@ of_moved z h p k a f s first n r l c =
       within = subst (λ m. covers first m r ≡ true) (sym same) c;
       all = λ i c. let c' = subst (λ m. covers first m i ≡ true) same c in (now_moved h p k a f s first n i c', starts i c');
       pair = record { value = there.value; valid = there.valid; holds = there.holds };
+      few = λ limits all. held_few (e ∷ h) s first k there.value limits there.valid there.holds
+          (stands_within z limits (seen (e ∷ h)) k all (cached there.value s) there.stands);
     }
 
 -- ---- every linked row

@@ -1,7 +1,7 @@
 -- What an evict answers: how many keys it took out of the segment, each by one entry.
 -- Either no key stands there then, or the bucket of one was in the way. And what an evict costs.
-use Rattle.std.specs.Prelude.{◌≡◌, ◌≢◌, ◌↔◌, ◌⊎◌, ℕ, zero, suc, ◌+◌, ◌<◌, ◌==◌, List, [], ◌∷◌, ◌++◌, length, MatchBool, Some, None}
-use Rattle.segword.specs.Words.{most_span, Shape}
+use Rattle.std.specs.Prelude.{◌≡◌, ◌≢◌, ◌↔◌, ◌⊎◌, ℕ, zero, suc, ◌+◌, ◌<◌, List, [], ◌∷◌, ◌++◌, length, Some, None}
+use Rattle.segword.specs.Words.{Shape}
 use Rattle.segmodel.specs.declared.entry.Entry.TheVariants as entry
 use Rattle.segmodel.specs.declared.answer.EvictAnswer.TheVariants as evict
 use Rattle.segmodel.specs.declared.answer.SegState.TheVariants.{InUse, Evicted}
@@ -50,11 +50,10 @@ IsEvictAnswer shape segment (evict.Busy count) p q =
 
 -- ---- rows in their order
 
--- Where items take several rows, the pass first looks which row from this one on is an item's
--- first, by no more loads than there are rows before this one. Where each takes one row,
--- it does nothing.
+-- The pass first looks which row from this one on is an item's first,
+-- by no more loads than there are rows before this one.
 abbrev pub LooksForFirst : Board → ℕ → Pass → Pass → Type 0
-LooksForFirst b from p q = MatchBool (most_span == 1) (q ≡ p) (Idles b p q × TakesAtMost from p q)
+LooksForFirst b from p q = Idles b p q × TakesAtMost from p q
 
 -- This number of rows was gone over, from this one on, each by an evict of one row. One behind an
 -- item's first row is Left, by no step.

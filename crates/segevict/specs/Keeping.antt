@@ -1,7 +1,7 @@
 -- What a keep answers: how many items it moved into the current segment, each by one entry.
 -- Either what is left was below the cutoff, or something was in the way. And what a keep costs.
-use Rattle.std.specs.Prelude.{◌≡◌, ◌≢◌, ◌↔◌, ◌⊎◌, ℕ, zero, suc, ◌+◌, ◌<◌, ◌≤◌, ◌==◌, List, [], ◌∷◌, ◌++◌, length, true, false, Some, None, MatchBool}
-use Rattle.segword.specs.Words.{most_span, Shape}
+use Rattle.std.specs.Prelude.{◌≡◌, ◌≢◌, ◌↔◌, ◌⊎◌, ℕ, zero, suc, ◌+◌, ◌*◌, ◌<◌, ◌≤◌, List, [], ◌∷◌, ◌++◌, length, true, false, Some, None}
+use Rattle.segword.specs.Words.{most_rows, Shape}
 use Rattle.segmodel.specs.declared.entry.Entry.TheVariants as entry
 use Rattle.segmodel.specs.declared.answer.KeepAnswer.{KeepAnswer}
 use Rattle.segmodel.specs.declared.answer.KeepAnswer.TheVariants as keep
@@ -9,7 +9,7 @@ use Rattle.segmodel.specs.declared.answer.SegState.TheVariants.{InUse}
 use Rattle.segmodel.specs.Words.{after, Entry, StandsIn}
 use Rattle.segcore.specs.Words.{span_in}
 use Rattle.segbase.specs.Words.{Board, mine, number, Pass, seen, state_of, trace, used_of}
-use Rattle.segstore.specs.Words.{DrawsNothing, GoesOn, has_room, has_room_for, ReadsNothing}
+use Rattle.segstore.specs.Words.{DrawsNothing, GoesOn, has_room_for, ReadsNothing}
 use Rattle.segevict.specs.declared.retention.KeepRowAnswer.{KeepRowAnswer}
 use Rattle.segevict.specs.declared.retention.KeepRowAnswer.TheVariants as kept
 use Rattle.segevict.specs.Frequencies.{IsOften, WasOften, WasSeldom}
@@ -20,30 +20,26 @@ use Rattle.segevict.specs.Tries.{IsInTheWay, TriesFor}
 
 -- ---- rows
 
--- so many items use that many rows of the segment; where they take several, at least one for each
-abbrev pub UsesSome : ℕ → ℕ → Pass → Pass → Type 0
-UsesSome into count p q =
-    MatchBool (most_span == 1)
-    (UsesRows into count p q)
-    ((rows : ℕ) × (count ≤ rows) × UsesRows into rows p q)
+-- So many items use rows of the segment: at least one each, and at most as many as the table's
+-- limits allow for an item.
+abbrev pub UsesSome : Board → ℕ → ℕ → Pass → Pass → Type 0
+UsesSome b into count p q =
+    (rows : ℕ) × (count ≤ rows) × (rows ≤ count * most_rows b.limits) × UsesRows into rows p q
 
 -- The current segment has too few rows left for an item of the segment: for as many as a used
--- row's item took when the call began.
-abbrev pub LacksRows : Shape → ℕ → Pass → Pass → Type 0
-LacksRows shape segment p q =
-    MatchBool (most_span == 1)
-    (has_room shape q ≡ false)
-    ((row : ℕ) × IsUsedRow segment row p
-    × (has_room_for shape (span_in (trace p) segment row) q ≡ false))
+-- row's item took when the call began, which is no more than the table's limits allow.
+abbrev pub LacksRows : Board → ℕ → Pass → Pass → Type 0
+LacksRows b segment p q =
+    (row : ℕ) × IsUsedRow segment row p
+    × (span_in (trace p) segment row ≤ most_rows b.limits)
+    × (has_room_for b.shape (span_in (trace p) segment row) q ≡ false)
 
 -- The current segment has rows enough for an item of the segment: for as many as a used row's
 -- item took when the call began.
 abbrev pub HasRowsForOne : Shape → ℕ → Pass → Pass → Type 0
 HasRowsForOne shape segment p q =
-    MatchBool (most_span == 1)
-    (has_room shape q ≡ true)
-    ((row : ℕ) × IsUsedRow segment row p
-    × (has_room_for shape (span_in (trace p) segment row) q ≡ true))
+    (row : ℕ) × IsUsedRow segment row p
+    × (has_room_for shape (span_in (trace p) segment row) q ≡ true)
 
 -- ---- what is moved
 
@@ -57,12 +53,12 @@ AreMoves pass segment into IsSo (added ∷ more) =
 
 -- This number of items was moved, each by one entry and into rows of its own.
 -- Each had a frequency that was the cutoff or over it at a moment of the call.
-pub record MovesItems (shape : Shape) (segment into cutoff count : ℕ) (p q : Pass) : Type 0 where
+pub record MovesItems (b : Board) (segment into cutoff count : ℕ) (p q : Pass) : Type 0 where
   pub moves : List Entry
   pub counted : length moves ≡ count
-  pub all : AreMoves (number p) segment into (WasOften shape segment cutoff p q) moves
+  pub all : AreMoves (number p) segment into (WasOften b.shape segment cutoff p q) moves
   pub entries : mine q ≡ moves ++ mine p
-  pub uses : UsesSome into count p q
+  pub uses : UsesSome b into count p q
 
 -- each key that stands in the segment then was below the cutoff at a moment of the call
 abbrev pub AreSeldom : Shape → ℕ → ℕ → Pass → Pass → Type 0
@@ -73,10 +69,10 @@ AreSeldom shape segment cutoff p q = (key : List ℕ)
 -- ---- the answer
 
 -- this number of items was moved from a segment in use into the current one
-abbrev pub MovesAway : Shape → ℕ → ℕ → ℕ → Pass → Pass → Type 0
-MovesAway shape segment cutoff count p q =
+abbrev pub MovesAway : Board → ℕ → ℕ → ℕ → Pass → Pass → Type 0
+MovesAway b segment cutoff count p q =
     (state_of p segment ≡ Some InUse)
-    × ((into : ℕ) × IsKeepTarget segment into p × MovesItems shape segment into cutoff count p q)
+    × ((into : ℕ) × IsKeepTarget segment into p × MovesItems b segment into cutoff count p q)
 
 -- Kept: each key that still stands in the segment was below the cutoff at a moment of the call,
 -- or the segment isn't in use, and nothing is moved.
@@ -84,20 +80,20 @@ MovesAway shape segment cutoff count p q =
 -- and an item of the cutoff's frequency or a higher one is still in the old one.
 -- Busy: there are rows, but a bucket was in the way.
 -- What was moved stays so, and calling again goes on.
-abbrev pub IsKeepAnswer : Shape → ℕ → ℕ → KeepAnswer → Pass → Pass → Type 0
-IsKeepAnswer shape segment cutoff (keep.Kept count) p q =
-    (MovesAway shape segment cutoff count p q × AreSeldom shape segment cutoff p q)
+abbrev pub IsKeepAnswer : Board → ℕ → ℕ → KeepAnswer → Pass → Pass → Type 0
+IsKeepAnswer b segment cutoff (keep.Kept count) p q =
+    (MovesAway b segment cutoff count p q × AreSeldom b.shape segment cutoff p q)
     ⊎ ((state_of p segment ≢ Some InUse) × (count ≡ 0) × (q ≡ p))
-IsKeepAnswer shape segment cutoff keep.NotYours p q = q ≡ p
-IsKeepAnswer shape segment cutoff (keep.NoRoom count) p q =
+IsKeepAnswer b segment cutoff keep.NotYours p q = q ≡ p
+IsKeepAnswer b segment cutoff (keep.NoRoom count) p q =
     ((state_of p segment ≡ Some InUse) × ((into : ℕ) → ¬ (IsKeepTarget segment into p))
     × (count ≡ 0) × (q ≡ p))
-    ⊎ (MovesAway shape segment cutoff count p q × LacksRows shape segment p q
-    × ((key : List ℕ) × IsOften shape segment cutoff q key))
-IsKeepAnswer shape segment cutoff (keep.Busy count) p q =
-    MovesAway shape segment cutoff count p q
-    × HasRowsForOne shape segment p q
-    × IsInTheWay shape (WasOften shape segment cutoff p q) p q
+    ⊎ (MovesAway b segment cutoff count p q × LacksRows b segment p q
+    × ((key : List ℕ) × IsOften b.shape segment cutoff q key))
+IsKeepAnswer b segment cutoff (keep.Busy count) p q =
+    MovesAway b segment cutoff count p q
+    × HasRowsForOne b.shape segment p q
+    × IsInTheWay b.shape (WasOften b.shape segment cutoff p q) p q
 
 -- ---- rows in their order
 
@@ -155,6 +151,6 @@ pub record CostsOfKeep (b : Board) (segment cutoff : ℕ) (told : KeepAnswer) (p
 pub record KeepsItems (b : Board) (segment cutoff : ℕ) (told : KeepAnswer) (p q : Pass)
     : Type 0 where
   pub on : GoesOn b p q
-  pub answer : IsKeepAnswer b.shape segment cutoff told p q
+  pub answer : IsKeepAnswer b segment cutoff told p q
   pub not_yours : (told ≡ keep.NotYours) ↔ (state_of p segment ≡ None)
   pub costs : CostsOfKeep b segment cutoff told p q

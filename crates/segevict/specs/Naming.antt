@@ -1,6 +1,6 @@
 -- The rows of a pass's own segments: which of them items name, and how many.
-use Rattle.std.specs.Prelude.{◌≡◌, ◌⊎◌, ℕ, zero, suc, ◌+◌, ◌*◌, ◌<◌, ◌≤◌, ◌==◌, Bool, true, false, List, Option, Some, None, MatchBool}
-use Rattle.segword.specs.Words.{covers, most_span, Shape}
+use Rattle.std.specs.Prelude.{◌≡◌, ◌⊎◌, ℕ, zero, suc, ◌+◌, ◌*◌, ◌<◌, ◌≤◌, Bool, true, false, List, Option, Some, None}
+use Rattle.segword.specs.Words.{covers, Shape}
 use Rattle.segmodel.specs.Words.{after, Begins, StandsIn}
 use Rattle.segcore.specs.Words.{entries, last_at, Mark, RowGone, slot, span_in}
 use Rattle.segcore.specs.Mark as mark
@@ -38,15 +38,12 @@ abbrev pub ReturnsNamed : Shape → ℕ → ℕ → Bool → Pass → Type 0
 ReturnsNamed shape segment row true q = IsNamed shape segment row (marked q)
 ReturnsNamed shape segment row false q = RowGone shape segment row (trace q)
 
--- The row is one of an item that was named so, the first one where each has one row.
--- The item's first row is a used one.
+-- The row is one of an item that was named so. The item's first row is a used one.
 abbrev pub WasTaken : Shape → ℕ → ℕ → Pass → Pass → Type 0
 WasTaken shape segment row p q =
-    MatchBool (most_span == 1)
-    (WasNamedIn shape segment row p q)
-    ((first : ℕ) × IsUsedRow segment first q
+    (first : ℕ) × IsUsedRow segment first q
     × (covers first (span_in (trace q) segment first) row ≡ true)
-    × WasNamedIn shape segment first p q)
+    × WasNamedIn shape segment first p q
 
 -- ---- how many
 

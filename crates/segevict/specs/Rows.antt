@@ -1,6 +1,6 @@
 -- The rows of a segment of the pass's own, each with the word of a chain that names it.
-use Rattle.std.specs.Prelude.{◌≡◌, ℕ, ◌<◌, ◌==◌, IsSome, List, MatchBool, Option, Some, MatchOption}
-use Rattle.segword.specs.Words.{IsSameItem, Item, item_word, most_span, Shape}
+use Rattle.std.specs.Prelude.{◌≡◌, ℕ, ◌<◌, IsSome, List, Option, Some, MatchOption}
+use Rattle.segword.specs.Words.{IsSameItem, Item, item_word, Shape}
 use Rattle.segmodel.specs.declared.answer.SegState.TheVariants.{InUse}
 use Rattle.segmodel.specs.Words.{Begins, bucket_of, owner, tag_of}
 use Rattle.segcore.specs.Words.{Event, row_after, RowAt, RowGone, span_in, word}
@@ -18,26 +18,19 @@ IsUsedRow segment row p = (used : ℕ) × (used_of p segment ≡ Some used) × (
 abbrev pub HasRow : ℕ → ℕ → Pass → Type 0
 HasRow segment row p = (state_of p segment ≡ Some InUse) × IsUsedRow segment row p
 
--- where items take several rows, this is so
-abbrev pub IfSeveral : Type 0 → Type 0
-IfSeveral so = MatchBool (most_span == 1) (Unit {0}) so
-
--- this is so; or where items take several rows, it is so if a word names the row
+-- this is so if a word names the row
 abbrev pub IfNamed : Shape → List Event → ℕ → ℕ → Type 0 → Type 0
 IfNamed shape trace segment row so =
-    MatchBool (most_span == 1) so
-    ((bucket position : ℕ) → RowAt shape bucket segment row trace position → so)
+    (bucket position : ℕ) → RowAt shape bucket segment row trace position → so
 
--- so far the bucket is that of the key; in any case it is one of the table
+-- the bucket is one of the table, and that of the key if a word names the row
 abbrev pub IsHomeOf : Shape → List Event → ℕ → ℕ → ℕ → List ℕ → Type 0
 IsHomeOf shape trace segment row bucket key =
-    MatchBool (most_span == 1)
-    (bucket ≡ bucket_of shape key)
-    ((bucket < shape.buckets) × IfNamed shape trace segment row (bucket ≡ bucket_of shape key))
+    (bucket < shape.buckets) × IfNamed shape trace segment row (bucket ≡ bucket_of shape key)
 
 -- The item, its frequency aside,
 -- is that of a key that was linked to a row of the pass's own in this filling.
--- The bucket is that of the key.
+-- The bucket and the tag are those of the key if a word names the row.
 pub record IsStoredIn (b : Board) (bucket : ℕ) (item : Item) (p : Pass) : Type 0 where
   pub key : List ℕ
   pub own : owner b.shape item.seg ≡ number p

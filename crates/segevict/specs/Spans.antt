@@ -1,18 +1,14 @@
 -- How many rows an item takes, as a call tells it by its first row, and which rows are first.
-use Rattle.std.specs.Prelude.{◌≡◌, ℕ, zero, suc, ◌+◌, ◌≤◌, ◌==◌, List, MatchBool}
-use Rattle.segword.specs.Words.{most_span}
+use Rattle.std.specs.Prelude.{◌≡◌, ℕ, zero, suc, ◌+◌, ◌≤◌, List}
 use Rattle.segcore.specs.Words.{Event, span_in}
 use Rattle.segbase.specs.Words.{Board, Pass, trace}
 use Rattle.segstore.specs.Words.{Idles}
 use Rattle.segevict.specs.Rows.{HasRow}
 
--- Where each item takes one row, it is 1, and the pass did nothing.
--- Else the pass only looked, and of a used row it is what word 0 tells.
+-- The pass only looked. The number is at least 1, and of a used row it is what word 0 tells.
 abbrev pub TellsSpan : Board → ℕ → ℕ → ℕ → Pass → Pass → Type 0
 TellsSpan b segment row told p q =
-    MatchBool (most_span == 1)
-    ((told ≡ 1) × (q ≡ p))
-    (Idles b p q × (1 ≤ told) × (HasRow segment row p → told ≡ span_in (trace q) segment row))
+    Idles b p q × (1 ≤ told) × (HasRow segment row p → told ≡ span_in (trace q) segment row)
 
 -- The first row of an item of a segment, by how many items are before it.
 -- Behind the last item it is the first row that isn't used.

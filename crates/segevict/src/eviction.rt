@@ -10,8 +10,7 @@ ghost use Rattle.segevict.specs.Evicting.{CostsOfEvict, ended, EvictsRest, Evict
 ghost use Rattle.segevict.specs.Evicting.{IsEvictAnswer};
 ghost use Rattle.segevict.specs.Naming.{AreUnnamed};
 ghost use Rattle.segevict.specs.Rows.{IsUsedRow, IsStoredIn};
-ghost use Rattle.segevict.specs.Steps.{loads_of_span, most_steps_of_evict_row};
-ghost use Rattle.segevict.specs.Steps.{most_steps_to_clear};
+ghost use Rattle.segevict.specs.Steps.{most_steps_of_evict_row, most_steps_to_clear};
 ghost use Rattle.segevict.specs.Unlinking.{TakesRow, EvictsRow};
 
 use crate::row::{find_row, has_row};
@@ -122,8 +121,7 @@ fn evict_used_row(board: &Board, pass: &mut Pass, segment: u32, row: u32) -> Evi
     requires quiet { IsQuiet board.now pass.old }
     requires used { IsUsedRow segment row pass.old }
     ensures evicts { EvictsRow board.now segment row result pass.old pass.new }
-    ensures steps { TakesAtMost (most_steps_of_evict_row result - loads_of_span 1)
-        pass.old pass.new }
+    ensures steps { TakesAtMost (most_steps_of_evict_row result - 1) pass.old pass.new }
 {
     let Some((bucket, item)) = item_at(board, pass, segment, row) else {
         return EvictRowAnswer::Left;

@@ -3,7 +3,7 @@ ghost use Rattle.std.specs.Prelude.{◌≡◌, ◌≤◌, Some};
 ghost use Rattle.segcore.specs.Words.{row_after};
 ghost use Rattle.segbase.specs.Words.{HasStep, trace, used_of};
 ghost use Rattle.segstore.specs.Words.{HoldsPair, Idles, IsQuiet};
-ghost use Rattle.segevict.specs.Rows.{IfSeveral, IsUsedRow};
+ghost use Rattle.segevict.specs.Rows.{IsUsedRow};
 ghost use Rattle.segevict.specs.Naming.{ReturnsNamed, CountsRows, FindsNamed};
 
 use crate::row::{find_row, item_of_row};
@@ -23,7 +23,7 @@ pub struct RowCounts {
 fn is_named(board: &Board, pass: &mut Pass, segment: u32, row: u32) -> bool
     requires quiet { IsQuiet board.now pass.old }
     requires used { IsUsedRow segment row pass.old }
-    requires pair { IfSeveral (HoldsPair (row_after (trace pass.old) segment row)) }
+    requires pair { HoldsPair (row_after (trace pass.old) segment row) }
     ensures idles { Idles board.now pass.old pass.new }
     ensures looks { HasStep pass.old pass.new }
     ensures told { ReturnsNamed board.now.shape segment row result pass.new }

@@ -11,8 +11,7 @@ ghost use Rattle.segevict.specs.Moving.{KeepsRow, MovesRow};
 ghost use Rattle.segevict.specs.OneRow.{KeepsItem, KeepsItemInto};
 ghost use Rattle.segevict.specs.Relinking.{HasRelinked, Relinks, TriesToRelink};
 ghost use Rattle.segevict.specs.Rows.{IsStoredIn, IsUsedRow};
-ghost use Rattle.segevict.specs.Steps.{loads_of_span, most_steps_of_keep_row};
-ghost use Rattle.segevict.specs.Steps.{most_steps_to_move};
+ghost use Rattle.segevict.specs.Steps.{most_steps_of_keep_row, most_steps_to_move};
 ghost use Rattle.segevict.specs.Target.{AreNextIn, has_rows_in, IsKeepTarget, IsMoveTarget};
 
 use crate::row::{find_row, has_row};
@@ -166,8 +165,7 @@ fn keep_used_row(
     requires used { IsUsedRow row.segment row.row pass.old }
     requires target { IsMoveTarget row.segment into pass.old }
     ensures keeps { KeepsRow board.now row.segment row.row into cutoff result pass.old pass.new }
-    ensures steps { TakesAtMost (most_steps_of_keep_row result - loads_of_span 1)
-        pass.old pass.new }
+    ensures steps { TakesAtMost (most_steps_of_keep_row result - 1) pass.old pass.new }
 {
     let Some((bucket, item)) = item_at(board, pass, row.segment, row.row) else {
         return KeepRowAnswer::Left;

@@ -4,7 +4,7 @@ ghost use Rattle.segword.specs.Words.{head_width};
 ghost use Rattle.segcore.specs.Words.{row_after};
 ghost use Rattle.segbase.specs.Words.{HasStep, IsPassOf, trace};
 ghost use Rattle.segstore.specs.Words.{HoldsPair, Idles, IsQuiet, TakesAtMost};
-ghost use Rattle.segevict.specs.Rows.{HasRow, IfSeveral, IsUsedRow, IsStoredIn, FindsRow};
+ghost use Rattle.segevict.specs.Rows.{HasRow, IsUsedRow, IsStoredIn, FindsRow};
 ghost use Rattle.segevict.specs.Steps.{most_looks};
 
 use segbase::{Board, Pass, Place};
@@ -25,11 +25,11 @@ pub(crate) fn has_row(pass: &Pass, segment: u32, row: u32) -> bool
 }
 
 // The bucket and the item of the key that was stored in a row. The frequency is left open.
-// Where items take several rows, the row has to hold a pair, as the first one of an item does.
+// The row has to hold a pair, as the first one of an item does.
 pub(crate) fn item_of_row(board: &Board, pass: &mut Pass, segment: u32, row: u32) -> (u32, Item)
     requires quiet { IsQuiet board.now pass.old }
     requires used { IsUsedRow segment row pass.old }
-    requires pair { IfSeveral (HoldsPair (row_after (trace pass.old) segment row)) }
+    requires pair { HoldsPair (row_after (trace pass.old) segment row) }
     ensures idles { Idles board.now pass.old pass.new }
     ensures steps { TakesAtMost head_width pass.old pass.new }
     ensures place { (result.1.seg ≡ segment) × (result.1.row ≡ row) }

@@ -1,5 +1,4 @@
 //! Items of several rows: from the first row of an item on, the next one begins behind its last row.
-//! Where each item has one row, the next one begins behind that.
 ghost use Rattle.std.specs.Prelude.{◌≡◌, ℕ, ◌+◌, ◌≤◌, ◌<◌, IfSome, IsNone, Some};
 ghost use Rattle.segword.specs.Words.{head_width};
 ghost use Rattle.segcore.specs.Words.{RowGone, span_in};
@@ -9,12 +8,11 @@ ghost use Rattle.segevict.specs.Evicting.{LooksForFirst};
 ghost use Rattle.segevict.specs.Naming.{AreUnnamed};
 ghost use Rattle.segevict.specs.Rows.{IsStoredIn, IsUsedRow};
 ghost use Rattle.segevict.specs.Spans.{IsFirstRow, TellsSpan};
-ghost use Rattle.segevict.specs.Steps.{loads_of_span};
 
-use crate::row::{has_row, item_of_row};
+use crate::row::has_row;
 use segbase::{Board, Pass};
 use segstore::{RowRef, key_of_row, span_of_row};
-use segword::{Item, MOST_SPAN, hash, tag_of};
+use segword::{Item, hash, tag_of};
 
 // How many rows the item takes whose first row this is.
 pub(crate) fn rows_from(board: &Board, pass: &mut Pass, segment: u32, row: u32) -> u32
@@ -22,7 +20,7 @@ pub(crate) fn rows_from(board: &Board, pass: &mut Pass, segment: u32, row: u32) 
     requires used { IsUsedRow segment row pass.old }
     ensures idles { Idles board.now pass.old pass.new }
     ensures rows { result ≡ span_in (trace pass.new) segment row }
-    ensures steps { TakesAtMost (loads_of_span 1) pass.old pass.new }
+    ensures steps { TakesAtMost 1 pass.old pass.new }
 {
     span_of_row(board, pass, RowRef { segment, row })
 }
@@ -34,15 +32,12 @@ pub(crate) fn item_at(board: &Board, pass: &mut Pass, segment: u32, row: u32) ->
     requires quiet { IsQuiet board.now pass.old }
     requires used { IsUsedRow segment row pass.old }
     ensures idles { Idles board.now pass.old pass.new }
-    ensures steps { TakesAtMost (head_width + loads_of_span 1) pass.old pass.new }
+    ensures steps { TakesAtMost (head_width + 1) pass.old pass.new }
     ensures place { IfSome result (λ found. (found.1.seg ≡ segment) × (found.1.row ≡ row)) }
     ensures bucket { IfSome result (λ found. found.0 < board.now.shape.buckets) }
     ensures stored { IfSome result (λ found. IsStoredIn board.now found.0 found.1 pass.new) }
     ensures gone { IsNone result → RowGone board.now.shape segment row (trace pass.new) }
 {
-    if MOST_SPAN == 1 {
-        return Some(item_of_row(board, pass, segment, row));
-    }
     let rows = rows_from(board, pass, segment, row);
     if pass.used(segment)?.saturating_sub(row) < rows {
         return None;
@@ -71,9 +66,6 @@ pub(crate) fn first_from(board: &Board, pass: &mut Pass, segment: u32, from: u32
     ensures behind { (row : ℕ) → from ≤ row → row < result
         → RowGone board.now.shape segment row (trace pass.new) }
 {
-    if MOST_SPAN == 1 {
-        return from;
-    }
     let used = pass.used(segment).unwrap_or(0);
     if used <= from {
         return from;
@@ -91,7 +83,7 @@ pub fn span_of(board: &Board, pass: &mut Pass, segment: u32, row: u32) -> u32
     requires quiet { IsQuiet board.now pass.old }
     ensures spans { TellsSpan board.now segment row result pass.old pass.new }
 {
-    if MOST_SPAN == 1 || !has_row(pass, segment, row) {
+    if !has_row(pass, segment, row) {
         return 1;
     }
     rows_from(board, pass, segment, row)

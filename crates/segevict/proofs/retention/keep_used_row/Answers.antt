@@ -1,6 +1,6 @@
 use Rattle.std.proofs.Common.{refl}
 use Rattle.segstore.proofs.Seconds.{unpacked}
-use Rattle.segevict.proofs.Alone.{rows_there}
+use Rattle.segevict.proofs.RowsLeft.{rows_there}
 use Rattle.segevict.proofs.KeptRows.{kept_place, may_release, next_q, row_busy, row_gone, row_moved, row_no_room, row_passed, row_seldom, row_went, segments_q, stored_q, target_place, target_q}
 use Rattle.segevict.proofs.LookedFor.{looked_for, next_taken, none_taken, quiet_idle, some_item, stored_still}
 use Rattle.segevict.proofs.retention.keep_used_row.Goals as goal

@@ -7,8 +7,7 @@ use Rattle.segcore.specs.Words.{row_after}
 use Rattle.segcore.proofs.Limits.{bucket_in}
 use Rattle.segbase.specs.Words.{trace}
 use Rattle.segstore.proofs.Held.{IsPairOf}
-use Rattle.segevict.proofs.IfNamed.{if_named, is_home}
-use Rattle.segevict.proofs.StoredRows.{of_row, still_linked, still_own, pair_alone, pair_held, pair_named, pair_there}
+use Rattle.segevict.proofs.StoredRows.{of_row, still_linked, still_own, pair_held, pair_named}
 use Rattle.segevict.proofs.row.item_of_row.Goals as goal
 
 pub key_of_row-requires-clause-readable : goal.key_of_row-requires-clause-readable
@@ -17,7 +16,7 @@ key_of_row-requires-clause-readable c = (of_row c.args.board.now c.args.segment 
 pub unwrap-key-requires : goal.unwrap-key-requires
 unwrap-key-requires c = let b = c.args.board.now in let k = c.key_of_row in let p = c.args.pass.now in
     let of = of_row b c.args.segment c.args.row p c.requires.quiet c.requires.used in
-    let pair = pair_held b c.args.segment c.args.row p k.new.pass of k.ensures.reads (pair_there b c.args.segment c.args.row p of c.requires.quiet.pass.lawful c.requires.pair) in
+    let pair = pair_held b c.args.segment c.args.row p k.new.pass of k.ensures.reads c.requires.pair in
     subst IsSome (sym (k.ensures.key pair.key pair.value pair.is_key pair.is_value pair.holds)) refl
 
 pub returns-clause-stored : goal.returns-clause-stored
@@ -37,11 +36,6 @@ returns-clause-stored c = let b = c.args.board.now in let k = c.key_of_row in le
       key = of.key;
       own = still_own b s r c.args.pass.now q of k.ensures.reads;
       linked = linked;
-      home = is_home b.shape (trace q) s r c.bucket_of.result of.key low
-          (if_named b.shape (trace q) s r (c.bucket_of.result ≡ bucket_of b.shape of.key)
-          (λ one. home_is (key_is (pair_alone b.shape (trace q) s r of.key lawful one linked)))
-          (λ k n at. home_is (key_is (pair_named b.shape (trace q) k n s r of.key lawful at linked))));
-      tag = if_named b.shape (trace q) s r (c.tag_of.result ≡ tag_of of.key)
-          (λ one. tag_is (key_is (pair_alone b.shape (trace q) s r of.key lawful one linked)))
-          (λ k n at. tag_is (key_is (pair_named b.shape (trace q) k n s r of.key lawful at linked)));
+      home = (low, λ k n at. home_is (key_is (pair_named b.shape (trace q) k n s r of.key lawful at linked)));
+      tag = λ k n at. tag_is (key_is (pair_named b.shape (trace q) k n s r of.key lawful at linked));
     }

@@ -1,12 +1,8 @@
 use Rattle.std.proofs.Common.{◌≡◌, ℕ, ◌<◌, Option, None, Some, sym, ap, ◌∙◌, arith}
 use Rattle.std.specs.Option.{unwrap_or}
-use Rattle.std.proofs.lemmas.Bool.{eq-eqb}
-use Rattle.segword.specs.Words.{most_span}
-use Rattle.segbase.specs.Words.{trace}
 use Rattle.segstore.specs.Words.{TakesAtMost}
 use Rattle.segevict.proofs.EvictedItems.{looking_first, looking_next}
 use Rattle.segevict.proofs.Evictions.{looks_for_none, unnamed_few}
-use Rattle.segevict.proofs.Items.{each_first}
 use Rattle.segevict.proofs.Naming.{quiet_still}
 use Rattle.segevict.proofs.spans.first_from.Goals as goal
 
@@ -14,16 +10,6 @@ use Rattle.segevict.proofs.spans.first_from.Goals as goal
 known : (o : Option ℕ) (from used : ℕ) → used ≡ unwrap_or o 0 → from < used → o ≡ Some used
 known None from used is lt = absurd (omega (arith, is, lt))
 known (Some n) from used is lt = ap Some (sym is)
-
--- where each item takes one row
-pub returns-then-this-eq-MOST_SPAN-clause-looks : goal.returns-then-this-eq-MOST_SPAN-clause-looks
-returns-then-this-eq-MOST_SPAN-clause-looks c = looks_for_none c.args.board.now c.args.from c.args.pass.now c.requires.quiet.pass
-
-pub returns-then-this-eq-MOST_SPAN-clause-within : goal.returns-then-this-eq-MOST_SPAN-clause-within
-returns-then-this-eq-MOST_SPAN-clause-within c used is = unnamed_few c.args.board.now.shape c.args.segment c.args.from used c.args.pass.now c.requires.unnamed is
-
-pub returns-then-this-eq-MOST_SPAN-clause-first : goal.returns-then-this-eq-MOST_SPAN-clause-first
-returns-then-this-eq-MOST_SPAN-clause-first c used = (c.args.from, each_first (trace c.args.pass.now) c.args.segment c.args.from (eq-eqb most_span 1 c.if-this-eq-MOST_SPAN.true))
 
 -- behind the rows that are used
 pub returns-then-used-from-clause-looks : goal.returns-then-used-from-clause-looks

@@ -8,10 +8,9 @@ use Rattle.segbase.specs.Words.{trace}
 use Rattle.segstore.proofs.Held.{IsPairOf}
 use Rattle.segstore.proofs.Keeping.{same_used}
 use Rattle.segwrite.proofs.Places.{idles_then}
-use Rattle.segevict.proofs.IfNamed.{if_named, is_home}
 use Rattle.segevict.proofs.Items.{item_named}
 use Rattle.segevict.proofs.Naming.{quiet_still, used_still}
-use Rattle.segevict.proofs.StoredRows.{of_row, still_linked, still_own, pair_alone, pair_named}
+use Rattle.segevict.proofs.StoredRows.{of_row, still_linked, still_own, pair_named}
 use Rattle.segevict.proofs.spans.item_at.Goals as goal
 
 -- an item that a word names has so many rows that are used
@@ -66,11 +65,6 @@ returns-clause-stored c = let b = c.args.board.now in let p = c.args.pass.now in
       key = of.key;
       own = still_own b s r f q of k.ensures.reads;
       linked = linked;
-      home = is_home b.shape (trace q) s r c.bucket_of.result of.key low
-          (if_named b.shape (trace q) s r (c.bucket_of.result ≡ bucket_of b.shape of.key)
-          (λ one. home_is (key_is (pair_alone b.shape (trace q) s r of.key lawful one linked)))
-          (λ k n at. home_is (key_is (pair_named b.shape (trace q) k n s r of.key lawful at linked))));
-      tag = if_named b.shape (trace q) s r (c.tag_of.result ≡ tag_of of.key)
-          (λ one. tag_is (key_is (pair_alone b.shape (trace q) s r of.key lawful one linked)))
-          (λ k n at. tag_is (key_is (pair_named b.shape (trace q) k n s r of.key lawful at linked)));
+      home = (low, λ k n at. home_is (key_is (pair_named b.shape (trace q) k n s r of.key lawful at linked)));
+      tag = λ k n at. tag_is (key_is (pair_named b.shape (trace q) k n s r of.key lawful at linked));
     }

@@ -1,17 +1,11 @@
--- Where each item takes one row, as many rows as an item takes are one; and whether so many are left.
-use Rattle.std.proofs.Common.{◌≡◌, ℕ, ◌+◌, ◌<◌, ◌≤◌, Bool, true, false, eqb, List, Some, ap, ◌∙◌}
+-- Whether so many rows of a segment are left.
+use Rattle.std.proofs.Common.{◌≡◌, ℕ, ◌+◌, ◌<◌, ◌≤◌, Bool, true, false, eqb, Some, ap, ◌∙◌}
 use Rattle.std.specs.Prelude.{MatchBool, if◌then◌else◌}
 use Rattle.std.proofs.lemmas.Bool.{le-leb, lt-ltb}
-use Rattle.segword.specs.Words.{most_span, Shape}
-use Rattle.segword.specs.RowLayout.{key_length, value_length}
-use Rattle.segcore.specs.Words.{Event, row_after, span_in}
-use Rattle.segcore.proofs.Spans.{span_one}
+use Rattle.segword.specs.Words.{Shape}
 use Rattle.segbase.specs.Words.{Board, Pass}
 use Rattle.segstore.specs.Words.{are_left, is_below}
 use Rattle.segevict.specs.Target.{AreNextIn, has_rows_in}
-
-pub span_single : (h : List Event) (s r : ℕ) → eqb most_span 1 ≡ true → span_in h s r ≡ 1
-span_single h s r one = let header = (row_after h s r).words 0 in span_one (key_length header) (value_length header) one
 
 -- a segment whose next rows are known has as many left
 below_or_left : (one : Bool) (z : Shape) (row rows : ℕ) → MatchBool one (row < z.rows) (row + rows ≤ z.rows)
