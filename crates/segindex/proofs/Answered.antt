@@ -102,20 +102,20 @@ effect b command draw told p q is = absurd is
 abbrev Adds : Shape → Command → ℕ → Pass → Pass → Type 0
 Adds shape command count p q = (more : List Entry) × (length more ≡ count) × AllByRecursion (IsOfCommand shape command p q) more × (mine q ≡ more ++ mine p)
 
-module _ (shape : Shape) where
-  none : (command : Command) (p q : Pass) → mine q ≡ mine p → Adds shape command 0 p q
+module _ (b : Board) where
+  none : (command : Command) (p q : Pass) → mine q ≡ mine p → Adds b.shape command 0 p q
   none command p q same = ([], refl, tt, same)
 
-  one : (command : Command) (entry : Entry) (p q : Pass) → IsOfCommand shape command p q entry → AddsEntry entry p q → Adds shape command 1 p q
+  one : (command : Command) (entry : Entry) (p q : Pass) → IsOfCommand b.shape command p q entry → AddsEntry entry p q → Adds b.shape command 1 p q
   one command entry p q is adds = (entry ∷ [], refl, (is, tt), adds)
 
-  idle : (command : Command) (count : ℕ) (p q : Pass) → count ≡ 0 → q ≡ p → Adds shape command count p q
-  idle command count p q zero same = subst (λ n. Adds shape command n p q) (sym zero) (none command p q (ap mine same))
+  idle : (command : Command) (count : ℕ) (p q : Pass) → count ≡ 0 → q ≡ p → Adds b.shape command count p q
+  idle command count p q zero same = subst (λ n. Adds b.shape command n p q) (sym zero) (none command p q (ap mine same))
 
-  wrote : (asked : Request) (said : Reply) (segment : Option ℕ) (p q : Pass) → AddsEntry (Wrote (number p) asked said segment) p q → Adds shape (command.Write asked) 1 p q
+  wrote : (asked : Request) (said : Reply) (segment : Option ℕ) (p q : Pass) → AddsEntry (Wrote (number p) asked said segment) p q → Adds b.shape (command.Write asked) 1 p q
   wrote asked said segment p q adds = one (command.Write asked) (Wrote (number p) asked said segment) p q (said, segment, refl) adds
 
-  write_adds : (asked : Request) (told : WriteAnswer) (p q : Pass) → IsWriteAnswer shape asked told p q → Adds shape (command.Write asked) (entries_told (answer.Write told)) p q
+  write_adds : (asked : Request) (told : WriteAnswer) (p q : Pass) → IsWriteAnswer b.shape asked told p q → Adds b.shape (command.Write asked) (entries_told (answer.Write told)) p q
   write_adds asked write.Stored p q is = wrote asked reply.Stored (Some is.0) p q is.1
   write_adds asked write.NotStored p q is = wrote asked reply.NotStored None p q is.0
   write_adds asked write.Exists p q is = wrote asked reply.Exists None p q is.0
@@ -124,23 +124,23 @@ module _ (shape : Shape) where
   write_adds asked write.BucketFull p q is = none (command.Write asked) p q is.0.entries
   write_adds asked write.Busy p q is = none (command.Write asked) p q is.0.entries
 
-  delete_adds : (key : List ℕ) (now : ℕ) (told : DeleteAnswer) (p q : Pass) → IsDeleteAnswer shape key now told p q
-      → Adds shape (command.Write (request.Delete key now)) (entries_told (answer.Delete told)) p q
+  delete_adds : (key : List ℕ) (now : ℕ) (told : DeleteAnswer) (p q : Pass) → IsDeleteAnswer b.shape key now told p q
+      → Adds b.shape (command.Write (request.Delete key now)) (entries_told (answer.Delete told)) p q
   delete_adds key now delete.Deleted p q is = wrote (request.Delete key now) reply.Deleted None p q is.0
   delete_adds key now delete.NotFound p q is = wrote (request.Delete key now) reply.NotFound None p q is.0
   delete_adds key now delete.Busy p q is = none (command.Write (request.Delete key now)) p q is.0.entries
 
-  are_moves : (segment into cutoff : ℕ) (p q : Pass) (more : List Entry) → AreMoves (number p) segment into (WasOften shape segment cutoff p q) more
-      → AllByRecursion (IsOfCommand shape (command.Keep segment cutoff) p q) more
+  are_moves : (segment into cutoff : ℕ) (p q : Pass) (more : List Entry) → AreMoves (number p) segment into (WasOften b.shape segment cutoff p q) more
+      → AllByRecursion (IsOfCommand b.shape (command.Keep segment cutoff) p q) more
   are_moves segment into cutoff p q [] all = tt
   are_moves segment into cutoff p q (entry ∷ more) all = ((all.0.0, into, all.0.1, all.0.2), are_moves segment into cutoff p q more all.1)
 
-  moves_add : (segment cutoff count : ℕ) (p q : Pass) → MovesAway shape segment cutoff count p q → Adds shape (command.Keep segment cutoff) count p q
+  moves_add : (segment cutoff count : ℕ) (p q : Pass) → MovesAway b segment cutoff count p q → Adds b.shape (command.Keep segment cutoff) count p q
   moves_add segment cutoff count p q away =
       let moves = away.1.2 in
       (moves.moves, moves.counted, are_moves segment away.1.0 cutoff p q moves.moves moves.all, moves.entries)
 
-  keep_adds : (segment cutoff : ℕ) (told : KeepAnswer) (p q : Pass) → IsKeepAnswer shape segment cutoff told p q → Adds shape (command.Keep segment cutoff) (entries_told (answer.Keep told)) p q
+  keep_adds : (segment cutoff : ℕ) (told : KeepAnswer) (p q : Pass) → IsKeepAnswer b segment cutoff told p q → Adds b.shape (command.Keep segment cutoff) (entries_told (answer.Keep told)) p q
   keep_adds segment cutoff (keep.Kept count) p q is = elim is [
     | inl moves ↦ moves_add segment cutoff count p q moves.0
     | inr still ↦ idle (command.Keep segment cutoff) count p q still.1 still.2
@@ -152,14 +152,14 @@ module _ (shape : Shape) where
   ]
   keep_adds segment cutoff (keep.Busy count) p q is = moves_add segment cutoff count p q is.0
 
-  are_evicted : (segment : ℕ) (p q : Pass) (more : List Entry) → AreEvictions (number p) segment more → AllByRecursion (IsOfCommand shape (command.Evict segment) p q) more
+  are_evicted : (segment : ℕ) (p q : Pass) (more : List Entry) → AreEvictions (number p) segment more → AllByRecursion (IsOfCommand b.shape (command.Evict segment) p q) more
   are_evicted segment p q [] all = tt
   are_evicted segment p q (entry ∷ more) all = (all.0, are_evicted segment p q more all.1)
 
-  takes_add : (segment count : ℕ) (p q : Pass) → TakesOut segment count p q → Adds shape (command.Evict segment) count p q
+  takes_add : (segment count : ℕ) (p q : Pass) → TakesOut segment count p q → Adds b.shape (command.Evict segment) count p q
   takes_add segment count p q out = (out.evictions, out.counted, are_evicted segment p q out.evictions out.all, out.entries)
 
-  evict_adds : (segment : ℕ) (told : EvictAnswer) (p q : Pass) → IsEvictAnswer shape segment told p q → Adds shape (command.Evict segment) (entries_told (answer.Evict told)) p q
+  evict_adds : (segment : ℕ) (told : EvictAnswer) (p q : Pass) → IsEvictAnswer b.shape segment told p q → Adds b.shape (command.Evict segment) (entries_told (answer.Evict told)) p q
   evict_adds segment (evict.Evicted count) p q is = elim is [
     | inl out ↦ takes_add segment count p q out.1
     | inr still ↦ idle (command.Evict segment) count p q still.1 still.2
@@ -168,7 +168,7 @@ module _ (shape : Shape) where
   evict_adds segment (evict.Busy count) p q is = takes_add segment count p q is.1
 
   refill_adds : (segment deadline : ℕ) (told : RefillAnswer) (p q : Pass) → IsRefillAnswer segment deadline told p q
-      → Adds shape (command.Refill segment deadline) (entries_told (answer.Refill told)) p q
+      → Adds b.shape (command.Refill segment deadline) (entries_told (answer.Refill told)) p q
   refill_adds segment deadline refill.Refilled p q is = one (command.Refill segment deadline) (Refilled (number p) segment deadline) p q refl is.entry
   refill_adds segment deadline refill.NotYours p q is = none (command.Refill segment deadline) p q (ap mine is)
   refill_adds segment deadline refill.NotEvicted p q is = none (command.Refill segment deadline) p q (ap mine is)
@@ -176,13 +176,13 @@ module _ (shape : Shape) where
 
 pub entries : CommandAddsEntries
 entries = of_calls (λ b command told p q. Adds b.shape command (entries_told told) p q) (record {
-  writes = λ b asked told p q is. write_adds b.shape asked told p q is.answer;
-  deletes = λ b key now told p q is. delete_adds b.shape key now told p q is.answer;
-  gets_value = λ b key draw now told p q is. none b.shape (command.Get key now) p q is.keeps.entries;
-  gets_version = λ b key draw now told p q is. none b.shape (command.Gets key now) p q is.keeps.entries;
-  keeps = λ b segment cutoff told p q is. keep_adds b.shape segment cutoff told p q is.answer;
-  evicts = λ b segment told p q is. evict_adds b.shape segment told p q is.answer;
-  refills = λ b segment deadline told p q is. refill_adds b.shape segment deadline told p q is.answer;
+  writes = λ b asked told p q is. write_adds b asked told p q is.answer;
+  deletes = λ b key now told p q is. delete_adds b key now told p q is.answer;
+  gets_value = λ b key draw now told p q is. none b (command.Get key now) p q is.keeps.entries;
+  gets_version = λ b key draw now told p q is. none b (command.Gets key now) p q is.keeps.entries;
+  keeps = λ b segment cutoff told p q is. keep_adds b segment cutoff told p q is.answer;
+  evicts = λ b segment told p q is. evict_adds b segment told p q is.answer;
+  refills = λ b segment deadline told p q is. refill_adds b segment deadline told p q is.answer;
 })
 
 -- ---- segments
@@ -238,7 +238,7 @@ leaves = of_calls (λ b command told p q. LeavesSegment b.shape command told p q
 
 -- ---- refusals
 
-write_reason : (b : Board) (asked : Request) (told : WriteAnswer) (p q : Pass) → Writes b asked told p q → IsReason b.shape (command.Write asked) (answer.Write told) p q
+write_reason : (b : Board) (asked : Request) (told : WriteAnswer) (p q : Pass) → Writes b asked told p q → IsReason b (command.Write asked) (answer.Write told) p q
 write_reason b asked write.Stored p q is = tt
 write_reason b asked write.NotStored p q is = tt
 write_reason b asked write.Exists p q is = tt
@@ -248,22 +248,22 @@ write_reason b asked write.BucketFull p q is = is.answer.2
 write_reason b asked write.Busy p q is = is.answer.1
 
 delete_reason : (b : Board) (key : List ℕ) (now : ℕ) (told : DeleteAnswer) (p q : Pass) → Deletes b key now told p q
-    → IsReason b.shape (command.Write (request.Delete key now)) (answer.Delete told) p q
+    → IsReason b (command.Write (request.Delete key now)) (answer.Delete told) p q
 delete_reason b key now delete.Deleted p q is = tt
 delete_reason b key now delete.NotFound p q is = tt
 delete_reason b key now delete.Busy p q is = is.answer.1
 
-get_reason : (b : Board) (key : List ℕ) (draw now : ℕ) (told : GetAnswer) (p q : Pass) → ReadsKey b key draw now told p q → IsReason b.shape (command.Get key now) (answer.Get told) p q
+get_reason : (b : Board) (key : List ℕ) (draw now : ℕ) (told : GetAnswer) (p q : Pass) → ReadsKey b key draw now told p q → IsReason b (command.Get key now) (answer.Get told) p q
 get_reason b key draw now (get.Found value) p q is = tt
 get_reason b key draw now get.Miss p q is = tt
 get_reason b key draw now get.Busy p q is = is.answer
 
-gets_reason : (b : Board) (key : List ℕ) (draw now : ℕ) (told : GetsAnswer) (p q : Pass) → ReadsVersion b key draw now told p q → IsReason b.shape (command.Gets key now) (answer.Gets told) p q
+gets_reason : (b : Board) (key : List ℕ) (draw now : ℕ) (told : GetsAnswer) (p q : Pass) → ReadsVersion b key draw now told p q → IsReason b (command.Gets key now) (answer.Gets told) p q
 gets_reason b key draw now (gets.Found value version) p q is = tt
 gets_reason b key draw now gets.Miss p q is = tt
 gets_reason b key draw now gets.Busy p q is = is.answer
 
-keep_reason : (b : Board) (segment cutoff : ℕ) (told : KeepAnswer) (p q : Pass) → KeepsItems b segment cutoff told p q → IsReason b.shape (command.Keep segment cutoff) (answer.Keep told) p q
+keep_reason : (b : Board) (segment cutoff : ℕ) (told : KeepAnswer) (p q : Pass) → KeepsItems b segment cutoff told p q → IsReason b (command.Keep segment cutoff) (answer.Keep told) p q
 keep_reason b segment cutoff (keep.Kept count) p q is = tt
 keep_reason b segment cutoff keep.NotYours p q is = is.not_yours.0 refl
 keep_reason b segment cutoff (keep.NoRoom count) p q is = elim is.answer [
@@ -272,20 +272,20 @@ keep_reason b segment cutoff (keep.NoRoom count) p q is = elim is.answer [
 ]
 keep_reason b segment cutoff (keep.Busy count) p q is = is.answer.2
 
-evict_reason : (b : Board) (segment : ℕ) (told : EvictAnswer) (p q : Pass) → EvictsSegment b segment told p q → IsReason b.shape (command.Evict segment) (answer.Evict told) p q
+evict_reason : (b : Board) (segment : ℕ) (told : EvictAnswer) (p q : Pass) → EvictsSegment b segment told p q → IsReason b (command.Evict segment) (answer.Evict told) p q
 evict_reason b segment (evict.Evicted count) p q is = tt
 evict_reason b segment evict.NotYours p q is = is.not_yours.0 refl
 evict_reason b segment (evict.Busy count) p q is = is.answer.3
 
 refill_reason : (b : Board) (segment deadline : ℕ) (told : RefillAnswer) (p q : Pass) → RefillsSegment b segment deadline told p q
-    → IsReason b.shape (command.Refill segment deadline) (answer.Refill told) p q
+    → IsReason b (command.Refill segment deadline) (answer.Refill told) p q
 refill_reason b segment deadline refill.Refilled p q is = tt
 refill_reason b segment deadline refill.NotYours p q is = is.not_yours.0 refl
 refill_reason b segment deadline refill.NotEvicted p q is = is.in_use.0 refl
 refill_reason b segment deadline refill.Held p q is = is.answer.1
 
 pub refused : CommandIsRefused
-refused = of_calls (λ b command told p q. IsReason b.shape command told p q) (record {
+refused = of_calls (λ b command told p q. IsReason b command told p q) (record {
   writes = write_reason;
   deletes = delete_reason;
   gets_value = get_reason;

@@ -1,9 +1,9 @@
 -- What the words of a chain at rest say: the pair that a word names, the bucket that the last one leads on to, and where the chain ends.
-use Rattle.std.proofs.Common.{◌≡◌, ℕ, ◌+◌, ◌-◌, ◌*◌, ◌%◌, ◌^◌, ◌<◌, ◌≤◌, ◌==◌, Bool, true, false, cond, ltb, nat_lt, List, length, Some, sym, refl, ap, ◌∙◌, subst, inl, inr, ⊎_elim, arith}
-use Rattle.std.proofs.lemmas.Bool.{cases_Bool, cases_lt, eqb-true, lt-ltb, le-ltb, ltb-false, ltb-true}
+use Rattle.std.proofs.Common.{◌≡◌, ℕ, ◌+◌, ◌-◌, ◌*◌, ◌%◌, ◌^◌, ◌<◌, ◌≤◌, Bool, true, false, cond, ltb, nat_lt, List, length, Some, sym, refl, ap, ◌∙◌, subst, inl, inr, ⊎_elim, arith}
+use Rattle.std.proofs.lemmas.Bool.{cases_lt, lt-ltb, le-ltb, ltb-false, ltb-true}
 use Rattle.std.specs.Prelude.{Option, option_map}
 use Rattle.segword.specs.Words.{chain_word, IsChainWord, IsKey, IsValid, IsValue, Item, item_width, item_word as word_of_item}
-use Rattle.segword.specs.Words.{most_span, place_behind, row_behind, row_of, row_width, Shape, span_of_header}
+use Rattle.segword.specs.Words.{place_behind, row_behind, row_of, row_width, Shape, span_of_header}
 use Rattle.segmodel.specs.Words.{Cached}
 use Rattle.segcore.specs.declared.cell.Cell.TheVariants.{OfRow}
 use Rattle.segcore.specs.Words.{bucket_after, Cell, Event, Holds, home as home_at, home_of, IsItemAt}
@@ -19,14 +19,14 @@ use Rattle.segbase.specs.Words.{word_of_cell}
 use Rattle.segbase.specs.Closing.{HasWordsOf, rows_there, word_on}
 use Rattle.segbase.proofs.Placed.{item_home}
 use Rattle.segstore.specs.Words.{IsChained, row_part, segment_part, WasLinked}
-use Rattle.segstore.proofs.ItemRows.{item_is_pair, item_word, one_width, outside, past_item, place_fits}
+use Rattle.segstore.proofs.ItemRows.{item_is_pair, item_word, outside, past_item, place_fits}
 use Rattle.segstore.proofs.Words.{at_place, stood_item, segment_of_packed, row_of_packed}
 use Rattle.segread.specs.Words.{place_of}
 use Rattle.segindex.specs.Closing.{IsWordIn, IsBucketIn, IsPairAt}
 
 -- ---- a row
 
--- a word of the item that begins in a row, or of that row alone, is what the events made it
+-- a word of the item that begins in a row is what the events made it
 module _ (words : Words) (trace : List Event) (segment row place : ℕ) (rest : IsAtRest words trace) (in_table : IsSegment (shape_of words) segment)
     (own : row < (shape_of words).rows) (inside : place < item_width) where
   abbrev rows_all : ℕ
@@ -45,34 +45,26 @@ module _ (words : Words) (trace : List Event) (segment row place : ℕ) (rest : 
   past_rows : rows_all ≤ row_behind row place → (row_after trace segment row).words place ≡ 0
   past_rows past = ⊎_elim
       (λ on. item_word trace segment row place on ∙ ap (λ (u : Row). u.words (place_behind place)) (outside (shape_of words) trace segment (row_behind row place) rest.lawful past))
-      (λ behind. ⊎_elim
-      (λ one. let single = eqb-true most_span 1 one in absurd (omega (arith, past, own, single, inside)))
-      (λ several. past_item trace segment row place several behind)
-      (cases_Bool (most_span == 1)))
+      (λ behind. past_item trace segment row place behind)
       (cases_lt place (row_width * span_in trace segment row))
 
   item_at_rest : word_on words segment row place ≡ (row_after trace segment row).words place
-  item_at_rest = by (most_span == 1) refl
+  item_at_rest = of (nat_lt place (row_width * there)) refl
     where
       header : span_of_header (word_of_cell words (OfRow segment row 0)) ≡ span_in trace segment row
       header = ap span_of_header (at_rest row 0 own (omega arith))
 
-      of : (most_span == 1) ≡ false → (here : Bool) → nat_lt place (row_width * there) ≡ here → cond here row_word 0 ≡ (row_after trace segment row).words place
-      of several true is =
+      of : (here : Bool) → nat_lt place (row_width * there) ≡ here → cond here row_word 0 ≡ (row_after trace segment row).words place
+      of true is =
           let low = ltb-true place (row_width * there) is in let within = place_fits place inside in
           let on : place < row_width * span_in trace segment row = omega (arith, low, header) in
           at_rest (row_behind row place) (place_behind place) (omega (arith, low, own)) within
           ∙ (first_words trace segment (row_behind row place) (place_behind place) within ∙ sym (item_word trace segment row place on))
-      of several false is =
+      of false is =
           let high = ltb-false place (row_width * there) is in ⊎_elim
-          (λ before. sym (past_item trace segment row place several (omega (arith, high, before, header))))
+          (λ before. sym (past_item trace segment row place (omega (arith, high, before, header))))
           (λ past. sym (past_rows past))
           (cases_lt (row_behind row place) rows_all)
-
-      by : (one : Bool) → (most_span == 1) ≡ one
-          → cond one (word_of_cell words (OfRow segment row place)) (cond (nat_lt place (row_width * there)) row_word 0) ≡ (row_after trace segment row).words place
-      by true is = at_rest row place own (let width = one_width is in omega (arith, width, inside))
-      by false is = of is (nat_lt place (row_width * there)) refl
 
 -- ---- a word
 

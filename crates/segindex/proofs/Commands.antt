@@ -1,6 +1,6 @@
 -- What commands leave: a pass has in mind what it had before, and a segment has nothing after a keep of everything.
-use Rattle.std.proofs.Common.{◌≡◌, ℕ, ◌≤◌, ◌==◌, Bool, true, false, MatchBool, List, Option, Some, None, inl, inr, refl, sym, ap, subst, ◌∙◌, arith}
-use Rattle.segword.specs.Words.{most_span, Shape}
+use Rattle.std.proofs.Common.{◌≡◌, ℕ, List, Option, Some, None, inl, inr, refl, sym, ap, subst, ◌∙◌, arith}
+use Rattle.segword.specs.Words.{Shape}
 use Rattle.segmodel.specs.Words.{after, Answer, DeleteAnswer, EvictAnswer, KeepAnswer, NoneStandsIn, RefillAnswer, Request}
 use Rattle.segmodel.specs.Words.{SegState, WriteAnswer}
 use Rattle.segmodel.specs.declared.answer.Answer.TheVariants as answer
@@ -15,8 +15,7 @@ use Rattle.segmodel.specs.declared.request.Request.TheVariants as request
 use Rattle.segbase.specs.Words.{Board, holding, Memo, Pass, seen, state_of}
 use Rattle.segstore.specs.Words.{IsQuiet, memo}
 use Rattle.segwrite.specs.Words.{IsDeleteAnswer, IsWriteAnswer}
-use Rattle.segevict.specs.Keeping.{UsesSome}
-use Rattle.segevict.specs.Words.{IsEvictAnswer, IsKeepAnswer, KeepsItems, UsesRows}
+use Rattle.segevict.specs.Words.{IsEvictAnswer, IsKeepAnswer, KeepsItems}
 use Rattle.segindex.specs.Commands.{AnswersCommand}
 use Rattle.segindex.specs.Refilling.{IsRefillAnswer}
 
@@ -36,26 +35,17 @@ delete_memo shape key now delete.Deleted p q is = is.2
 delete_memo shape key now delete.NotFound p q is = is.2
 delete_memo shape key now delete.Busy p q is = is.0.memo
 
-by_case : (b : Bool) {A B C : Type 0} → (A → C) → (B → C) → MatchBool b A B → C
-by_case true f g is = f is
-by_case false f g is = g is
-
--- as many rows as items are used, or where an item takes several, as many or more
-moves_memo : (into count : ℕ) (p q : Pass) → UsesSome into count p q → memo q ≡ memo p
-moves_memo into count p q uses = by_case (most_span == 1) {A = UsesRows into count p q} {B = (rows : ℕ) × (count ≤ rows) × UsesRows into rows p q}
-    (λ same. same.memo) (λ more. more.2.memo) uses
-
-keep_memo : (shape : Shape) (segment cutoff : ℕ) (told : KeepAnswer) (p q : Pass) → IsKeepAnswer shape segment cutoff told p q → memo q ≡ memo p
-keep_memo shape segment cutoff (keep.Kept count) p q is = elim is [
-  | inl moves ↦ moves_memo moves.0.1.0 count p q moves.0.1.2.uses
+keep_memo : (b : Board) (segment cutoff : ℕ) (told : KeepAnswer) (p q : Pass) → IsKeepAnswer b segment cutoff told p q → memo q ≡ memo p
+keep_memo b segment cutoff (keep.Kept count) p q is = elim is [
+  | inl moves ↦ moves.0.1.2.uses.3.memo
   | inr idle ↦ ap memo idle.2
 ]
-keep_memo shape segment cutoff keep.NotYours p q is = ap memo is
-keep_memo shape segment cutoff (keep.NoRoom count) p q is = elim is [
+keep_memo b segment cutoff keep.NotYours p q is = ap memo is
+keep_memo b segment cutoff (keep.NoRoom count) p q is = elim is [
   | inl idle ↦ ap memo idle.3
-  | inr moves ↦ moves_memo moves.0.1.0 count p q moves.0.1.2.uses
+  | inr moves ↦ moves.0.1.2.uses.3.memo
 ]
-keep_memo shape segment cutoff (keep.Busy count) p q is = moves_memo is.0.1.0 count p q is.0.1.2.uses
+keep_memo b segment cutoff (keep.Busy count) p q is = is.0.1.2.uses.3.memo
 
 evict_memo : (shape : Shape) (segment : ℕ) (told : EvictAnswer) (p q : Pass) → IsEvictAnswer shape segment told p q → memo q ≡ memo p
 evict_memo shape segment (evict.Evicted count) p q is = elim is [
@@ -79,7 +69,7 @@ command_memo b p q (command.Write (request.Cas key value version now)) draw (ans
 command_memo b p q (command.Write (request.Delete key now)) draw (answer.Delete told) is = delete_memo b.shape key now told p q is.answer
 command_memo b p q (command.Get key now) draw (answer.Get told) is = is.keeps.memo
 command_memo b p q (command.Gets key now) draw (answer.Gets told) is = is.keeps.memo
-command_memo b p q (command.Keep segment cutoff) draw (answer.Keep told) is = keep_memo b.shape segment cutoff told p q is.answer
+command_memo b p q (command.Keep segment cutoff) draw (answer.Keep told) is = keep_memo b segment cutoff told p q is.answer
 command_memo b p q (command.Evict segment) draw (answer.Evict told) is = evict_memo b.shape segment told p q is.answer
 command_memo b p q (command.Refill segment deadline) draw (answer.Refill told) is = refill_memo segment deadline told p q is.answer
 command_memo b p q command draw told is = absurd is
@@ -93,7 +83,7 @@ command_holds b p q command draw told is = ap (λ (m : Memo). m.holding) (comman
 pub none_kept : (b : Board) (segment count : ℕ) (p q : Pass) → IsQuiet b p → KeepsItems b segment 0 (keep.Kept count) p q → NoneStandsIn (after b.shape (seen q)) segment
 none_kept b segment count p q quiet is = by (state_of p segment) refl is.answer
   where
-    by : (state : Option SegState) → state_of p segment ≡ state → IsKeepAnswer b.shape segment 0 (keep.Kept count) p q → NoneStandsIn (after b.shape (seen q)) segment
+    by : (state : Option SegState) → state_of p segment ≡ state → IsKeepAnswer b segment 0 (keep.Kept count) p q → NoneStandsIn (after b.shape (seen q)) segment
     by state at (inl kept) = λ key stands. let low = (kept.1 key stands).1.2.is in absurd (omega arith)
     by None at (inr none) = let no : keep.Kept count ≡ keep.NotYours = is.not_yours.1 at in cc
     by (Some state) at (inr none) = subst (λ r. NoneStandsIn (after b.shape (seen r)) segment) (sym none.2) (quiet.segments.unused segment state at (λ in_use. none.0 (at ∙ ap Some in_use)))

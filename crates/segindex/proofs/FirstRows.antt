@@ -1,13 +1,15 @@
 -- The rows that marks name are the first ones of the items that are linked in this filling, and the used rows are those of these items.
-use Rattle.std.proofs.Common.{◌≡◌, ◌≢◌, ℕ, ◌<◌, Bool, true, false, cond, eqb, ◌&&◌, is_some, List, [], ◌∷◌, Option, Some, None, refl, sym, ap, ◌∙◌, subst, ⊎_elim}
-use Rattle.std.proofs.lemmas.Bool.{and_from, and_parts, cases_Bool, cond-false, cond-true, eq-eqb, eqb-true, false≢true, ltb-true}
-use Rattle.segword.specs.Words.{covers, Shape}
+use Rattle.std.proofs.Common.{◌≡◌, ◌≢◌, ℕ, ◌<◌, ◌≤◌, nat_lt, Bool, true, false, cond, eqb, ◌&&◌, is_some, List, [], ◌∷◌, Option, Some, None, refl, sym, ap, ◌∙◌, subst, ⊎_elim, arith}
+use Rattle.std.proofs.lemmas.Bool.{and_from, and_parts, cases_Bool, cases_lt, cond-false, cond-true, eq-eqb, eqb-true, false_from_ne_true, false≢true, le-ltb, lt-ltb, ltb-true}
+use Rattle.std.specs.Prelude.{IsSome}
+use Rattle.segword.specs.Words.{covers, most_rows, Shape}
 use Rattle.segmodel.specs.Words.{key_of}
 use Rattle.segcore.specs.declared.event.Event.TheVariants.{Filled, Linked, Refilled, Relinked, Unlinked}
 use Rattle.segcore.specs.declared.event.Leaving.TheVariants.{Deletes, Evicts}
-use Rattle.segcore.specs.Words.{Event, IsLawful, linked_in, marked, Row, row_alone, writes_row}
+use Rattle.segcore.specs.Words.{Event, IsLawful, linked_in, marked, Row, row_after, row_alone, span_in, writes_row}
 use Rattle.segcore.proofs.Orderly.{unlinked_marked}
 use Rattle.segcore.proofs.Quiet.{at_unlinked, of_row}
+use Rattle.segcore.proofs.Spans.{header_some}
 use Rattle.segcore.proofs.Standing.{now_linked, now_moved, row_itself}
 use Rattle.segbase.specs.Words.{Board, Pass, trace, used_of}
 use Rattle.segstore.specs.Words.{IsQuiet}
@@ -111,3 +113,40 @@ module _ (b : Board) (p : Pass) (s used row : ℕ) (quiet : IsQuiet b p) (is : u
       let among : covers first (rows_at h s first) row ≡ true = subst (λ n. covers first n row ≡ true) (same_header h s first) it.2 in
       let linked = (x.1.all row (subst (λ i. covers i (rows_at h s i) row ≡ true) (sym same) among)).0 in
       ltb-true row used (sym (quiet.segments.rows s used row is within) ∙ ap is_some linked)
+
+-- ---- how many rows an item takes
+
+-- the item of a row that marks name takes no more than the limits allow
+pub items_within : (b : Board) (p : Pass) (s row : ℕ) → IsQuiet b p → IsSome (linked_in (marked (trace p)) s row) → span_in (trace p) s row ≤ most_rows b.limits
+items_within b p s row quiet some =
+    let h = trace p in
+    let begun = some_if (eqb (start_at h s row) row) (row_alone h s row).linked (sym (ap is_some (marks_first b.shape h s row quiet.pass.lawful)) ∙ some) in
+    let x = item_of b.shape h s row begun.1.0 quiet.pass.lawful begun.1.1 in
+    let same : x.0 ≡ row = sym x.1.starts ∙ eqb-true (start_at h s row) row begun.0 in
+    subst (λ n. n ≤ most_rows b.limits) (sym (same_header h s row)) (subst (λ r. rows_at h s r ≤ most_rows b.limits) same (x.1.few b.limits quiet.pass.within))
+
+-- where these allow only one, an item that begins in a row that is used has just that row
+module _ (b : Board) (p : Pass) (s used : ℕ) (quiet : IsQuiet b p) (one : most_rows b.limits ≡ 1) where
+  only_itself : (first row : ℕ) → IsSome (linked_in (marked (trace p)) s first) → covers first (span_in (trace p) s first) row ≡ true → first ≡ row
+  only_itself first row some among =
+      let few = items_within b p s first quiet some in let least = header_some ((row_after (trace p) s first).words 0) in
+      let single : span_in (trace p) s first ≡ 1 = omega (arith, few, least, one) in
+      eqb-true first row (subst (λ n. covers first n row ≡ true) single among)
+
+  -- so marks name each used row
+  pub each_linked : (row : ℕ) → used_of p s ≡ Some used → row < used → IsSome (linked_in (marked (trace p)) s row)
+  each_linked row is lt = let it = item_of_used b p s used row quiet is lt in
+      subst (λ r. IsSome (linked_in (marked (trace p)) s r)) (only_itself it.0 row it.1 it.2) it.1
+
+  pub only_row : (first row : ℕ) → used_of p s ≡ Some used → first < used → covers first (span_in (trace p) s first) row ≡ true → first ≡ row
+  only_row first row is lt among = only_itself first row (each_linked first is lt) among
+
+  -- and no other row of the segment
+  pub linked_if_used : (row : ℕ) → used_of p s ≡ Some used → row < b.shape.rows → is_some (linked_in (marked (trace p)) s row) ≡ nat_lt row used
+  linked_if_used row is within = ⊎_elim
+      (λ lt. each_linked row is lt ∙ sym (lt-ltb row used lt))
+      (λ le. false_from_ne_true (is_some (linked_in (marked (trace p)) s row)) (λ some.
+      let lt = used_if_in_item b p s used row quiet is within (row, some, subst (λ n. covers row n row ≡ true) (sym (same_header (trace p) s row)) (row_itself (trace p) s row)) in
+      absurd (omega (arith, lt, le)))
+      ∙ sym (le-ltb row used le))
+      (cases_lt row used)

@@ -1,40 +1,32 @@
 -- What is so of every quiet pass: what it has seen, and its own segments, rows and lock.
-use Rattle.std.proofs.Common.{◌≡◌, ℕ, ◌+◌, ◌*◌, ◌<◌, ◌≤◌, ◌==◌, eqb, [], ◌∷◌, ⊎_elim, arith, nat_lt, List, is_some, None, Some, ap, sym, ◌∙◌, subst}
+use Rattle.std.proofs.Common.{◌≡◌, ℕ, ◌+◌, ◌*◌, ◌<◌, ◌≤◌, eqb, [], ◌∷◌, ⊎_elim, arith, List, Some, ap, sym, ◌∙◌, subst}
 use Rattle.std.proofs.lemmas.Bool.{cases_Bool}
 use Rattle.std.specs.Prelude.{◌↔◌, IsSome}
-use Rattle.segword.specs.Words.{most_span, Shape}
+use Rattle.segword.specs.Words.{Shape}
 use Rattle.segmodel.specs.Words.{after, keys_in, owner}
 use Rattle.segmodel.specs.History as history
-use Rattle.segcore.specs.Words.{all_drawn, chained_to, drawn, drawn_for, Event, IsLawful, linked_in}
-use Rattle.segcore.specs.Words.{Mark, marked, row_after, seen}
+use Rattle.segcore.specs.Words.{all_drawn, chained_to, drawn, drawn_for, Event, IsLawful}
+use Rattle.segcore.specs.Words.{Mark, marked, seen}
 use Rattle.segcore.proofs.KeyCounts.{counted_few}
 use Rattle.segcore.proofs.Limits.{drawn_few}
 use Rattle.segcore.proofs.Marked.{chained_marked, drawn_marked}
 use Rattle.segcore.proofs.Moments.{seen_begins}
-use Rattle.segcore.proofs.Orderly.{all_drawn_marked, linked_marked}
+use Rattle.segcore.proofs.Orderly.{all_drawn_marked}
 use Rattle.segbase.specs.Words.{Board, Locked, locked, number, Pass, state_of, trace, used_of}
 use Rattle.segbase.specs.Passes as passes
 use Rattle.segbase.proofs.Owned.{owns_state, state_owned}
 use Rattle.segstore.specs.Words.{IsQuiet, NoneSince}
-use Rattle.segstore.proofs.ItemRows.{in_same}
 use Rattle.segstore.proofs.Meanwhile.{none_entries}
-use Rattle.segindex.specs.Laws.{IsOfLinkedItem, IsUsedIfLinked}
+use Rattle.segindex.specs.Laws.{IsOfLinkedItem}
 use Rattle.segindex.proofs.FirstRows.{item_of_used, used_if_in_item}
 
 -- a pass knows just the segments that it owns
 pub owned : (b : Board) (p : Pass) (s : ℕ) → IsQuiet b p → IsSome (state_of p s) ↔ (owner b.shape s ≡ number p)
 owned b p s quiet = (owns_state b p s quiet.pass, state_owned b p s quiet.pass)
 
--- where each item takes one row, the rows that marks name are the used ones; else those of the items whose first rows they name
-pub rows : (b : Board) (p : Pass) (s used row : ℕ) → IsQuiet b p → used_of p s ≡ Some used → row < b.shape.rows → IsUsedIfLinked p s used row
-rows b p s used row quiet is within =
-    let One = linked_in (passes.marked p) s row ≡ (row_after (trace p) s row).linked in
-    let Behind = (row_after (trace p) s row).linked ≡ None → linked_in (passes.marked p) s row ≡ None in
-    let Same = is_some (linked_in (passes.marked p) s row) ≡ nat_lt row used in let Among = (row < used) ↔ IsOfLinkedItem p s row in
-    in_same (most_span == 1) {A = One} {B = Behind} {C = Same} {D = Among}
-    (λ linked. ap is_some linked ∙ quiet.segments.rows s used row is within)
-    (λ unlinked. (item_of_used b p s used row quiet is, used_if_in_item b p s used row quiet is within))
-    (linked_marked (trace p) s row)
+-- the used rows are those of the items whose first rows marks name
+pub rows : (b : Board) (p : Pass) (s used row : ℕ) → IsQuiet b p → used_of p s ≡ Some used → row < b.shape.rows → (row < used) ↔ IsOfLinkedItem p s row
+rows b p s used row quiet is within = (item_of_used b p s used row quiet is, used_if_in_item b p s used row quiet is within)
 
 -- nothing came into the bucket since it was locked
 pub none_since : (b : Board) (p : Pass) (lock : Locked) → IsQuiet b p → locked p ≡ Some lock → NoneSince b.shape lock (passes.seen p)

@@ -1,19 +1,19 @@
 -- What a count of the table comes to: by one test of rows, at least so many are named, or at most.
-use Rattle.std.proofs.Common.{◌≡◌, ◌≤◌, ◌+◌, ℕ, zero, suc, Bool, true, false, if◌then◌else◌, List, [], ◌∷◌, ◌++◌, eqb, MatchBool, refl, ap, inl, inr, sym, arith, true≢false}
+use Rattle.std.proofs.Common.{◌≡◌, ◌≤◌, ℕ, zero, suc, Bool, true, false, if◌then◌else◌, List, [], ◌∷◌, ◌++◌, refl, ap, inl, inr, subst, arith}
 use Rattle.std.proofs.lemmas.Bool.{cases_Bool}
-use Rattle.segword.specs.Words.{covers, most_span, Shape}
+use Rattle.segword.specs.Words.{most_rows, Shape}
 use Rattle.segmodel.specs.Words.{Begins}
-use Rattle.segcore.specs.Words.{all_drawn, drawn, Mark, span_in}
+use Rattle.segcore.specs.Words.{all_drawn, drawn, Mark}
 use Rattle.segcore.specs.Mark as mark
 use Rattle.segcore.proofs.Moments.{begins_on, marked_begins}
 use Rattle.segbase.specs.Words.{Board, marked, Pass, trace}
+use Rattle.segstore.specs.Words.{IsQuiet}
 use Rattle.segbase.proofs.Starting.{start_grew}
 use Rattle.segevict.specs.Naming.{AreNamed, own_at, sum_below, SumsUp, Tallies, used_at, WasNamedIn, WasTaken}
-use Rattle.segevict.specs.Rows.{IsUsedRow}
 use Rattle.segevict.specs.Words.{IsNamed}
-use Rattle.segevict.proofs.IfNamed.{each_way}
 use Rattle.segindex.specs.declared.table_stats.IndexStats.{IndexStats}
 use Rattle.segindex.specs.Stats.{ReturnsStats}
+use Rattle.segindex.proofs.FirstRows.{only_row}
 use Rattle.segindex.specs.StatsLaws.{rows_passing, StatsCountDrawn, StatsCountNamed, StatsCountNoMore, StatsCountUsed, StatsOnlyLook}
 
 -- ---- overflow buckets
@@ -86,21 +86,13 @@ counts_named b told p q stats test named =
     (λ at count are. at_least _ _ (test (own_at b.shape p at)) (λ row none. not_passed (test (own_at b.shape p at) row) _ (named (own_at b.shape p at) row) none) (used_at b.shape p at) count are)
     b.shape.segments_each told.named_rows stats.rows.sums
 
-if_one : (one : Bool) (A B : Type 0) → one ≡ true → MatchBool one A B → A
-if_one true A B is so = so
-if_one false A B is so = absurd (true≢false (sym is))
-
--- the row is one of an item that was named
-abbrev IsOneOf : Shape → ℕ → ℕ → Pass → Pass → Type 0
-IsOneOf shape segment row p q =
-    (first : ℕ) × IsUsedRow segment first q × (covers first (span_in (trace q) segment first) row ≡ true) × WasNamedIn shape segment first p q
-
--- where each item takes one row, a row that was taken was named at a moment since the call
-taken_then : (b : Board) (segment row : ℕ) (p q : Pass) (So : Type 0) → eqb most_span 1 ≡ true
+-- where the limits allow an item only one row, a row that was taken was named at a moment since the call
+taken_then : (b : Board) (segment row : ℕ) (p q : Pass) (So : Type 0) → IsQuiet b q → most_rows b.limits ≡ 1
     → ((moment : List Mark) → Begins (marked p) moment → Begins moment (marked q) → IsNamed b.shape segment row moment → So)
     → WasTaken b.shape segment row p q → So
-taken_then b segment row p q So one so was =
-    let named = if_one (eqb most_span 1) (WasNamedIn b.shape segment row p q) (IsOneOf b.shape segment row p q) one was in
+taken_then b segment row p q So quiet one so was =
+    let itself : was.0 ≡ row = only_row b q segment was.1.0 quiet one was.0 row was.1.1 was.1.2 was.2 in
+    let named = subst (λ r. WasNamedIn b.shape segment r p q) itself was.3 in
     let start = named.0 in
     let first = marked_begins (trace p) start (start_grew p q start named.1) in
     so named.2.moment (begins_on (marked p) (mark.marked start) named.2.moment first named.2.from) named.2.to named.2.named
@@ -109,15 +101,14 @@ taken_then b segment row p q So one so was =
 abbrev AllPass : Board → (ℕ → ℕ → Bool) → Pass → Pass → Type 0
 AllPass b test p q = (segment row : ℕ) (moment : List Mark) → Begins (marked p) moment → Begins moment (marked q) → IsNamed b.shape segment row moment → test segment row ≡ true
 
-no_more : (b : Board) (told : IndexStats) (p q : Pass) → ReturnsStats b told p q → eqb most_span 1 ≡ true → (test : ℕ → ℕ → Bool) → AllPass b test p q
+no_more : (b : Board) (told : IndexStats) (p q : Pass) → ReturnsStats b told p q → most_rows b.limits ≡ 1 → (test : ℕ → ℕ → Bool) → AllPass b test p q
     → told.named_rows ≤ rows_passing b.shape test p
 no_more b told p q stats one test named =
     sums_most (λ at count. AreNamed b.shape (own_at b.shape p at) (used_at b.shape p at) count p q) (rows_at b.shape test p)
     (λ at count are. at_most _ _ (test (own_at b.shape p at))
-    (λ row was. taken_then b (own_at b.shape p at) row p q (test (own_at b.shape p at) row ≡ true) one (named (own_at b.shape p at) row) was)
+    (λ row was. taken_then b (own_at b.shape p at) row p q (test (own_at b.shape p at) row ≡ true) stats.only.on.quiet one (named (own_at b.shape p at) row) was)
     (used_at b.shape p at) count are)
     b.shape.segments_each told.named_rows stats.rows.sums
 
 pub counts_no_more : StatsCountNoMore
-counts_no_more b told p q stats =
-    (stats.rows.few, each_way (eqb most_span 1) ((test : ℕ → ℕ → Bool) → AllPass b test p q → told.named_rows ≤ rows_passing b.shape test p) (Unit {0}) (no_more b told p q stats) (λ several. tt))
+counts_no_more b told p q stats = (stats.rows.few, no_more b told p q stats)

@@ -129,36 +129,36 @@ CommandLeavesSegment = OfCommand (λ b command told p q. LeavesSegment b.shape c
 -- ---- refusals
 
 -- why the answer is a refusal, if it is one
-abbrev pub IsReason : Shape → Command → Answer → Pass → Pass → Type 0
-IsReason shape (Get key now) (answer.Get get.Busy) p q =
-    SinceFirst p q (λ start. 64 ≤ stirred shape key (event.seen start) (seen q))
-IsReason shape (Gets key now) (answer.Gets gets.Busy) p q =
-    SinceFirst p q (λ start. IsDisturbed shape key now (event.seen start) p q
-    ⊎ PresentLocked shape key now (event.seen start) p q)
-IsReason shape (Write request) (answer.Write write.NoRoom) p q =
-    has_room_for shape (rows_of request) p ≡ false
-IsReason shape (Write request) (answer.Write write.BucketFull) p q =
-    SinceFirst p q (λ start. WasFull shape (key_of request) (mark.marked start) (marked q))
-IsReason shape (Write request) (answer.Write write.Busy) p q =
-    IsBusy (bucket_of shape (key_of request)) p q
-IsReason shape (Write request) (answer.Delete delete.Busy) p q =
-    IsBusy (bucket_of shape (key_of request)) p q
-IsReason shape (Keep segment cutoff) (answer.Keep keep.NotYours) p q = state_of p segment ≡ None
-IsReason shape (Keep segment cutoff) (answer.Keep (keep.NoRoom count)) p q =
-    ((into : ℕ) → ¬ (IsKeepTarget segment into p)) ⊎ LacksRows shape segment p q
-IsReason shape (Keep segment cutoff) (answer.Keep (keep.Busy count)) p q =
-    IsInTheWay shape (WasOften shape segment cutoff p q) p q
-IsReason shape (Evict segment) (answer.Evict evict.NotYours) p q = state_of p segment ≡ None
-IsReason shape (Evict segment) (answer.Evict (evict.Busy count)) p q =
-    IsInTheWay shape (λ key. StoodIn shape segment key p q) p q
-IsReason shape (Refill segment deadline) (answer.Refill refill.NotYours) p q =
+abbrev pub IsReason : Board → Command → Answer → Pass → Pass → Type 0
+IsReason b (Get key now) (answer.Get get.Busy) p q =
+    SinceFirst p q (λ start. 64 ≤ stirred b.shape key (event.seen start) (seen q))
+IsReason b (Gets key now) (answer.Gets gets.Busy) p q =
+    SinceFirst p q (λ start. IsDisturbed b.shape key now (event.seen start) p q
+    ⊎ PresentLocked b.shape key now (event.seen start) p q)
+IsReason b (Write request) (answer.Write write.NoRoom) p q =
+    has_room_for b.shape (rows_of request) p ≡ false
+IsReason b (Write request) (answer.Write write.BucketFull) p q =
+    SinceFirst p q (λ start. WasFull b.shape (key_of request) (mark.marked start) (marked q))
+IsReason b (Write request) (answer.Write write.Busy) p q =
+    IsBusy (bucket_of b.shape (key_of request)) p q
+IsReason b (Write request) (answer.Delete delete.Busy) p q =
+    IsBusy (bucket_of b.shape (key_of request)) p q
+IsReason b (Keep segment cutoff) (answer.Keep keep.NotYours) p q = state_of p segment ≡ None
+IsReason b (Keep segment cutoff) (answer.Keep (keep.NoRoom count)) p q =
+    ((into : ℕ) → ¬ (IsKeepTarget segment into p)) ⊎ LacksRows b segment p q
+IsReason b (Keep segment cutoff) (answer.Keep (keep.Busy count)) p q =
+    IsInTheWay b.shape (WasOften b.shape segment cutoff p q) p q
+IsReason b (Evict segment) (answer.Evict evict.NotYours) p q = state_of p segment ≡ None
+IsReason b (Evict segment) (answer.Evict (evict.Busy count)) p q =
+    IsInTheWay b.shape (λ key. StoodIn b.shape segment key p q) p q
+IsReason b (Refill segment deadline) (answer.Refill refill.NotYours) p q =
     state_of p segment ≡ None
-IsReason shape (Refill segment deadline) (answer.Refill refill.NotEvicted) p q =
+IsReason b (Refill segment deadline) (answer.Refill refill.NotEvicted) p q =
     state_of p segment ≡ Some InUse
-IsReason shape (Refill segment deadline) (answer.Refill refill.Held) p q = IsBeingRead segment q
-IsReason shape _ _ p q = Unit {0}
+IsReason b (Refill segment deadline) (answer.Refill refill.Held) p q = IsBeingRead segment q
+IsReason b _ _ p q = Unit {0}
 
 -- A command is refused for a reason: too few rows are left, a bucket is full or in the way,
 -- the segment isn't the pass's own, is in use, or is being read.
 abbrev pub CommandIsRefused : Type 0
-CommandIsRefused = OfCommand (λ b command told p q. IsReason b.shape command told p q)
+CommandIsRefused = OfCommand (λ b command told p q. IsReason b command told p q)

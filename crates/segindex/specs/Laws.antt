@@ -1,6 +1,6 @@
 -- Laws of quiet passes and of replies. Each is proved as the contract of a function in src/laws.rt.
-use Rattle.std.specs.Prelude.{◌≡◌, ◌≢◌, ℕ, ◌+◌, ◌*◌, ◌^◌, ◌<◌, ◌≤◌, ◌↔◌, ◌==◌, nat_lt, true, is_some, IsSome, List, MatchBool, Some}
-use Rattle.segword.specs.Words.{covers, most_span}
+use Rattle.std.specs.Prelude.{◌≡◌, ◌≢◌, ℕ, ◌+◌, ◌*◌, ◌^◌, ◌<◌, ◌≤◌, ◌↔◌, nat_lt, true, is_some, IsSome, List, Some}
+use Rattle.segword.specs.Words.{covers, most_rows}
 use Rattle.segmodel.specs.declared.request.Request.TheVariants.{Cas, Delete}
 use Rattle.segmodel.specs.declared.answer.GetsAnswer.TheVariants.{Found}
 use Rattle.segmodel.specs.declared.answer.KeepAnswer.TheVariants.{Kept}
@@ -49,18 +49,24 @@ IsOfLinkedItem p segment row = (first : ℕ)
     × IsSome (linked_in (marked p) segment first)
     × (covers first (span_in (trace p) segment first) row ≡ true)
 
--- Where each item takes one row, an item was linked to the row exactly if the row is used.
--- Else it is one of the rows of an item that was linked exactly if it is used.
-abbrev pub IsUsedIfLinked : Pass → ℕ → ℕ → ℕ → Type 0
-IsUsedIfLinked p segment used row =
-    MatchBool (most_span == 1)
-    (is_some (linked_in (marked p) segment row) ≡ nat_lt row used)
-    ((row < used) ↔ IsOfLinkedItem p segment row)
-
--- Of a segment of the pass those rows are used that an item was linked to in this filling.
+-- Of a segment of the pass those rows are used that are rows of items that were linked
+-- in this filling.
 abbrev pub UsedAreLinked : Type 0
 UsedAreLinked = OfQuiet (λ b p. (segment used row : ℕ) → used_of p segment ≡ Some used
-    → row < b.shape.rows → IsUsedIfLinked p segment used row)
+    → row < b.shape.rows → (row < used) ↔ IsOfLinkedItem p segment row)
+
+-- An item that was linked to a row in this filling, as its first one, takes no more rows
+-- than the table's limits allow.
+abbrev pub ItemsAreWithin : Type 0
+ItemsAreWithin = OfQuiet (λ b p. (segment row : ℕ) → IsSome (linked_in (marked p) segment row)
+    → span_in (trace p) segment row ≤ most_rows b.limits)
+
+-- Where the table's limits allow an item only one row, those rows are used
+-- that an item was linked to in this filling.
+abbrev pub ShortItemsTakeOneRow : Type 0
+ShortItemsTakeOneRow = OfQuiet (λ b p. most_rows b.limits ≡ 1
+    → (segment used row : ℕ) → used_of p segment ≡ Some used
+    → row < b.shape.rows → is_some (linked_in (marked p) segment row) ≡ nat_lt row used)
 
 -- The segment that the pass stores into is in use.
 abbrev pub CurrentIsInUse : Type 0

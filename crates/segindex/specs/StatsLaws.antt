@@ -1,7 +1,7 @@
 -- Laws of the numbers that a pass sees of the table: what a caller needs of them.
 -- Each is proved as the contract of a function in src/laws.rt.
-use Rattle.std.specs.Prelude.{◌≡◌, ℕ, ◌≤◌, ◌==◌, Bool, true, List, if◌then◌else◌, MatchBool}
-use Rattle.segword.specs.Words.{most_span, Shape}
+use Rattle.std.specs.Prelude.{◌≡◌, ℕ, ◌≤◌, Bool, true, List, if◌then◌else◌}
+use Rattle.segword.specs.Words.{most_rows, Shape}
 use Rattle.segmodel.specs.Words.{Begins}
 use Rattle.segcore.specs.Words.{all_drawn, Mark}
 use Rattle.segbase.specs.Words.{Board, marked, number, Pass}
@@ -46,14 +46,14 @@ StatsCountNamed = OfStats (λ b told p q. (test : ℕ → ℕ → Bool)
     → ((segment row : ℕ) → test segment row ≡ true → IsNamed b.shape segment row (marked q))
     → rows_passing b.shape test p ≤ told.named_rows)
 
--- At most as many are counted so as are used. Where each item takes one row, these are at most
--- as many as items named at a moment of the call, by any test that all such rows pass.
+-- At most as many are counted so as are used. Where the table's limits allow an item only one row,
+-- these are at most as many as items named at a moment of the call,
+-- by any test that all such rows pass.
 abbrev pub StatsCountNoMore : Type 0
 StatsCountNoMore = OfStats (λ b told p q.
     (told.named_rows ≤ told.used_rows)
-    × MatchBool (most_span == 1)
-    ((test : ℕ → ℕ → Bool)
+    × (most_rows b.limits ≡ 1
+    → (test : ℕ → ℕ → Bool)
     → ((segment row : ℕ) (moment : List Mark) → Begins (marked p) moment → Begins moment (marked q)
     → IsNamed b.shape segment row moment → test segment row ≡ true)
-    → told.named_rows ≤ rows_passing b.shape test p)
-    (Unit {0}))
+    → told.named_rows ≤ rows_passing b.shape test p))

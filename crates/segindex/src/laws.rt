@@ -5,7 +5,7 @@ ghost use Rattle.segindex.specs.Answered.{CommandHasItsAnswer, CommandIsRefused}
 ghost use Rattle.segindex.specs.Answered.{CommandLeavesSegment};
 ghost use Rattle.segindex.specs.Laws.{SeenIsLegal, MarksAreBeside, KnowsItsOwn, OwnAreInTable};
 ghost use Rattle.segindex.specs.Laws.{UsedAreLinked, CurrentIsInUse, UnusedIsEmpty, LockedIsStill};
-ghost use Rattle.segindex.specs.Laws.{DeadlinesAreKnown};
+ghost use Rattle.segindex.specs.Laws.{DeadlinesAreKnown, ItemsAreWithin, ShortItemsTakeOneRow};
 ghost use Rattle.segindex.specs.Laws.{KeysAreFew, ChainsAreShort, AllAreOwn, NoTakeBounced};
 ghost use Rattle.segindex.specs.Laws.{NoLookGlanced, NobodyIsInside, BusyIsLocked, DrawnHaveJoined};
 ghost use Rattle.segindex.specs.Laws.{KeptAllLeavesNone, NothingIsStirred, WritesAtAMoment, DeletesAtAMoment};
@@ -25,7 +25,9 @@ ghost use Rattle.segindex.specs.Steps.{NoGetWithoutAStep, NoGetsWithoutAStep, No
 
 /// What a quiet pass has seen is a history of a cache of one thread, with marks.
 /// The pass knows just its own segments,
-/// and of their rows those are used that an item was linked to.
+/// and of their rows those are used that are rows of items that were linked.
+/// No item takes more rows than the table's limits allow, and where these allow only one,
+/// those rows are used that an item was linked to.
 /// The segment that the pass stores into is in use, and no key stands in one of its own that isn't.
 /// A deadline that the pass keeps of a segment is the segment's deadline in that cache.
 /// No entry came into the bucket that the pass has locked, since it was locked.
@@ -38,6 +40,8 @@ pub fn quiet_pass()
     ensures owned { KnowsItsOwn }
     ensures in_table { OwnAreInTable }
     ensures rows { UsedAreLinked }
+    ensures within { ItemsAreWithin }
+    ensures short { ShortItemsTakeOneRow }
     ensures current { CurrentIsInUse }
     ensures deadlines { DeadlinesAreKnown }
     ensures unused { UnusedIsEmpty }
@@ -85,7 +89,8 @@ pub fn commands_are_answered()
 /// The pass is quiet again, and all that it keeps is as it was.
 /// It counts the used rows of its own segments.
 /// It counts as named at least as many of these rows as items name at the end,
-/// and at most as many as items named at some moment of the call.
+/// and at most as many as are used. Where the table's limits allow an item only one row,
+/// these are at most as many as items named at some moment of the call.
 /// It counts the overflow buckets that were drawn, at some moment of the call.
 pub fn stats_are_counted()
     ensures looks { StatsOnlyLook }

@@ -98,7 +98,7 @@ impl Index {
 
     /// How many rows the item takes whose first row this is, a used row of a segment of the pass's
     /// own. So a caller who goes over a segment's rows goes on behind the item. It is 1 at least,
-    /// also for any other row, and where each item takes one row it is always 1.
+    /// also for any other row.
     pub fn span_of(&self, pass: &mut Pass, segment: u32, row: u32) -> u32
         requires quiet { IsQuiet (board_of self.now) pass.old }
         ensures spans { TellsSpan (board_of self.now) segment row result pass.old pass.new }
