@@ -359,7 +359,7 @@ module _ (b : Board) (p q : Pass) (segment cutoff : ℕ) (told : KeepAnswer) (wa
   idle : state_of p segment ≢ Some InUse → state_of p segment ≢ None → (told ≡ keep.Kept 0) × (q ≡ p)
   idle unused own = by told is.answer is.not_yours.0
     where
-      by : (given : KeepAnswer) → IsKeepAnswer b.shape segment cutoff given p q → (given ≡ keep.NotYours → state_of p segment ≡ None) → (given ≡ keep.Kept 0) × (q ≡ p)
+      by : (given : KeepAnswer) → IsKeepAnswer b segment cutoff given p q → (given ≡ keep.NotYours → state_of p segment ≡ None) → (given ≡ keep.Kept 0) × (q ≡ p)
       by (keep.Kept count) (inl moves) yours = absurd (unused moves.0.0)
       by (keep.Kept count) (inr none) yours = (ap keep.Kept none.1, none.2)
       by keep.NotYours same yours = absurd (own (yours refl))
@@ -379,7 +379,7 @@ module _ (b : Board) (p q : Pass) (segment cutoff : ℕ) (told : KeepAnswer) (wa
     untargeted : ((into : ℕ) → ¬ (IsKeepTarget segment into p)) → (told ≡ keep.NoRoom 0) × (q ≡ p)
     untargeted none = by told is.answer is.not_yours.0
       where
-        by : (given : KeepAnswer) → IsKeepAnswer b.shape segment cutoff given p q → (given ≡ keep.NotYours → state_of p segment ≡ None) → (given ≡ keep.NoRoom 0) × (q ≡ p)
+        by : (given : KeepAnswer) → IsKeepAnswer b segment cutoff given p q → (given ≡ keep.NotYours → state_of p segment ≡ None) → (given ≡ keep.NoRoom 0) × (q ≡ p)
         by (keep.Kept count) (inl moves) yours = absurd (none moves.0.1.0 moves.0.1.1)
         by (keep.Kept count) (inr unused) yours = absurd (unused.0 in_use)
         by keep.NotYours same yours = absurd (none-some InUse (sym (yours refl) ∙ in_use))
@@ -444,7 +444,7 @@ module _ (b : Board) (p q : Pass) (segment cutoff : ℕ) (told : KeepAnswer) (wa
 
   answered : (state : Option SegState) → state_of p segment ≡ state → AnswersSo
   answered None none = unchanged keep.NotYours
-      (is.not_yours.1 none, subst (λ given. IsKeepAnswer b.shape segment cutoff given p q) (is.not_yours.1 none) is.answer)
+      (is.not_yours.1 none, subst (λ given. IsKeepAnswer b segment cutoff given p q) (is.not_yours.1 none) is.answer)
       (λ i. cond (not (not_own b p segment was none i)) (keep.NotYours, old) (cond (is_in_use (old.filling segment).state) (keep_into b.shape old segment cutoff (current_of p)) (keep.Kept 0, old)))
   answered (Some InUse) known = by_current known (current_of p) refl
   answered (Some Empty) known = unused Empty known (λ e. cc) refl
