@@ -3,12 +3,11 @@ use Rattle.std.proofs.Common.{ℕ, ◌+◌, ◌*◌, ◌≤◌, sym, subst, arit
 use Rattle.std.proofs.Math.Nat.{add-mul}
 use Rattle.segword.specs.Words.{most_rows}
 use Rattle.segmodel.specs.Words.{bucket_of}
-use Rattle.segcore.specs.Words.{cached, row_after, slot, span_in}
+use Rattle.segcore.specs.Words.{cached, row_after, Slot, slot, span_in}
 use Rattle.segcore.proofs.Coherent.{IsStanding}
 use Rattle.segcore.proofs.Spans.{header_span}
 use Rattle.segcore.proofs.Standing.{coherent}
 use Rattle.segcore.proofs.Within.{stands_within}
-use Rattle.segcore.specs.Words.{Slot}
 use Rattle.segbase.specs.Words.{Board, IsPassOf, Pass, seen, trace}
 use Rattle.segevict.specs.Moving.{SeesRow}
 use Rattle.segevict.proofs.Longest.{spans_few}
@@ -28,7 +27,7 @@ seen_few b segment row IsSo p f s = let is = s.idles.moved.pass in
     standing_few b (bucket_of b.shape s.key) s.position (slot s.key segment row) f is
     ((coherent b.shape (trace f) is.lawful).items (bucket_of b.shape s.key) s.position (slot s.key segment row) s.named)
 
--- ---- as many rows as items, or more, and no more than so many for each
+-- ---- rows of a number of items: at least one for each, and at most this number
 
 pub record AreSome (count most rows : ℕ) : Type 0 where
   pub some : count ≤ rows

@@ -20,8 +20,8 @@ use Rattle.segevict.specs.Tries.{IsInTheWay, TriesFor}
 
 -- ---- rows
 
--- So many items use rows of the segment: at least one each, and at most as many as the table's
--- limits allow for an item.
+-- This number of items uses rows of the segment: each at least one,
+-- and at most as many as the table's limits allow an item.
 abbrev pub UsesSome : Board → ℕ → ℕ → Pass → Pass → Type 0
 UsesSome b into count p q =
     (rows : ℕ) × (count ≤ rows) × (rows ≤ count * most_rows b.limits) × UsesRows into rows p q
