@@ -1,5 +1,5 @@
 -- The rows that were cleared of a segment stay so over each call that adds no refilling of it.
-use Rattle.std.proofs.Common.{◌≡◌, ◌≢◌, ℕ, zero, suc, true, List, [], ◌∷◌, ◌++◌, Option, Some, None, IsSomeAnd, refl, sym, ap, ◌∙◌, subst, inl, inr}
+use Rattle.std.proofs.Common.{◌≡◌, ◌≢◌, ℕ, zero, suc, List, [], ◌∷◌, ◌++◌, Option, Some, None, IsSomeAnd, refl, sym, ap, ◌∙◌, subst, inl, inr}
 use Rattle.segword.specs.Words.{Shape}
 use Rattle.segmodel.specs.declared.answer.DeleteAnswer.TheVariants as delete
 use Rattle.segmodel.specs.declared.answer.RefillAnswer.TheVariants as refill
@@ -7,7 +7,7 @@ use Rattle.segmodel.specs.declared.answer.WriteAnswer.TheVariants as write
 use Rattle.segmodel.specs.declared.entry.Entry.TheVariants.{Evicted, Refilled, Wrote}
 use Rattle.segmodel.specs.declared.request.Request.TheVariants.{Set}
 use Rattle.segmodel.specs.Words.{DeleteAnswer, Entry, RefillAnswer, Reply, Request, WriteAnswer}
-use Rattle.segbase.specs.Words.{Board, mine, number, Pass, trace}
+use Rattle.segbase.specs.Words.{Board, mine, number, Pass}
 use Rattle.segread.specs.declared.held.HeldRow.{HeldRow}
 use Rattle.segread.specs.declared.held.HoldAnswer.{HoldAnswer}
 use Rattle.segread.specs.declared.held.HoldAnswer.TheVariants as hold_answer
@@ -29,13 +29,12 @@ use Rattle.segclient.specs.declared.segments.SourceSegment.{SourceSegment}
 use Rattle.segclient.specs.declared.member.Member.{Member}
 use Rattle.segclient.specs.declared.put.PutAnswer.{PutAnswer}
 use Rattle.segclient.specs.declared.put.PutAnswer.TheVariants as put
-use Rattle.segclient.specs.Clearing.{comes_to, IsCleared}
+use Rattle.segclient.specs.Clearing.{IsCleared}
 use Rattle.segclient.specs.Member.{IsMember}
 use Rattle.segclient.specs.PutCalls.{PutCall, sets, evicts, keeps, refills, finds_own, takes_out, Plan, Makes}
 use Rattle.segclient.specs.PutParts.{AreSets, busy_sets, Sets, SetsIfTimely}
 use Rattle.segclient.proofs.Calls.{makes_on}
 use Rattle.segclient.proofs.Items.{way_kept}
-use Rattle.segclient.proofs.Left.{several_then}
 
 -- whatever is being cleared
 abbrev pub StaysCleared : Shape → Pass → Pass → Type 0
@@ -56,7 +55,7 @@ module _ (b : Board) (p q : Pass) (quiet : IsQuiet b p) (on : GoesOn b p q) wher
   source_stays (Some source) added is none cleared = let way = way_kept b p q source.segment added quiet on is (none source refl) cleared.0 source.row cleared.1 in (
     cleared.0 ∙ sym on.same,
     unnamed_stay b p q source.segment source.row added quiet on is (none source refl) cleared.1,
-    several_then (comes_to (trace p) source.segment source.row source.row 0 ≡ true) (comes_to (trace q) source.segment source.row source.row 0 ≡ true) way cleared.2,
+    way cleared.2,
   )
 
   pub stays_over : (added : List Entry) → mine q ≡ added ++ mine p → ((segment : ℕ) → NoneFills segment added) → StaysCleared b.shape p q

@@ -1,7 +1,6 @@
 -- Bounds on how many calls a put makes, and steps of its turns; and room that is made alone.
-use Rattle.std.proofs.Common.{ℕ, ◌+◌, ◌*◌, ◌<◌, ◌≤◌, eqb, arith}
-use Rattle.std.proofs.lemmas.Bool.{cond_both}
-use Rattle.segword.specs.Words.{most_span, Shape}
+use Rattle.std.proofs.Common.{ℕ, ◌+◌, ◌*◌, ◌<◌, ◌≤◌, arith}
+use Rattle.segword.specs.Words.{Shape}
 use Rattle.segclient.specs.Clearing.{most_steps_of_put, most_steps_of_turn}
 use Rattle.segclient.specs.PutParts.{most_for_put, most_for_room}
 use Rattle.segclient.specs.Putting.{most_calls}
@@ -14,14 +13,10 @@ room_few shape = omega arith
 
 -- one turn more
 pub turn_next : (tried : ℕ) → most_steps_of_turn * tried + most_steps_of_turn ≤ most_steps_of_turn * (tried + 1)
-turn_next tried = cond_both (eqb most_span 1) 2 3 (λ n. n * tried + n ≤ n * (tried + 1)) (λ one. omega arith) (λ several. omega arith)
+turn_next tried = omega arith
 
 pub turn_few : (tried : ℕ) → tried < 8 → most_steps_of_turn * tried + most_steps_of_turn ≤ most_steps_of_put
-turn_few tried below = cond_both (eqb most_span 1) 2 3 (λ n. n * tried + n ≤ 8 * n) (λ one. omega (arith, below)) (λ several. omega (arith, below))
+turn_few tried below = omega (arith, below)
 
 pub turns_few : (tried : ℕ) → tried ≤ 8 → most_steps_of_turn * tried ≤ most_steps_of_put
-turns_few tried most = cond_both (eqb most_span 1) 2 3 (λ n. n * tried ≤ 8 * n) (λ one. omega (arith, most)) (λ several. omega (arith, most))
-
--- a turn for one row, or with a look before it
-pub row_few : 2 ≤ most_steps_of_turn
-row_few = cond_both (eqb most_span 1) 2 3 (λ n. 2 ≤ n) (λ one. omega arith) (λ several. omega arith)
+turns_few tried most = omega (arith, most)

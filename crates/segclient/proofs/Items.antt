@@ -1,8 +1,8 @@
 -- Items of a segment, one behind the other: where going from each to the next comes to a row, an item begins there, and its rows are used.
-use Rattle.std.proofs.Common.{◌≡◌, ℕ, zero, suc, ◌+◌, ◌-◌, ◌^◌, ◌<◌, ◌≤◌, true, false, eqb, is_some, List, ◌++◌, Some, sym, ap, ◌∙◌, subst, ⊎_elim, eq-eqb, eqb-true, ltb-true, arith}
+use Rattle.std.proofs.Common.{◌≡◌, ℕ, zero, suc, ◌+◌, ◌-◌, ◌^◌, ◌<◌, ◌≤◌, true, eqb, is_some, List, ◌++◌, Some, sym, ap, ◌∙◌, subst, ⊎_elim, eq-eqb, eqb-true, ltb-true, arith}
 use Rattle.std.proofs.lemmas.Bool.{cases_Bool, cases_eq, cases_lt, or_cases, or_left, or_right}
 use Rattle.std.proofs.lemmas.Option.{none-some}
-use Rattle.segword.specs.Words.{covers, most_span, Shape, span_of_header}
+use Rattle.segword.specs.Words.{covers, Shape, span_of_header}
 use Rattle.segmodel.specs.Words.{Entry, owner}
 use Rattle.segcore.specs.Words.{Event, IsLawful, Row, row_alone, span_in}
 use Rattle.segcore.proofs.Segments.{row_since}
@@ -12,9 +12,8 @@ use Rattle.segbase.proofs.Starting.{steps_grew}
 use Rattle.segstore.specs.Words.{GoesOn, IsQuiet}
 use Rattle.segstore.proofs.ItemRows.{covers-high, covers-low, not_covered, outside}
 use Rattle.segstore.proofs.LinkedRows.{same_header}
-use Rattle.segwrite.specs.Words.{or_one}
 use Rattle.segread.specs.Holds.{NoneFills}
-use Rattle.segevict.specs.Rows.{IfSeveral, IsUsedRow}
+use Rattle.segevict.specs.Rows.{IsUsedRow}
 use Rattle.segevict.specs.Words.{AreUnnamed, IsNamed}
 use Rattle.segevict.proofs.FirstRowFacts.{unnamed_behind}
 use Rattle.segevict.proofs.Naming.{unnamed}
@@ -23,7 +22,6 @@ use Rattle.segevict.proofs.Tiles.{IsRowFrom, item_of, rows_at, start_at}
 use Rattle.segindex.proofs.UnnamedRows.{own_events}
 use Rattle.segclient.specs.declared.segments.SourceSegment.{SourceSegment}
 use Rattle.segclient.specs.Clearing.{comes_to, IsCleared}
-use Rattle.segclient.proofs.Left.{if_several, of_several, one_alone, one_several}
 
 -- ---- the way from item to item
 
@@ -189,26 +187,15 @@ module _ (b : Board) (q : Pass) (segment row : ℕ) (quiet : IsQuiet b q) (are :
       (way_more h segment (row + span) (suc row) (span - 1) 0 (way_over h segment row row 0 way))
 
 -- so the clearing goes on behind them
-pub cleared_behind : (b : Board) (q : Pass) (source : SourceSegment) (rows : ℕ) → IsQuiet b q → owner b.shape source.segment ≡ number q
-    → AreUnnamed b.shape source.segment (source.row + 1) q → IfSeveral (comes_to (trace q) source.segment source.row source.row 0 ≡ true)
-    → IfSeveral (rows ≡ span_in (trace q) source.segment source.row)
-    → IsCleared b.shape (Some (record { segment = source.segment; row = source.row + or_one rows })) q
-cleared_behind b q source rows quiet own are way spans = (
+pub cleared_behind : (b : Board) (q : Pass) (source : SourceSegment) (count : ℕ) → IsQuiet b q → owner b.shape source.segment ≡ number q
+    → AreUnnamed b.shape source.segment (source.row + 1) q → comes_to (trace q) source.segment source.row source.row 0 ≡ true
+    → count ≡ span_in (trace q) source.segment source.row
+    → IsCleared b.shape (Some (record { segment = source.segment; row = source.row + count })) q
+cleared_behind b q source count quiet own are way spans = (
   own,
-  ⊎_elim
-      (λ one. subst (λ n. AreUnnamed b.shape source.segment (source.row + n) q) (sym (one_alone rows one)) are)
-      (λ several. subst (λ n. AreUnnamed b.shape source.segment (source.row + n) q) (sym (count several)) (all_unnamed b q source.segment source.row quiet are (there several)))
-      (cases_Bool (eqb most_span 1)),
-  if_several (comes_to (trace q) source.segment (source.row + or_one rows) (source.row + or_one rows) 0 ≡ true)
-      (λ several. subst (λ n. comes_to (trace q) source.segment (source.row + n) (source.row + n) 0 ≡ true) (sym (count several))
-      (way_on b q source.segment source.row quiet are (there several))),
+  subst (λ n. AreUnnamed b.shape source.segment (source.row + n) q) (sym spans) (all_unnamed b q source.segment source.row quiet are way),
+  subst (λ n. comes_to (trace q) source.segment (source.row + n) (source.row + n) 0 ≡ true) (sym spans) (way_on b q source.segment source.row quiet are way),
 )
-  where
-    there : eqb most_span 1 ≡ false → comes_to (trace q) source.segment source.row source.row 0 ≡ true
-    there several = of_several (comes_to (trace q) source.segment source.row source.row 0 ≡ true) several way
-
-    count : eqb most_span 1 ≡ false → or_one rows ≡ span_in (trace q) source.segment source.row
-    count several = one_several rows several ∙ of_several (rows ≡ span_in (trace q) source.segment source.row) several spans
 
 -- ---- rows that stay
 

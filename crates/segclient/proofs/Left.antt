@@ -1,15 +1,12 @@
 -- How many rows are left where the pass stores: rows for an item are rows for one that takes fewer, and a segment that was refilled has all.
-use Rattle.std.proofs.Common.{◌≡◌, ℕ, ◌+◌, ◌<◌, ◌≤◌, length, Bool, true, false, eqb, cond, Option, Some, None, option_and_then, refl, sym, ap, ◌∙◌, ⊎_elim, lt-ltb, ltb-true, le-leb, leb-true, arith}
-use Rattle.std.specs.Int.{IsInRange}
-use Rattle.std.specs.Prelude.{MatchBool, min}
+use Rattle.std.proofs.Common.{◌≡◌, ℕ, ◌+◌, ◌<◌, ◌≤◌, Bool, true, false, eqb, cond, Option, Some, None, option_and_then, refl, sym, ap, ◌∙◌, ⊎_elim, lt-ltb, ltb-true, le-leb, leb-true, arith}
+use Rattle.std.specs.Prelude.{min}
 use Rattle.std.proofs.lemmas.Bool.{cases_Bool, cond_both, cond-false, cond-true, eqb-true, false≢true, false_from_ne_true}
-use Rattle.segword.specs.Words.{most_span, Shape}
-use Rattle.segmodel.specs.Words.{key_of, Request, value_of}
-use Rattle.segcore.proofs.Spans.{span_one}
+use Rattle.segword.specs.declared.limits.Limits.{Limits}
+use Rattle.segword.specs.Words.{most_rows, Shape}
+use Rattle.segcore.proofs.Spans.{span_some}
 use Rattle.segbase.specs.Words.{current_of, Pass, used_of}
 use Rattle.segstore.specs.Words.{are_left, has_room, has_room_for, is_below}
-use Rattle.segwrite.specs.Words.{or_one, rows_of}
-use Rattle.segevict.specs.Rows.{IfSeveral}
 use Rattle.segclient.specs.PutParts.{StoresAfresh}
 
 -- ---- rows of a segment of which so many are used
@@ -70,49 +67,9 @@ room_afresh shape count p (segment, current, none) few = room_behind shape count
 
 -- ---- rows of an item
 
-pub one_few : (rows : ℕ) → 1 ≤ rows → (1 ≤ or_one rows) × (or_one rows ≤ rows)
-one_few rows some = cond_both (eqb most_span 1) 1 rows (λ n. (1 ≤ n) × (n ≤ rows)) (λ one. (omega arith, some)) (λ several. (some, omega arith))
-
-pub one_range : (rows most : ℕ) → IsInRange 1 most rows → IsInRange 1 most (or_one rows)
-one_range rows most range = let few = one_few rows range.0 in let low = few.0 in let high = few.1 in let most = range.1 in (low, omega (arith, high, most))
-
 -- as many as the longest item takes, or all that a segment has
-pub most_few : (rows : ℕ) → 1 ≤ rows → or_one (min most_span rows) ≤ rows
-most_few rows some = cond_both (eqb most_span 1) 1 (min most_span rows) (λ n. n ≤ rows) (λ one. some) (λ several. omega arith)
+pub most_few : (limits : Limits) (rows : ℕ) → min (most_rows limits) rows ≤ rows
+most_few limits rows = omega arith
 
-pub most_some : (rows : ℕ) → 1 ≤ rows → 1 ≤ or_one (min most_span rows)
-most_some rows some = cond_both (eqb most_span 1) 1 (min most_span rows) (λ n. 1 ≤ n) (λ one. omega arith) (λ several. omega (arith, some))
-
-pub one_several : (rows : ℕ) → eqb most_span 1 ≡ false → or_one rows ≡ rows
-one_several rows several = cond-false (eqb most_span 1) 1 rows several
-
-pub one_alone : (rows : ℕ) → eqb most_span 1 ≡ true → or_one rows ≡ 1
-one_alone rows one = cond-true (eqb most_span 1) 1 rows one
-
--- where each item takes one row, the longest takes no more
-pub longest_few : (rows : ℕ) → min most_span rows ≤ or_one (min most_span rows)
-longest_few rows = ⊎_elim
-    (λ one. let alone = one_alone (min most_span rows) one in let same = eqb-true most_span 1 one in omega (arith, alone, same))
-    (λ several. let same = one_several (min most_span rows) several in omega (arith, same))
-    (cases_Bool (eqb most_span 1))
-
-pub rows_alone : (request : Request) → eqb most_span 1 ≡ true → rows_of request ≡ 1
-rows_alone request one = span_one (length (key_of request)) (length (value_of request)) one
-
--- where items take several rows, it is so
-pub if_several : (so : Type 0) → (eqb most_span 1 ≡ false → so) → IfSeveral so
-if_several so is = by (eqb most_span 1) is
-  where
-    by : (one : Bool) → (one ≡ false → so) → MatchBool one (Unit {0}) so
-    by true is = tt
-    by false is = is refl
-
-pub of_several : (so : Type 0) → eqb most_span 1 ≡ false → IfSeveral so → so
-of_several so several is = by (eqb most_span 1) several is
-  where
-    by : (one : Bool) → one ≡ false → MatchBool one (Unit {0}) so → so
-    by true several is = absurd (false≢true (sym several))
-    by false several is = is
-
-pub several_then : (so then : Type 0) → (so → then) → IfSeveral so → IfSeveral then
-several_then so then goes is = if_several then (λ several. goes (of_several so several is))
+pub most_some : (limits : Limits) (rows : ℕ) → 1 ≤ rows → 1 ≤ min (most_rows limits) rows
+most_some limits rows some = let longest = span_some limits.key limits.value in omega (arith, some, longest)

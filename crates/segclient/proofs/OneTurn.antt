@@ -1,18 +1,14 @@
 -- Turns of clearing: what their steps come to, and that the rows that are done stay unnamed.
-use Rattle.std.proofs.Common.{◌≡◌, ◌≢◌, ◌⊎◌, ℕ, ◌+◌, ◌^◌, ◌<◌, ◌≤◌, true, false, eqb, List, [], ◌∷◌, ◌++◌, length-append, Option, Some, refl, sym, ap, ◌∙◌, subst, inr, ⊎_elim, arith}
-use Rattle.std.proofs.lemmas.Bool.{cond-false}
+use Rattle.std.proofs.Common.{◌≡◌, ◌≢◌, ◌⊎◌, ℕ, ◌+◌, ◌^◌, ◌<◌, ◌≤◌, List, [], ◌∷◌, ◌++◌, length-append, Option, Some, refl, sym, ap, ◌∙◌, subst, inr, ⊎_elim, arith}
 use Rattle.std.proofs.lemmas.List.Sums.{sum_by-append, sum_by-cons}
 use Rattle.std.proofs.lemmas.Option.{same_Some}
-use Rattle.segword.specs.Words.{most_span}
 use Rattle.segmodel.specs.declared.answer.EvictAnswer.TheVariants as evict
 use Rattle.segmodel.specs.declared.answer.RefillAnswer.TheVariants as refill
 use Rattle.segmodel.specs.declared.entry.Entry.TheVariants.{Evicted, Moved, Refilled}
 use Rattle.segmodel.specs.Words.{Entry, EvictAnswer, RefillAnswer}
-use Rattle.segcore.specs.Words.{span_in}
 use Rattle.segbase.specs.declared.pass.PlainPart.{PlainPart}
-use Rattle.segbase.specs.Words.{Board, mine, number, Pass, trace}
+use Rattle.segbase.specs.Words.{Board, mine, number, Pass}
 use Rattle.segstore.specs.Words.{ChangesNothing, GoesOn, IsQuiet}
-use Rattle.segwrite.specs.Words.{or_one}
 use Rattle.segread.specs.Holds.{NoneFills}
 use Rattle.segevict.specs.declared.eviction.EvictRowAnswer.{EvictRowAnswer}
 use Rattle.segevict.specs.declared.eviction.EvictRowAnswer.TheVariants as evict_row
@@ -24,14 +20,13 @@ use Rattle.segindex.proofs.UnnamedRows.{evicted_is_unnamed, has_row, moved_is_un
 use Rattle.segtally.specs.Recycling.{evicted_by, refilled_by}
 use Rattle.segclient.specs.declared.segments.SourceSegment.{SourceSegment}
 use Rattle.segclient.specs.declared.effort.Effort.{Effort}
-use Rattle.segclient.specs.Clearing.{came_to_step, Clears, ClearsAtMost, comes_to, evicts_rest, evicts_row, IsCleared, IsClearing, IsEffortOf, IsStep, keeps_into, looks_at, most_steps_of_turn, refills_aside, Step, TakesRows}
+use Rattle.segclient.specs.Clearing.{came_to_step, Clears, ClearsAtMost, evicts_rest, evicts_row, IsCleared, IsClearing, IsEffortOf, IsStep, keeps_into, looks_at, most_steps_of_turn, refills_aside, Step, TakesRows}
 use Rattle.segclient.specs.PutCalls.{evicted_keys, kept_items, refilled_segments}
 use Rattle.segclient.specs.PutParts.{effort_from}
 use Rattle.segclient.proofs.Calls.{both}
 use Rattle.segclient.proofs.Cleared.{nothing_stays, refilled_in, source_stays, stays_same}
 use Rattle.segclient.proofs.Items.{cleared_behind, last_low, span_kept, way_kept}
-use Rattle.segclient.proofs.Left.{if_several, several_then}
-use Rattle.segclient.proofs.Steps.{IsLook, look_goes, looks, none_cleared, one_cleared, told_look}
+use Rattle.segclient.proofs.Steps.{look_goes, none_cleared, one_cleared}
 
 -- ---- what steps come to
 
@@ -176,19 +171,18 @@ module _ (b : Board) (p q : Pass) (segment row : ℕ) where
 module _ (b : Board) (source : SourceSegment) (p q : Pass) (quiet : IsQuiet b p) (is : IsClearing b.shape source p) where
   -- the item is done, and the clearing goes on behind its rows
   abbrev IsDone : ℕ → Type 0
-  IsDone rows = IsCleared b.shape (Some (record { segment = source.segment; row = source.row + or_one rows })) q
+  IsDone rows = IsCleared b.shape (Some (record { segment = source.segment; row = source.row + rows })) q
 
   done : (rows : ℕ) → TakesRows source rows p → GoesOn b p q → HadRow b source.segment source.row p q → AreUnnamed b.shape source.segment (source.row + 1) q → IsDone rows
   done rows takes on had are =
       let s = source.segment in let row = source.row in let own = is.0.0 in
       let same = span_kept b p q s had.added quiet on had.entries had.none own row had.has.1 in
       cleared_behind b q source rows on.quiet (own ∙ sym on.same) are
-      (several_then (comes_to (trace p) s row row 0 ≡ true) (comes_to (trace q) s row row 0 ≡ true) (way_kept b p q s had.added quiet on had.entries had.none own row is.0.1) is.0.2)
-      (several_then (HasRow s row p → rows ≡ span_in (trace p) s row) (rows ≡ span_in (trace q) s row) (λ tells. tells had.has ∙ sym same) takes)
+      (way_kept b p q s had.added quiet on had.entries had.none own row is.0.1 is.0.2) (takes had.has ∙ sym same)
 
   -- its rows are used, so they are among those of the table
-  ends_low : (rows : ℕ) → TakesRows source rows p → GoesOn b p q → HadRow b source.segment source.row p q → AreUnnamed b.shape source.segment (source.row + 1) q → source.row + or_one rows < 2 ^ 32
-  ends_low rows takes on had are = last_low b q source.segment (source.row + or_one rows) on.quiet (done rows takes on had are).1
+  ends_low : (rows : ℕ) → TakesRows source rows p → GoesOn b p q → HadRow b source.segment source.row p q → AreUnnamed b.shape source.segment (source.row + 1) q → source.row + rows < 2 ^ 32
+  ends_low rows takes on had are = last_low b q source.segment (source.row + rows) on.quiet (done rows takes on had are).1
 
   evicted_are : (told : EvictRowAnswer) → EvictsItem b source.segment source.row told p q → (told ≡ evict_row.Evicted) ⊎ (told ≡ evict_row.Left) → AreUnnamed b.shape source.segment (source.row + 1) q
   evicted_are told evicts which = evicted_is_unnamed b p q source.segment source.row told quiet evicts which is.0.1
@@ -198,7 +192,7 @@ module _ (b : Board) (source : SourceSegment) (p q : Pass) (quiet : IsQuiet b p)
   evicted_done rows takes told evicts which = done rows takes evicts.on (evicted_had b p q source.segment source.row told evicts which) (evicted_are told evicts which)
 
   pub evicted_fits : (rows : ℕ) → TakesRows source rows p → (told : EvictRowAnswer) → EvictsItem b source.segment source.row told p q
-      → (told ≡ evict_row.Evicted) ⊎ (told ≡ evict_row.Left) → source.row + or_one rows < 2 ^ 32
+      → (told ≡ evict_row.Evicted) ⊎ (told ≡ evict_row.Left) → source.row + rows < 2 ^ 32
   evicted_fits rows takes told evicts which = ends_low rows takes evicts.on (evicted_had b p q source.segment source.row told evicts which) (evicted_are told evicts which)
 
   module _ (told : KeepRowAnswer) (cutoff into : ℕ) (same : told ≡ kept.Moved) (keeps : KeepsItemInto b source.segment source.row cutoff into told p q) where
@@ -211,7 +205,7 @@ module _ (b : Board) (source : SourceSegment) (p q : Pass) (quiet : IsQuiet b p)
     pub moved_done : (rows : ℕ) → TakesRows source rows p → IsDone rows
     moved_done rows takes = done rows takes keeps.on (moved_had b p q source.segment source.row cutoff into moved) moved_are
 
-    pub moved_fits : (rows : ℕ) → TakesRows source rows p → source.row + or_one rows < 2 ^ 32
+    pub moved_fits : (rows : ℕ) → TakesRows source rows p → source.row + rows < 2 ^ 32
     moved_fits rows takes = ends_low rows takes keeps.on (moved_had b p q source.segment source.row cutoff into moved) moved_are
 
   -- an item that was left where it is takes as many rows as before
@@ -220,11 +214,9 @@ module _ (b : Board) (source : SourceSegment) (p q : Pass) (quiet : IsQuiet b p)
   takes_still rows takes told cutoff into same keeps =
       let left = subst (λ t. KeepsItemInto b source.segment source.row cutoff into t p q) same keeps in
       let s = source.segment in let row = source.row in
-      several_then (HasRow s row p → rows ≡ span_in (trace p) s row) (HasRow s row q → rows ≡ span_in (trace q) s row)
-      (λ tells has.
+      λ has.
       let had = subst (λ (x : PlainPart). HasRow s row (record p { plain = x })) left.answer.2.plain has in
-      tells had ∙ sym (span_kept b p q s [] quiet left.on left.answer.2.entries tt is.0.0 row had.1))
-      takes
+      takes had ∙ sym (span_kept b p q s [] quiet left.on left.answer.2.entries tt is.0.0 row had.1)
 
   -- an item was left where it is
   pub left_stays : (told : KeepRowAnswer) (cutoff into : ℕ) → told ≡ kept.Left → KeepsItemInto b source.segment source.row cutoff into told p q → IsClearing b.shape source q
@@ -278,12 +270,9 @@ module _ (b : Board) (source : SourceSegment) (p q : Pass) (quiet : IsQuiet b p)
 -- ---- a look at how many rows the item takes
 
 module _ (b : Board) (source : SourceSegment) (told : ℕ) (p q : Pass) (quiet : IsQuiet b p) (is : IsClearing b.shape source p)
-    (several : eqb most_span 1 ≡ false) (tells : TellsSpan b source.segment source.row told p q) where
-  look : IsLook b source.segment source.row told p q
-  look = told_look b source.segment source.row told p q several tells
-
+    (tells : TellsSpan b source.segment source.row told p q) where
   goes : GoesOn b p q × ChangesNothing p q
-  goes = look_goes b source.segment source.row told p q quiet look
+  goes = look_goes b source.segment source.row told p q quiet tells
 
   pub looked_on : GoesOn b p q
   looked_on = goes.0
@@ -295,14 +284,12 @@ module _ (b : Board) (source : SourceSegment) (told : ℕ) (p q : Pass) (quiet :
   )
 
   pub looked_takes : TakesRows source told q
-  looked_takes = if_several (HasRow source.segment source.row q → told ≡ span_in (trace q) source.segment source.row)
-      (λ several has. look.2 (subst (λ (x : PlainPart). HasRow source.segment source.row (record p { plain = x })) goes.1.plain has))
+  looked_takes has = tells.2 (subst (λ (x : PlainPart). HasRow source.segment source.row (record p { plain = x })) goes.1.plain has)
 
   -- and then a turn for the item
   pub looked_clears : (least : ℕ) (effort : Effort) (r : Pass) → ClearsAtMost b (Some least) 2 effort q r → ClearsAtMost b (Some least) most_steps_of_turn effort p r
   looked_clears least effort r clears =
-      let most = cond-false (eqb most_span 1) 2 3 several in
-      clears_after b (Some least) 1 2 most_steps_of_turn effort p q r (subst (λ n. 3 ≤ n) (sym most) (omega arith))
+      clears_after b (Some least) 1 2 most_steps_of_turn effort p q r (omega arith)
       (some_clears b (Some least) (looks_at source.segment source.row told) (effort_from 0 0 0) p q refl refl refl
-      (looks b source.segment source.row told p q (Some least) several (is.0.0, is.1) tells))
+      ((is.0.0, is.1), tells))
       clears

@@ -2,7 +2,6 @@
 use Rattle.std.proofs.Common.{◌≡◌, ◌≢◌, ℕ, ◌+◌, ◌<◌, ◌≤◌, Bool, true, false, [], ◌∷◌, Option, Some, None, option_and_then, is_some, refl, sym, ap, ◌∙◌, subst, inl, inr, eqb, arith}
 use Rattle.std.specs.Int.{IsInRange}
 use Rattle.std.proofs.lemmas.Bool.{false≢true, cond-true, eq-eqb}
-use Rattle.segword.specs.Words.{most_span}
 use Rattle.segmodel.specs.declared.answer.EvictAnswer.TheVariants as evict
 use Rattle.segmodel.specs.declared.answer.RefillAnswer.TheVariants as refill
 use Rattle.segmodel.specs.declared.answer.SegState.TheVariants.{Evicted}
@@ -25,7 +24,7 @@ use Rattle.segclient.specs.PutCalls.{evicts, refills, IsRefused, StoresUntil, ro
 use Rattle.segclient.specs.declared.effort.Effort.{Effort}
 use Rattle.segclient.specs.PutParts.{Arranges, effort_from, GivesUp, IsEffort, MakesRoom, MakesRows, MakesRowsIfNone, StoresAfresh, StoresAsBefore}
 use Rattle.segclient.proofs.Calls.{arranges_as, arranges_then, arranges_wider, both, effort_more, no_effort, none_arranges, none_made, one_more, refill_arranges, refused_then, same_effort}
-use Rattle.segclient.proofs.Left.{if_several, none_for_long, none_for_more, of_several, room_afresh}
+use Rattle.segclient.proofs.Left.{none_for_long, none_for_more, room_afresh}
 
 -- a pass knows its own segments
 pub own_known : (b : Board) (p : Pass) (segment : ℕ) → IsQuiet b p → owner b.shape segment ≡ number p → state_of p segment ≢ None
@@ -283,7 +282,7 @@ room_whole b cutoff deadline most rows made effort p q range afresh room = recor
   arranges = room.arranges;
   room = by made room.room afresh;
   until = room.until;
-  refused = λ none fits. room.refused none (if_several (1 ≤ b.shape.rows) (λ several. let low = range.0 in let high = range.1 in omega (arith, low, high)));
+  refused = λ none fits. room.refused none (let low = range.0 in let high = range.1 in omega (arith, low, high));
 }
   where
     by : (made : Bool) → has_room b.shape q ≡ made → (made ≡ true → StoresAfresh q) → has_room_for b.shape rows q ≡ made
@@ -291,13 +290,13 @@ room_whole b cutoff deadline most rows made effort p q range afresh room = recor
     by false full afresh = none_for_more b.shape rows q range.0 full
 
 -- no segment has rows enough for the item
-pub room_too_long : (b : Board) (cutoff : Option ℕ) (deadline most rows : ℕ) (effort : Effort) (p : Pass) → eqb most_span 1 ≡ false
+pub room_too_long : (b : Board) (cutoff : Option ℕ) (deadline most rows : ℕ) (effort : Effort) (p : Pass)
     → b.shape.rows < rows → effort ≡ effort_from 0 0 0 → MakesRows b cutoff deadline most rows false effort p p
-room_too_long b cutoff deadline most rows effort p several long none = record {
+room_too_long b cutoff deadline most rows effort p long none = record {
   arranges = none_arranges b cutoff deadline most effort p none;
   room = none_for_long b.shape rows p long;
   until = λ made. absurd (false≢true made);
-  refused = λ none fits. absurd (let few = of_several (rows ≤ b.shape.rows) several fits in omega (arith, long, few));
+  refused = λ none fits. absurd (omega (arith, long, fits));
 }
 
 -- a free segment was refilled

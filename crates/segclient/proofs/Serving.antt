@@ -1,15 +1,14 @@
 -- Right after room was made no write has too little: the segment has a row left, and a deadline that does.
-use Rattle.std.proofs.Common.{◌≡◌, ◌≢◌, ◌≤◌, ℕ, Bool, true, false, ◌⊎◌, inl, inr, refl, sym, ap, ◌∙◌, subst, ⊎_elim, arith}
-use Rattle.std.specs.Prelude.{◌+◌, ◌-◌, ◌/◌, ◌%◌, ◌^◌, ◌==◌, cond, max, min, nat_lt}
-use Rattle.std.proofs.lemmas.Bool.{cases_Bool, false≢true}
+use Rattle.std.proofs.Common.{◌≡◌, ◌≢◌, ◌≤◌, ℕ, Bool, true, false, ◌⊎◌, inl, inr, refl, sym, ap, ◌∙◌, subst, arith}
+use Rattle.std.specs.Prelude.{◌+◌, ◌-◌, ◌/◌, ◌%◌, ◌^◌, cond, max, min, nat_lt}
+use Rattle.std.proofs.lemmas.Bool.{false≢true}
 use Rattle.std.proofs.lemmas.Nat.{mod_below}
-use Rattle.segword.specs.Words.{most_span}
+use Rattle.segword.specs.Words.{most_rows}
 use Rattle.segmodel.specs.declared.answer.WriteAnswer.TheVariants as write
 use Rattle.segmodel.specs.Words.{Request, WriteAnswer}
 use Rattle.segindex.specs.Words.{board_of, Index, shape_of}
 use Rattle.segstore.specs.Words.{has_room_for}
-use Rattle.segwrite.specs.Words.{or_one, rows_of, Writes}
-use Rattle.segevict.specs.Rows.{IfSeveral}
+use Rattle.segwrite.specs.Words.{rows_of, Writes}
 use Rattle.segclient.specs.declared.member.Member.{Member}
 use Rattle.segclient.specs.Lives.{deadline_by, life_window}
 use Rattle.segclient.specs.Made.{life_of, MakesWrite}
@@ -17,7 +16,7 @@ use Rattle.segclient.specs.Member.{IsMember}
 use Rattle.segclient.specs.PutCalls.{IsInWindow}
 use Rattle.segclient.specs.PutParts.{is_outside}
 use Rattle.segclient.specs.Puts.{deadline_of, MakesRoomFor}
-use Rattle.segclient.proofs.Left.{most_some, of_several, one_alone, one_several, room_for_fewer, room_for_one, rows_alone}
+use Rattle.segclient.proofs.Left.{most_some, room_for_fewer, room_for_one}
 use Rattle.segclient.proofs.Setting.{not_outside}
 
 -- what is left of a division by a step is no more than the step
@@ -38,7 +37,7 @@ module _ (now time : ℕ) where
   in_life = (starts (nat_lt (now + time) (2 ^ 32 - 1)), ends (nat_lt (now + time) (2 ^ 32 - 1)))
 
 module _ (i : Index) (request : ℕ → Request) (old made new : Member) (member : IsMember i old)
-    (fits : IfSeveral (rows_of (request made.clock) ≤ min most_span (shape_of i).rows)) (room : MakesRoomFor true (board_of i) old made) where
+    (fits : rows_of (request made.clock) ≤ min (most_rows (board_of i).limits) (shape_of i).rows) (room : MakesRoomFor true (board_of i) old made) where
   -- the deadline does for what is stored then
   timely : is_outside (life_of made) made.pass ≡ false
   timely =
@@ -47,29 +46,21 @@ module _ (i : Index) (request : ℕ → Request) (old made new : Member) (member
       (subst (λ now. IsInWindow (life_window now old.time_to_live) (deadline_of old)) (sym room.settings.clock) (in_life old.clock old.time_to_live)))
 
   abbrev rows : ℕ
-  rows = or_one (min most_span (shape_of i).rows)
-
-  -- the item takes no more rows than were made
-  few : rows_of (request made.clock) ≤ rows
-  few = ⊎_elim
-      (λ one. let item = rows_alone (request made.clock) one in let left = one_alone (min most_span (shape_of i).rows) one in omega (arith, item, left))
-      (λ several. let less = of_several (rows_of (request made.clock) ≤ min most_span (shape_of i).rows) several fits in
-      let left = one_several (min most_span (shape_of i).rows) several in omega (arith, less, left))
-      (cases_Bool (most_span == 1))
+  rows = min (most_rows (board_of i).limits) (shape_of i).rows
 
   serves : (told : WriteAnswer) → MakesWrite request told (board_of i) made new → told ≢ write.NoRoom
   serves told wrote is = by wrote.writes
     where
       same : wrote.chosen ≡ made.pass
-      same = wrote.chooses.stays timely (room_for_one (shape_of i) rows made.pass (most_some (shape_of i).rows member.0.pass.valid.0.1.0) room.room)
+      same = wrote.chooses.stays timely (room_for_one (shape_of i) rows made.pass (most_some (board_of i).limits (shape_of i).rows member.0.pass.valid.0.1.0) room.room)
 
       by : ((is_outside (life_of made) wrote.chosen ≡ true) × (told ≡ write.NoRoom) × (wrote.between ≡ wrote.chosen))
           ⊎ ((is_outside (life_of made) wrote.chosen ≡ false) × Writes (board_of i) (request made.clock) told wrote.chosen wrote.between) → ⊥
       by (inl late) = false≢true (sym timely ∙ ap (is_outside (life_of made)) (sym same) ∙ late.0)
       by (inr made_it) = false≢true (sym (made_it.1.no_room.0 is) ∙ ap (has_room_for (shape_of i) (rows_of (request made.clock))) same
-          ∙ room_for_fewer (shape_of i) (rows_of (request made.clock)) rows made.pass few room.room)
+          ∙ room_for_fewer (shape_of i) (rows_of (request made.clock)) rows made.pass fits room.room)
 
 pub room_serves : (i : Index) (request : ℕ → Request) (told : WriteAnswer) (old made new : Member)
-    → IsMember i old → IfSeveral (rows_of (request made.clock) ≤ min most_span (shape_of i).rows)
+    → IsMember i old → rows_of (request made.clock) ≤ min (most_rows (board_of i).limits) (shape_of i).rows
     → MakesRoomFor true (board_of i) old made → MakesWrite request told (board_of i) made new → told ≢ write.NoRoom
 room_serves i request told old made new member fits room = serves i request old made new member fits room told

@@ -1,22 +1,18 @@
 -- What the steps of a put come to by which it clears a segment.
-use Rattle.std.proofs.Common.{◌≡◌, ℕ, ◌+◌, ◌≤◌, Bool, true, false, eqb, List, [], ◌∷◌, Option, is_some, refl, sym, ap, ◌∙◌, subst, arith}
-use Rattle.std.specs.Prelude.{MatchBool, sum_by}
-use Rattle.std.proofs.lemmas.Bool.{false≢true}
+use Rattle.std.proofs.Common.{◌≡◌, ℕ, ◌+◌, List, [], ◌∷◌, Option, is_some, refl, sym, ap, ◌∙◌, subst, arith}
+use Rattle.std.specs.Prelude.{sum_by}
 use Rattle.std.proofs.lemmas.List.Sums.{sum_by-cons}
 use Rattle.segmodel.specs.declared.answer.EvictAnswer.TheVariants as evict
 use Rattle.segmodel.specs.declared.answer.RefillAnswer.TheVariants as refill
 use Rattle.segmodel.specs.Words.{EvictAnswer, RefillAnswer}
-use Rattle.segword.specs.Words.{most_span}
-use Rattle.segbase.specs.Words.{Board, Pass, trace}
-use Rattle.segcore.specs.Words.{span_in}
-use Rattle.segstore.specs.Words.{ChangesNothing, GoesOn, Idles, IsQuiet}
+use Rattle.segbase.specs.Words.{Board, Pass}
+use Rattle.segstore.specs.Words.{ChangesNothing, GoesOn, IsQuiet}
 use Rattle.segstore.proofs.Idling.{does_nothing, goes_nowhere, goes_same}
-use Rattle.segevict.specs.Rows.{HasRow}
 use Rattle.segevict.specs.Words.{TellsSpan}
 use Rattle.segevict.proofs.RowsOut.{goes_then}
 use Rattle.segclient.specs.declared.effort.Effort.{Effort}
 use Rattle.segclient.specs.declared.stats.Stats.{Stats}
-use Rattle.segclient.specs.Clearing.{came_to_step, Clears, ClearsSome, evicts_rest, evicts_row, IsAside, IsEffortOf, IsStep, keeps_into, looks_at, refills_aside, Step}
+use Rattle.segclient.specs.Clearing.{came_to_step, Clears, ClearsSome, evicts_rest, evicts_row, IsEffortOf, IsStep, keeps_into, looks_at, refills_aside, Step}
 use Rattle.segclient.specs.Counting.{cleared_too}
 use Rattle.segclient.specs.Entries.{IsAny}
 use Rattle.segclient.specs.PutCalls.{came_to, evicted_keys, evicts, kept_items, refilled_segments, refills}
@@ -36,33 +32,9 @@ aside_came segment refill.Held = refl
 
 -- ---- a look
 
--- where items take several rows, the pass did nothing but look
+-- the pass did nothing but look
 module _ (b : Board) (segment row told : ℕ) (p q : Pass) where
-  abbrev pub IsLook : Type 0
-  IsLook = Idles b p q × (1 ≤ told) × (HasRow segment row p → told ≡ span_in (trace q) segment row)
-
-  pub look_of : MatchBool (eqb most_span 1) ⊥ (IsAside b segment p × TellsSpan b segment row told p q) → IsLook
-  look_of is = by (eqb most_span 1) is
-    where
-      by : (one : Bool) → MatchBool one ⊥ (IsAside b segment p × MatchBool one ((told ≡ 1) × (q ≡ p)) IsLook) → IsLook
-      by true is = absurd is
-      by false is = is.1
-
-  pub told_look : eqb most_span 1 ≡ false → TellsSpan b segment row told p q → IsLook
-  told_look several is = by (eqb most_span 1) several is
-    where
-      by : (one : Bool) → one ≡ false → MatchBool one ((told ≡ 1) × (q ≡ p)) IsLook → IsLook
-      by true several is = absurd (false≢true (sym several))
-      by false several is = is
-
-  pub looks : (cutoff : Option ℕ) → eqb most_span 1 ≡ false → IsAside b segment p → TellsSpan b segment row told p q → IsStep b cutoff (looks_at segment row told) p q
-  looks cutoff several aside is = by {A = IsAside b segment p × TellsSpan b segment row told p q} (eqb most_span 1) several (aside, is)
-    where
-      by : {A : Type 0} (one : Bool) → one ≡ false → A → MatchBool one ⊥ A
-      by true several is = absurd (false≢true (sym several))
-      by false several is = is
-
-  pub look_goes : IsQuiet b p → IsLook → GoesOn b p q × ChangesNothing p q
+  pub look_goes : IsQuiet b p → TellsSpan b segment row told p q → GoesOn b p q × ChangesNothing p q
   look_goes quiet is = (goes_nowhere b p q quiet is.0.moved is.0.plain is.0.memo, does_nothing b p q quiet is.0.moved is.0.plain is.0.memo)
 
 module _ (b : Board) (cutoff : Option ℕ) where
@@ -90,7 +62,7 @@ module _ (b : Board) (cutoff : Option ℕ) where
   unasked_same steps p q none clears = subst (λ l. Clears b cutoff l p q) none clears
 
   pub step_on : (step : Step) (p q : Pass) → IsQuiet b p → IsStep b cutoff step p q → GoesOn b p q
-  step_on (looks_at segment row told) p q quiet is = (look_goes b segment row told p q quiet (look_of b segment row told p q is)).0
+  step_on (looks_at segment row told) p q quiet is = (look_goes b segment row told p q quiet is.1).0
   step_on (keeps_into segment row by into told) p q quiet is = is.2.on
   step_on (evicts_row segment row told) p q quiet is = is.1.on
   step_on (evicts_rest segment from told) p q quiet is = is.2.on
@@ -109,7 +81,7 @@ module _ (b : Board) (cutoff : Option ℕ) where
   step_comes : (step : Step) (p q : Pass) → IsQuiet b p → IsStep b cutoff step p q
       → Came (came_to_step refilled_segments step) (came_to_step kept_items step) (came_to_step evicted_keys step) p
       q
-  step_comes (looks_at segment row told) p q quiet is = let goes = look_goes b segment row told p q quiet (look_of b segment row told p q is) in unchanged_none b cutoff IsAny p q goes.0 goes.1
+  step_comes (looks_at segment row told) p q quiet is = let goes = look_goes b segment row told p q quiet is.1 in unchanged_none b cutoff IsAny p q goes.0 goes.1
   step_comes (keeps_into segment row by into told) p q quiet is = row_kept_into b cutoff IsAny segment row by into told p q is.0.0 (ap is_some is.1.1) quiet is.2
   step_comes (evicts_row segment row told) p q quiet is = row_evicted b cutoff IsAny segment row told p q is.0.0 quiet is.1
   step_comes (evicts_rest segment from told) p q quiet is = subst (λ n. Came 0 0 n p q) (rest_came segment from told) (evicted_some b cutoff IsAny segment from told p q quiet is.2)

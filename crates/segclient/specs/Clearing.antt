@@ -1,12 +1,12 @@
 -- The calls by which a put that was stored clears a segment of its pass, row by row,
 -- the newest first, and what is known of that segment between two puts.
-use Rattle.std.specs.Prelude.{◌≡◌, ◌≢◌, ℕ, zero, suc, ◌+◌, ◌*◌, ◌≤◌, ◌==◌, if◌then◌else◌, ◌||◌, Bool, true, false, MatchBool, List, [], ◌∷◌, length, sum_by, Option, Some, None}
+use Rattle.std.specs.Prelude.{◌≡◌, ◌≢◌, ℕ, zero, suc, ◌+◌, ◌≤◌, ◌==◌, ◌||◌, Bool, true, List, [], ◌∷◌, length, sum_by, Option, Some, None}
 use Rattle.std.specs.Option.{unwrap_or}
 use Rattle.std.specs.Coded.{×_prop, Unit-prop, Π_prop}
 use Rattle.std.proofs.Common.{sym, ◌∙◌}
 use Rattle.std.proofs.Props.{props}
 use Rattle.std.proofs.lemmas.Option.{same_Some}
-use Rattle.segword.specs.Words.{most_span, Shape, triple-prop}
+use Rattle.segword.specs.Words.{Shape, triple-prop}
 use Rattle.segmodel.specs.declared.answer.EvictAnswer.TheVariants as evict
 use Rattle.segmodel.specs.declared.answer.RefillAnswer.TheVariants as refill
 use Rattle.segmodel.specs.Words.{EvictAnswer, owner, RefillAnswer}
@@ -16,7 +16,6 @@ use Rattle.segevict.specs.declared.eviction.EvictRowAnswer.{EvictRowAnswer}
 use Rattle.segevict.specs.declared.eviction.EvictRowAnswer.TheVariants as evict_row
 use Rattle.segevict.specs.declared.retention.KeepRowAnswer.{KeepRowAnswer}
 use Rattle.segevict.specs.declared.retention.KeepRowAnswer.TheVariants as kept
-use Rattle.segevict.specs.Rows.{IfSeveral}
 use Rattle.segevict.specs.Words.{AreUnnamed, EvictsItem, EvictsRest, HasRow, KeepsItemInto, TellsSpan}
 use Rattle.segindex.specs.Refilling.{RefillsAside}
 use Rattle.segclient.specs.declared.segments.SourceSegment.{SourceSegment}
@@ -32,32 +31,31 @@ comes_to trace segment to zero from = from == to
 comes_to trace segment to (suc most) from =
     (from == to) || comes_to trace segment to most (from + span_in trace segment from)
 
--- It is one of the pass's own, and no item names its first rows, up to where the clearing is.
--- Where items take several rows, no item reaches over that place.
+-- It is one of the pass's own, and no item names its first rows, up to where the clearing is,
+-- or reaches over that place.
 abbrev pub IsCleared : Shape → Option SourceSegment → Pass → Type 0
 IsCleared shape None p = Unit {0}
 IsCleared shape (Some source) p =
     (owner shape source.segment ≡ number p)
     × AreUnnamed shape source.segment source.row p
-    × IfSeveral (comes_to (trace p) source.segment source.row source.row 0 ≡ true)
+    × (comes_to (trace p) source.segment source.row source.row 0 ≡ true)
 
--- where items take several rows, the item at which the clearing is takes so many
+-- the item at which the clearing is takes so many rows
 abbrev pub TakesRows : SourceSegment → ℕ → Pass → Type 0
-TakesRows source rows p = IfSeveral (
+TakesRows source rows p =
     HasRow source.segment source.row p
-    → rows ≡ span_in (trace p) source.segment source.row)
+    → rows ≡ span_in (trace p) source.segment source.row
 
 -- it isn't the segment that the pass stores into
 abbrev pub IsClearing : Shape → SourceSegment → Pass → Type 0
 IsClearing shape source p =
     IsCleared shape (Some source) p × (current_of p ≢ Some source.segment)
 
-several-prop : (one : Bool) (so : Type 0) → IsProp so → IsProp (MatchBool one (Unit {0}) so)
-several-prop true so prop = Unit-prop
-several-prop false so prop = prop
-
 own-prop : (one other : ℕ) → IsProp (one ≡ other)
 own-prop one other = hlevel props
+
+way-prop : (one other : Bool) → IsProp (one ≡ other)
+way-prop one other = hlevel props
 
 unnamed-prop : (shape : Shape) (segment from : ℕ) (p : Pass)
     → IsProp (AreUnnamed shape segment from p)
@@ -71,8 +69,7 @@ IsCleared-prop shape None p = Unit-prop
 IsCleared-prop shape (Some source) p = λ x y j. (
   own-prop (owner shape source.segment) (number p) x.0 y.0 j,
   unnamed-prop shape source.segment source.row p x.1 y.1 j,
-  several-prop (most_span == 1)
-      (comes_to (trace p) source.segment source.row source.row 0 ≡ true) (hlevel props) x.2 y.2 j,
+  way-prop (comes_to (trace p) source.segment source.row source.row 0) true x.2 y.2 j,
 )
 
 -- ---- steps
@@ -99,10 +96,9 @@ AreDone segment from p = unwrap_or (used_of p segment) 0 ≤ from
 -- A step had its answer. What is kept has at least the cutoff of the client.
 -- The rest of a segment is evicted once each used row is done.
 -- What is refilled has the deadline of a segment of the pass's own that isn't current.
--- A look is made only where items take several rows.
 abbrev pub IsStep : Board → Option ℕ → Step → Pass → Pass → Type 0
 IsStep b cutoff (looks_at segment row told) p q =
-    MatchBool (most_span == 1) (⊥) (IsAside b segment p × TellsSpan b segment row told p q)
+    IsAside b segment p × TellsSpan b segment row told p q
 IsStep b cutoff (keeps_into segment row by into told) p q =
     IsAside b segment p
     × ((least : ℕ) × (cutoff ≡ Some least) × (least ≤ by))
@@ -155,13 +151,13 @@ pub record ClearsAtMost (b : Board) (cutoff : Option ℕ) (most : ℕ) (effort :
   pub few : length steps ≤ most
   pub comes : IsEffortOf steps effort
 
--- at most so many steps in a turn: two, or where items take several rows one look more
+-- at most so many steps in a turn: a look at how many rows the item takes, and two
 abbrev pub most_steps_of_turn : ℕ
-most_steps_of_turn = if most_span == 1 then 2 else 3
+most_steps_of_turn = 3
 
--- and so many of a put, which has eight turns: 16, or 24 where items take several rows
+-- and so many of a put, which has eight turns
 abbrev pub most_steps_of_put : ℕ
-most_steps_of_put = 8 * most_steps_of_turn
+most_steps_of_put = 24
 
 -- so do the steps of a put
 abbrev pub ClearsSome : Board → Option ℕ → Effort → Pass → Pass → Type 0

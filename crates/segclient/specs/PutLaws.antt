@@ -12,7 +12,6 @@ use Rattle.segcore.specs.Mark as mark
 use Rattle.segbase.specs.Words.{Board, marked, mine, number, Pass, seen, SinceFirst}
 use Rattle.segstore.specs.Words.{GoesOn, IsBusy, memo}
 use Rattle.segwrite.specs.Words.{WasFull}
-use Rattle.segevict.specs.Rows.{IfSeveral}
 use Rattle.segevict.specs.Words.{IsInTheWay, StoodIn}
 use Rattle.segindex.specs.Words.{board_of, Index, IsBeingRead, shape_of}
 use Rattle.segclient.specs.declared.effort.Effort.{Effort}
@@ -107,16 +106,16 @@ FoundFull shape key p q =
 abbrev pub IsPutReason : Board → List ℕ → List ℕ → PutAnswer → Pass → Pass → Type 0
 IsPutReason b key value put.Stored p q = Unit {0}
 IsPutReason b key value put.NoRoom p q =
-    IfSeveral (span_of key value ≤ b.shape.rows)
+    span_of key value ≤ b.shape.rows
     → (segment : ℕ)
     → owner b.shape segment ≡ number p
     → Somewhen b (IsDenied b.shape segment) p q
 IsPutReason b key value put.BucketFull p q = Somewhen b (FoundFull b.shape key) p q
 IsPutReason b key value put.Busy p q = Somewhen b (IsBusy (bucket_of b.shape key)) p q
 
--- A put is NoRoom only if each segment of its pass couldn't be had; where items take several rows,
--- so it is of one that takes no more rows than a segment has. It is BucketFull only if its key's
--- bucket was full, and Busy only if that bucket was in the way.
+-- A put of an item that takes no more rows than a segment has is NoRoom only if each segment of its
+-- pass couldn't be had. It is BucketFull only if its key's bucket was full, and Busy only if that
+-- bucket was in the way.
 abbrev pub PutIsRefused : Type 0
 PutIsRefused = OfPut (λ i time key value told old new.
     IsPutReason (board_of i) key value told old.pass new.pass)

@@ -8,7 +8,6 @@ use Rattle.segmodel.specs.declared.request.Request.TheVariants.{Set}
 use Rattle.segmodel.specs.Words.{owner, Request}
 use Rattle.segbase.specs.Words.{Board, current_of, deadline_of, number, Pass, used_of}
 use Rattle.segstore.specs.Words.{has_room_for, is_below}
-use Rattle.segevict.specs.Rows.{IfSeveral}
 use Rattle.segstore.specs.declared.row.RowRef.{RowRef}
 use Rattle.segevict.specs.declared.eviction.EvictRowAnswer.{EvictRowAnswer}
 use Rattle.segevict.specs.Words.{EvictsItem, EvictsSegment}
@@ -77,7 +76,7 @@ pub record MakesRows (b : Board) (cutoff : Option ℕ) (deadline most rows : ℕ
   pub room : has_room_for b.shape rows q ≡ made
   pub until : made ≡ true → StoresUntil deadline q
   pub refused : made ≡ false
-      → IfSeveral (rows ≤ b.shape.rows)
+      → rows ≤ b.shape.rows
       → AreRefused b.shape (number p) arranges.calls
 
 -- By queues no call is made where so many rows are left in a segment with the deadline.
@@ -209,7 +208,7 @@ abbrev pub EndsSo : Shape → ℕ → ℕ → PutAnswer → List PutCall → Typ
 EndsSo shape pass rows put.Stored calls =
     (earlier : List PutCall) × (calls ≡ sets write.Stored ∷ earlier) × AreOpen earlier
 EndsSo shape pass rows put.NoRoom calls =
-    (IfSeveral (rows ≤ shape.rows) → AreRefused shape pass calls) × AreOpen calls
+    (rows ≤ shape.rows → AreRefused shape pass calls) × AreOpen calls
 EndsSo shape pass rows put.BucketFull calls =
     ((earlier : List PutCall) × (calls ≡ sets write.BucketFull ∷ earlier)) × AreOpen calls
 EndsSo shape pass rows put.Busy calls =

@@ -1,12 +1,11 @@
 -- What a put of a client came to.
 use Rattle.std.specs.Prelude.{◌≡◌, ◌≢◌, ◌⊎◌, ℕ, ◌/◌, ◌≤◌, Bool, true, false, is_some, List, [], length, All, min, Some}
-use Rattle.segword.specs.Words.{most_span, Shape, span_of}
+use Rattle.segword.specs.Words.{most_rows, Shape, span_of}
 use Rattle.segmodel.specs.declared.answer.WriteAnswer.TheVariants as write
 use Rattle.segmodel.specs.declared.request.Request.TheVariants.{Set}
 use Rattle.segmodel.specs.Words.{owner}
 use Rattle.segbase.specs.Words.{Board, number, Pass}
 use Rattle.segstore.specs.Words.{has_room, has_room_for, memo}
-use Rattle.segwrite.specs.Words.{or_one}
 use Rattle.segindex.specs.declared.current.CurrentAnswer.TheVariants as current_answer
 use Rattle.segindex.specs.Words.{MakesCurrent}
 use Rattle.segclient.specs.declared.member.Member.{Member}
@@ -61,8 +60,7 @@ StoredFor window p = (until : ℕ) × StoresUntil until p × IsInWindow window u
 -- It makes at most 16 sets in a row.
 -- With rows enough left in the segment that it chose, and a deadline that it asks for, it makes
 -- no room. A full bucket costs one item at most, and no segment.
--- Once it is Stored, a client with queues clears rows of another segment, by at most 16 steps,
--- or 24 where items take several rows.
+-- Once it is Stored, a client with queues clears rows of another segment, by at most 24 steps.
 -- Hold and lock are as they were, and the client counted the put, and what calls and steps came to.
 pub record PutsFor (time : ℕ) (key value : List ℕ) (told : PutAnswer) (b : Board)
     (old new : Member) : Type 0 where
@@ -103,15 +101,15 @@ pub record PutsFor (time : ℕ) (key value : List ℕ) (told : PutAnswer) (b : B
 abbrev pub Puts : List ℕ → List ℕ → PutAnswer → Board → Member → Member → Type 0
 Puts key value told b old new = PutsFor old.time_to_live key value told b old new
 
--- Room was made by these calls, and then a row is left in a segment with the deadline
--- that is asked. Where items take several rows, as many are left as the longest item takes,
--- or all of a segment that has fewer. Or it wasn't, and each segment of the pass was refused.
+-- Room was made by these calls: then as many rows as the longest item takes are left in a segment
+-- with the deadline that is asked, or all of one that has fewer. Or it wasn't, and each segment
+-- of the pass was refused.
 -- A client with queues makes no call where its current segment has this deadline and so many
 -- rows left.
 pub record MakesRoomFor (made : Bool) (b : Board) (old new : Member) : Type 0 where
   pub calls : List PutCall
   pub makes : Makes b (room_plan old.cutoff (deadline_of old)) calls old.pass new.pass
-  pub room : has_room_for b.shape (or_one (min most_span b.shape.rows)) new.pass ≡ made
+  pub room : has_room_for b.shape (min (most_rows b.limits) b.shape.rows) new.pass ≡ made
   pub deadline : made ≡ true → StoresUntil (deadline_of old) new.pass
   pub refused : made ≡ false
       → (segment : ℕ)
@@ -119,7 +117,7 @@ pub record MakesRoomFor (made : Bool) (b : Board) (old new : Member) : Type 0 wh
       → IsRefused segment calls
   pub spares : is_some old.segments.queues ≡ true
       → StoresUntil (deadline_of old) old.pass
-      → has_room_for b.shape (or_one (min most_span b.shape.rows)) old.pass ≡ true
+      → has_room_for b.shape (min (most_rows b.limits) b.shape.rows) old.pass ≡ true
       → calls ≡ []
   pub memo : memo new.pass ≡ memo old.pass
   pub stats : new.stats ≡ given_up_too calls old.stats

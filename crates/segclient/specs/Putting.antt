@@ -5,15 +5,14 @@ use Rattle.segmodel.specs.declared.answer.WriteAnswer.TheVariants as write
 use Rattle.segmodel.specs.Words.{owner}
 use Rattle.segstore.specs.declared.row.RowRef.{RowRef}
 use Rattle.segevict.specs.declared.eviction.EvictRowAnswer.{EvictRowAnswer}
-use Rattle.segevict.specs.Rows.{IfSeveral}
 use Rattle.segclient.specs.declared.put.PutAnswer.{PutAnswer}
 use Rattle.segclient.specs.declared.put.PutAnswer.TheVariants as put
 use Rattle.segclient.specs.PutCalls.{PutCall, sets, finds_own, takes_out, is_for_room}
 use Rattle.segclient.specs.PutCalls.{is_for_word, is_set, IsRefused}
 
 -- Stored by its last call, and only by that.
--- NoRoom if each segment of the pass was refused; where items take several rows, so it is
--- of one that takes no more rows than a segment has.
+-- NoRoom if each segment of the pass was refused, of an item that takes no more rows than
+-- a segment has.
 -- BucketFull by its last set: behind it the pass found no item of its own in the bucket,
 -- or an earlier set had found the bucket full. Busy if its last 16 sets were.
 abbrev pub IsPutAnswer : Shape → ℕ → ℕ → PutAnswer → List PutCall → Type 0
@@ -22,7 +21,7 @@ IsPutAnswer shape pass rows put.Stored calls =
     × (calls ≡ sets write.Stored ∷ earlier)
     × All (λ call. call ≢ sets write.Stored) earlier
 IsPutAnswer shape pass rows put.NoRoom calls =
-    IfSeveral (rows ≤ shape.rows)
+    rows ≤ shape.rows
     → (segment : ℕ)
     → owner shape segment ≡ pass
     → IsRefused segment calls

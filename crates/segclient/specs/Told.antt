@@ -1,13 +1,12 @@
 -- What a put that is Stored left, which others may be told of; and what puts add to the history.
 use Rattle.std.specs.Prelude.{◌≢◌, ℕ, ◌≤◌, Bool, true, List, min, sum_by}
-use Rattle.segword.specs.Words.{most_span}
+use Rattle.segword.specs.Words.{most_rows}
 use Rattle.segmodel.specs.declared.answer.WriteAnswer.TheVariants as write
 use Rattle.segmodel.specs.declared.request.Request.TheVariants.{Set}
 use Rattle.segmodel.specs.Words.{Request, WriteAnswer}
 use Rattle.segbase.specs.Words.{mine, number, seen, SinceFirst}
 use Rattle.segcore.specs.Event as event
 use Rattle.segwrite.specs.Words.{rows_of}
-use Rattle.segevict.specs.Rows.{IfSeveral}
 use Rattle.segindex.specs.Words.{board_of, Index, shape_of, StoresBetween}
 use Rattle.segclient.specs.declared.member.Member.{Member}
 use Rattle.segclient.specs.declared.put.PutAnswer.{PutAnswer}
@@ -50,12 +49,12 @@ RoomAdds = (i : Index) (made : Bool) (old new : Member)
     (sum_by (came_to evicted_keys) room.calls) (mine old.pass) (mine new.pass)
 
 -- A write right after room was made, at the same moment and for the same time to live, isn't NoRoom.
--- Where items take several rows, so it is of one that takes no more than the longest may take,
+-- So it is of an item that takes no more rows than the longest of the table may take,
 -- and no more than a segment has.
 abbrev pub RoomServes : Type 0
 RoomServes = (i : Index) (request : ℕ → Request) (told : WriteAnswer) (old made new : Member)
     → IsMember i old
-    → IfSeveral (rows_of (request made.clock) ≤ min most_span (shape_of i).rows)
+    → rows_of (request made.clock) ≤ min (most_rows (board_of i).limits) (shape_of i).rows
     → MakesRoomFor true (board_of i) old made
     → MakesWrite request told (board_of i) made new
     → told ≢ write.NoRoom

@@ -3,7 +3,6 @@ ghost use Rattle.std.specs.Prelude.{◌≡◌, ◌+◌, ◌<◌, ◌≤◌, ◌^
 ghost use Rattle.segbase.specs.Words.{deadline_of, number};
 ghost use Rattle.segindex.specs.Words.{board_of, shape_of};
 ghost use Rattle.segstore.specs.Words.{GoesOn, IsQuiet};
-ghost use Rattle.segwrite.specs.Words.{or_one};
 ghost use Rattle.segtally.specs.Rings.{IsOwnRing};
 ghost use Rattle.segclient.specs.Clearing.{ClearsAtMost, ClearsRow, ClearsSome, IsCleared};
 ghost use Rattle.segclient.specs.Clearing.{AreDone, IsClearing};
@@ -19,7 +18,6 @@ use crate::segments::{Segments, SourceSegment};
 use segindex::{EvictRowAnswer, Index, KeepRowAnswer, Pass, RowRef};
 use segqueues::{Queue, Queues};
 use segtally::{evicted_by, refilled_by};
-use segword::MOST_SPAN;
 
 // How a segment is cleared: the least frequency of what is kept, the moment, how many turns are
 // left, and how many rows the item takes whose turn it is.
@@ -61,9 +59,9 @@ fn turns_of(queues: &Queues) -> u32
 
 // The item of the source's row is done, which takes so many rows.
 fn next_row(source: SourceSegment, rows: u32, effort: Effort) -> ClearingTurn
-    requires fits { source.row + or_one rows < 2 ^ 32 }
+    requires fits { source.row + rows < 2 ^ 32 }
     ensures { result ≡ record {
-      source = Some (record { segment = source.segment; row = source.row + or_one rows });
+      source = Some (record { segment = source.segment; row = source.row + rows });
       is_over = false;
       effort = effort;
     } }
@@ -371,9 +369,6 @@ fn clear_row(
     ensures clears { ClearsTurn (board_of index.now) terms.least
         result.effort pass.old pass.new }
 {
-    if MOST_SPAN == 1 {
-        return clear_one_row(index, pass, queues, source, terms);
-    }
     let rows = index.span_of(pass, source.segment, source.row);
     clear_one_row(index, pass, queues, source, terms.of_rows(rows))
 }
@@ -443,8 +438,8 @@ pub(crate) fn is_due(segments: &Segments, moment: u32) -> bool
 }
 
 // Clears some rows of segments of the pass, by the queues: at most 16 calls of the index,
-// and where items take several rows, eight looks at how many. What has the cutoff's frequency
-// or a higher one can be kept.
+// and eight looks at how many rows an item takes. What has the cutoff's frequency or a higher one
+// can be kept.
 pub(crate) fn clear_some(
     index: &Index,
     pass: &mut Pass,

@@ -2,11 +2,11 @@
 //! policy.
 ghost use Rattle.std.specs.Prelude.{◌≡◌, ◌<◌, ◌^◌, ℕ, is_some, min};
 ghost use Rattle.std.specs.Int.{IsInRange};
-ghost use Rattle.segword.specs.Words.{most_span};
+ghost use Rattle.segword.specs.Words.{most_rows};
 ghost use Rattle.segbase.specs.Words.{number};
 ghost use Rattle.segindex.specs.Words.{board_of, shape_of};
 ghost use Rattle.segstore.specs.Words.{GoesOn, IsQuiet};
-ghost use Rattle.segwrite.specs.Words.{or_one, rows_of};
+ghost use Rattle.segwrite.specs.Words.{rows_of};
 ghost use Rattle.segtally.specs.Rings.{IsOwnRing};
 ghost use Rattle.segclient.specs.Clearing.{IsCleared};
 ghost use Rattle.segclient.specs.PutParts.{MakesRows, MakesRowsIfNone, most_at_last};
@@ -18,7 +18,7 @@ use crate::room::{clear_next, make_room, make_room_in_order, take_free};
 use crate::rows::rows_until;
 use crate::segments::{Order, Policy, Segments};
 use segindex::{Index, Pass};
-use segword::{MOST_SPAN, span_of_bytes};
+use segword::span_of_bytes;
 
 // Makes room by the client's policy, at this moment, for an item of any length.
 // With queues it does nothing where that room is there.
@@ -39,9 +39,10 @@ pub(crate) fn make_room_by(
         × (result.1.keys < 2 ^ 59) }
     ensures room { MakesRowsIfNone (board_of index.now) (is_some segments.old.queues)
         policy.cutoff policy.deadline (most_for_room (shape_of index.now))
-        (or_one (min most_span (shape_of index.now).rows)) result.0 result.1 pass.old pass.new }
+        (min (most_rows (board_of index.now).limits) (shape_of index.now).rows)
+        result.0 result.1 pass.old pass.new }
 {
-    let rows = (MOST_SPAN as u32).min(index.shape().rows);
+    let rows = index.limits().most_rows().min(index.shape().rows);
     if segments.queues.is_some() && rows <= rows_until(index, pass, policy.deadline) {
         return (true, Effort::none());
     }
@@ -69,7 +70,7 @@ pub(crate) fn make_room_for(
         (rows_of (request_of order.entry)) result.0 result.1 pass.old pass.new }
 {
     let rows = span_of_bytes(order.key, order.value);
-    if MOST_SPAN > 1 && index.shape().rows < rows {
+    if index.shape().rows < rows {
         return (false, Effort::none());
     }
     make_rows(index, pass, segments, order.policy, rows)
@@ -97,7 +98,7 @@ fn make_rows(
     ensures few { (result.1.refilled < 2 ^ 30) × (result.1.kept < 2 ^ 60)
         × (result.1.keys < 2 ^ 59) }
     ensures room { MakesRows (board_of index.now) policy.cutoff policy.deadline
-        (most_for_room (shape_of index.now)) (or_one rows) result.0 result.1 pass.old pass.new }
+        (most_for_room (shape_of index.now)) rows result.0 result.1 pass.old pass.new }
 {
     if take_free(index, pass, segments, policy.deadline) {
         let effort = Effort {
@@ -132,7 +133,7 @@ fn make_rows_in_queues(
         × (result.1.keys < 2 ^ 59) }
     ensures room { (rows : ℕ) → IsInRange 1 (shape_of index.now).rows rows
         → MakesRows (board_of index.now) policy.cutoff policy.deadline
-        (most_at_last (shape_of index.now)) (or_one rows) result.0 result.1 pass.old pass.new }
+        (most_at_last (shape_of index.now)) rows result.0 result.1 pass.old pass.new }
 {
     let Some(queues) = segments.queues.as_mut() else {
         return make_room(index, pass, &mut segments.ring, policy.deadline);
@@ -167,7 +168,7 @@ fn make_rows_in_turn(
     ensures few { (result.1.refilled < 2 ^ 30) × (result.1.kept < 2 ^ 60)
         × (result.1.keys < 2 ^ 59) }
     ensures room { MakesRows (board_of index.now) policy.cutoff policy.deadline
-        (most_at_last (shape_of index.now)) (or_one rows) result.0 result.1 pass.old pass.new }
+        (most_at_last (shape_of index.now)) rows result.0 result.1 pass.old pass.new }
 {
     let (is_made, first) = make_room(index, pass, &mut segments.ring, policy.deadline);
     let Some(least) = policy.cutoff else {

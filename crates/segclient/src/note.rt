@@ -93,7 +93,7 @@ pub fn what_a_put_adds()
 
 /// Right after `make_room` returned true, no write has too little room: the segment that the client
 /// then stores into has a row left, and a deadline in the item's time to live.
-/// Where items take several rows, so it is of one that takes no more rows than a segment has.
+/// So it is of an item that takes no more rows than the longest may take, and than a segment has.
 /// This function does nothing: its contract is the law.
 pub fn what_room_is_made_for()
     ensures { RoomServes }

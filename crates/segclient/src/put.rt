@@ -29,7 +29,7 @@ pub enum PutAnswer {
     /// No segment of the client could be refilled: in each somebody was reading
     /// or held an item, or others were at work in the bucket of a key of it.
     /// Or the items that were kept used up the one that was refilled, and then no other could be.
-    /// Where items take several rows, the item may also take more of them than a segment has.
+    /// Or the item takes more rows than a segment has.
     NoRoom,
     /// No word of the bucket is left for a new key. The client had no item of its own there that it
     /// could evict, or another thread took the word of the one that it evicted.

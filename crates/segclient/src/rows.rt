@@ -3,39 +3,28 @@ ghost use Rattle.std.specs.Prelude.{◌≡◌, ◌+◌, ◌<◌, ◌≤◌, ◌^
 ghost use Rattle.std.specs.Int.{IsInRange};
 ghost use Rattle.segindex.specs.Words.{shape_of};
 ghost use Rattle.segstore.specs.Words.{has_room, has_room_for};
-ghost use Rattle.segwrite.specs.Words.{or_one};
 ghost use Rattle.segclient.specs.PutCalls.{StoresUntil};
 
 use segindex::{Index, Pass};
-use segword::MOST_SPAN;
 
 // The last row of an item that takes so many from this one on. The queues know an item by it.
 #[inline(always)]
 pub(crate) fn last_of(first: u32, rows: u32) -> u32 {
-    if MOST_SPAN == 1 {
-        return first;
-    }
     first.saturating_add(rows.saturating_sub(1))
 }
 
 // The row behind an item that takes so many from this one on.
 #[inline(always)]
 pub(crate) fn row_behind(first: u32, rows: u32) -> u32
-    requires fits { first + or_one rows < 2 ^ 32 }
-    ensures { result ≡ first + or_one rows }
+    requires fits { first + rows < 2 ^ 32 }
+    ensures { result ≡ first + rows }
 {
-    if MOST_SPAN == 1 {
-        return first + 1;
-    }
     first + rows
 }
 
 // Whether so many rows of a segment are left, of which these are used.
 #[inline(always)]
 pub(crate) fn are_left(index: &Index, used: u32, rows: u32) -> bool {
-    if MOST_SPAN == 1 {
-        return used < index.shape().rows;
-    }
     rows <= index.shape().rows.saturating_sub(used)
 }
 

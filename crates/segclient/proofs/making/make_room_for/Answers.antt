@@ -1,5 +1,4 @@
-use Rattle.std.proofs.Common.{◌<◌, ap, ne_eqb, subst, arith}
-use Rattle.segword.specs.Words.{most_span}
+use Rattle.std.proofs.Common.{◌<◌, ap, subst, arith}
 use Rattle.segindex.specs.Words.{board_of}
 use Rattle.segwrite.specs.Words.{rows_of}
 use Rattle.segclient.specs.PutParts.{most_for_room, request_of}
@@ -12,7 +11,6 @@ returns-then-shape-rows-clause-room c =
     let policy = c.args.order.policy in
     let rows = c.span_of_bytes-rows.ensures.rows in
     let long = c.if-shape-rows.true in
-    let several = c.if-this-gt-MOST_SPAN.true in
     let shape = ap (λ s. s.rows) c.shape.ensures in
-    room_too_long b policy.cutoff policy.deadline (most_for_room b.shape) (rows_of (request_of c.args.order)) c.none.result c.args.pass.now (ne_eqb most_span 1 (λ one. omega (arith, one, several)))
+    room_too_long b policy.cutoff policy.deadline (most_for_room b.shape) (rows_of (request_of c.args.order)) c.none.result c.args.pass.now
     (subst (λ n. b.shape.rows < n) rows (omega (arith, long, shape))) c.none.ensures

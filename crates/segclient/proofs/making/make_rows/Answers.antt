@@ -1,10 +1,8 @@
 use Rattle.std.proofs.Common.{None, true, sym, arith}
 use Rattle.segindex.specs.Words.{board_of}
-use Rattle.segwrite.specs.Words.{or_one}
 use Rattle.segevict.proofs.RowsOut.{goes_then}
 use Rattle.segclient.specs.PutParts.{effort_from, most_at_last, most_for_room}
 use Rattle.segclient.proofs.Calls.{arranges_wider}
-use Rattle.segclient.proofs.Left.{one_range}
 use Rattle.segclient.proofs.Order.{none_more}
 use Rattle.segclient.proofs.Rooms.{room_later, room_whole, room_wider}
 use Rattle.segclient.proofs.making.make_rows.Goals as goal
@@ -15,7 +13,7 @@ returns-then-take_free-clause-room c =
     let p = c.args.pass.now in
     let q = c.take_free.new.pass in
     room_wider b c.args.policy.cutoff c.args.policy.deadline 1 (most_for_room b.shape) true (effort_from 1 0 0) p q (omega arith)
-    (room_whole b None c.args.policy.deadline 1 (or_one c.args.rows) true (effort_from 1 0 0) p q (one_range c.args.rows b.shape.rows c.requires.fits)
+    (room_whole b None c.args.policy.deadline 1 c.args.rows true (effort_from 1 0 0) p q c.requires.fits
     (λ made. c.take_free.ensures.afresh c.if-take_free.true) c.if-take_free.ensures.takes)
 
 pub returns-then-is_some-clause-on : goal.returns-then-is_some-clause-on

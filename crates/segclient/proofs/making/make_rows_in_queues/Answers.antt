@@ -1,10 +1,8 @@
 use Rattle.std.proofs.Common.{None, true, arith}
 use Rattle.segindex.specs.Words.{board_of}
-use Rattle.segwrite.specs.Words.{or_one}
 use Rattle.segevict.proofs.RowsOut.{goes_then}
 use Rattle.segclient.specs.PutParts.{most_at_last, most_in_turn}
 use Rattle.segclient.proofs.Calls.{arranges_wider}
-use Rattle.segclient.proofs.Left.{one_range}
 use Rattle.segclient.proofs.Rooms.{room_again, room_whole, room_wider}
 use Rattle.segclient.proofs.making.make_rows_in_queues.Goals as goal
 
@@ -15,7 +13,7 @@ returns-in_default-clause-room c = λ rows range.
     let room = c.make_room in
     let turn = most_in_turn b.shape in
     room_wider b c.args.policy.cutoff c.args.policy.deadline turn (most_at_last b.shape) room.result.0 room.result.1 p room.new.pass (omega arith)
-    (room_whole b None c.args.policy.deadline turn (or_one rows) room.result.0 room.result.1 p room.new.pass (one_range rows b.shape.rows range) room.ensures.afresh room.ensures.room)
+    (room_whole b None c.args.policy.deadline turn rows room.result.0 room.result.1 p room.new.pass range room.ensures.afresh room.ensures.room)
 
 pub returns-then-is_made-clause-room : goal.returns-then-is_made-clause-room
 returns-then-is_made-clause-room c = λ rows range.
@@ -24,7 +22,7 @@ returns-then-is_made-clause-room c = λ rows range.
     let first = c.make_room_in_order-is_made in
     let turn = most_in_turn b.shape in
     room_wider b c.args.policy.cutoff c.args.policy.deadline turn (most_at_last b.shape) true first.result.1 p first.new.pass (omega arith)
-    (room_whole b None c.args.policy.deadline turn (or_one rows) true first.result.1 p first.new.pass (one_range rows b.shape.rows range)
+    (room_whole b None c.args.policy.deadline turn rows true first.result.1 p first.new.pass range
     (λ made. first.ensures.afresh c.if-is_made.true) (first.ensures.room c.if-is_made.true))
 
 pub returns-clause-on : goal.returns-clause-on
@@ -43,4 +41,4 @@ returns-clause-room c = λ rows range.
     let wide = arranges_wider b cutoff deadline turn first.result.1 p first.new.pass first.ensures.arranges in
     room_again b cutoff deadline turn turn (most_at_last b.shape) last.result.0 first.result.1 last.result.1 c.plus.result p first.new.pass last.new.pass
     (omega arith) c.plus.ensures first.ensures.on.same wide.0
-    (room_whole b None deadline turn (or_one rows) last.result.0 last.result.1 first.new.pass last.new.pass (one_range rows b.shape.rows range) last.ensures.afresh last.ensures.room)
+    (room_whole b None deadline turn rows last.result.0 last.result.1 first.new.pass last.new.pass range last.ensures.afresh last.ensures.room)

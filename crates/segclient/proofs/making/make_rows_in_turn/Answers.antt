@@ -1,10 +1,8 @@
 use Rattle.std.proofs.Common.{◌+◌, None, Some, true, sym, ◌∙◌, subst, arith}
 use Rattle.segindex.specs.Words.{board_of}
-use Rattle.segwrite.specs.Words.{or_one}
 use Rattle.segevict.proofs.RowsOut.{goes_then}
 use Rattle.segclient.specs.PutParts.{MakesRows, most_at_last, most_in_turn}
 use Rattle.segclient.proofs.Calls.{arranges_plus, arranges_wider}
-use Rattle.segclient.proofs.Left.{one_few, one_range, room_for_fewer}
 use Rattle.segclient.proofs.Rooms.{room_again, room_left, room_whole, room_wider}
 use Rattle.segclient.proofs.making.make_rows_in_turn.Goals as goal
 
@@ -15,8 +13,8 @@ returns-in_default-clause-room c =
     let first = c.make_room-is_made in
     let turn = most_in_turn b.shape in
     room_wider b c.args.policy.cutoff c.args.policy.deadline turn (most_at_last b.shape) first.result.0 first.result.1 p first.new.pass (omega arith)
-    (room_whole b None c.args.policy.deadline turn (or_one c.args.rows) first.result.0 first.result.1 p first.new.pass
-    (one_range c.args.rows b.shape.rows c.requires.fits) first.ensures.afresh first.ensures.room)
+    (room_whole b None c.args.policy.deadline turn c.args.rows first.result.0 first.result.1 p first.new.pass
+    c.requires.fits first.ensures.afresh first.ensures.room)
 
 pub returns-then-not-is_made-clause-room : goal.returns-then-not-is_made-clause-room
 returns-then-not-is_made-clause-room c =
@@ -24,10 +22,10 @@ returns-then-not-is_made-clause-room c =
     let p = c.args.pass.now in
     let first = c.make_room-is_made in
     let turn = most_in_turn b.shape in
-    subst (λ made. MakesRows b c.args.policy.cutoff c.args.policy.deadline (most_at_last b.shape) (or_one c.args.rows) made first.result.1 p first.new.pass) c.if-not-is_made.true
+    subst (λ made. MakesRows b c.args.policy.cutoff c.args.policy.deadline (most_at_last b.shape) c.args.rows made first.result.1 p first.new.pass) c.if-not-is_made.true
     (room_wider b c.args.policy.cutoff c.args.policy.deadline turn (most_at_last b.shape) first.result.0 first.result.1 p first.new.pass (omega arith)
-    (room_whole b None c.args.policy.deadline turn (or_one c.args.rows) first.result.0 first.result.1 p first.new.pass
-    (one_range c.args.rows b.shape.rows c.requires.fits) first.ensures.afresh first.ensures.room))
+    (room_whole b None c.args.policy.deadline turn c.args.rows first.result.0 first.result.1 p first.new.pass
+    c.requires.fits first.ensures.afresh first.ensures.room))
 
 pub returns-then-rows-rows_until-clause-on : goal.returns-then-rows-rows_until-clause-on
 returns-then-rows-rows_until-clause-on c =
@@ -47,11 +45,11 @@ returns-then-rows-rows_until-clause-room c =
     let low = c.requires.fits.0 in
     let enough = c.if-rows-rows_until.true in
     let wide = arranges_wider b least deadline turn first.result.1 p first.new.pass first.ensures.room.arranges in
-    subst (λ cutoff. MakesRows b cutoff deadline (most_at_last b.shape) (or_one rows) true c.plus-effort.result p cleared.new.pass) (sym c.in-Some.is)
+    subst (λ cutoff. MakesRows b cutoff deadline (most_at_last b.shape) rows true c.plus-effort.result p cleared.new.pass) (sym c.in-Some.is)
     (room_left b least deadline most (most_at_last b.shape) c.plus-effort.result p cleared.new.pass (omega arith)
     (arranges_plus b least deadline turn (b.shape.rows + 1) most first.result.1 cleared.result c.plus-effort.result
     p first.new.pass cleared.new.pass (omega arith) c.plus-effort.ensures wide.0 (cleared.ensures.clears deadline))
-    (room_for_fewer b.shape (or_one rows) rows cleared.new.pass (one_few rows low).1 (c.rows_until.ensures.left rows (low, enough)))
+    (c.rows_until.ensures.left rows (low, enough))
     (cleared.ensures.until deadline (first.ensures.room.until c.if-not-is_made.false)))
 
 pub returns-clause-on : goal.returns-clause-on
@@ -73,11 +71,11 @@ returns-clause-room c =
     let deadline = c.args.policy.deadline in
     let turn = most_in_turn b.shape in
     let most = turn + (b.shape.rows + 1) in
-    let rows = or_one c.args.rows in
+    let rows = c.args.rows in
     let wide = arranges_wider b least deadline turn first.result.1 p first.new.pass first.ensures.room.arranges in
     subst (λ cutoff. MakesRows b cutoff deadline (most_at_last b.shape) rows last.result.0 c.plus.result p last.new.pass) (sym c.in-Some.is)
     (room_again b least deadline most turn (most_at_last b.shape) last.result.0 c.plus-effort.result last.result.1
     c.plus.result p cleared.new.pass last.new.pass (omega arith) c.plus.ensures (cleared.ensures.on.same ∙ first.ensures.on.same)
     (arranges_plus b least deadline turn (b.shape.rows + 1) most first.result.1 cleared.result c.plus-effort.result
     p first.new.pass cleared.new.pass (omega arith) c.plus-effort.ensures wide.0 (cleared.ensures.clears deadline))
-    (room_whole b None deadline turn rows last.result.0 last.result.1 cleared.new.pass last.new.pass (one_range c.args.rows b.shape.rows c.requires.fits) last.ensures.afresh last.ensures.room))
+    (room_whole b None deadline turn rows last.result.0 last.result.1 cleared.new.pass last.new.pass c.requires.fits last.ensures.afresh last.ensures.room))

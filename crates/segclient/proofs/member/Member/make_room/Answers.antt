@@ -1,13 +1,12 @@
-use Rattle.std.proofs.Common.{◌≤◌, refl, ◌∙◌, subst, arith}
+use Rattle.std.proofs.Common.{refl, ◌∙◌, subst, arith}
 use Rattle.std.specs.Prelude.{is_some, min}
-use Rattle.segword.specs.Words.{most_span}
+use Rattle.segword.specs.Words.{most_rows}
 use Rattle.segindex.specs.Words.{board_of}
-use Rattle.segwrite.specs.Words.{or_one}
 use Rattle.segclient.specs.PutParts.{MakesRowsIfNone, most_for_room}
 use Rattle.segclient.specs.Puts.{deadline_of}
 use Rattle.segclient.proofs.Added.{counted_too, room_memo}
 use Rattle.segclient.proofs.Few.{room_few}
-use Rattle.segclient.proofs.Left.{if_several, most_few}
+use Rattle.segclient.proofs.Left.{most_few}
 use Rattle.segclient.proofs.member.Member.make_room.Goals as goal
 
 pub returns-clause-makes : goal.returns-clause-makes
@@ -15,7 +14,7 @@ returns-clause-makes c =
     let old = c.args.self.now in
     let b = board_of c.args.index.now in
     let room = c.make_room_by-is_made in
-    let rows = or_one (min most_span b.shape.rows) in
+    let rows = min (most_rows b.limits) b.shape.rows in
     let queued = is_some old.segments.queues in
     let made = subst (λ policy. MakesRowsIfNone b queued policy.cutoff policy.deadline (most_for_room b.shape) rows room.result.0 room.result.1 old.pass room.new.pass)
     c.policy-policy.ensures room.ensures.room in
@@ -25,7 +24,7 @@ returns-clause-makes c =
       makes = room_made.arranges.makes;
       room = room_made.room;
       deadline = room_made.until;
-      refused = λ none. room_made.refused none (if_several (rows ≤ b.shape.rows) (λ several. most_few b.shape.rows c.requires.member.0.pass.valid.0.1.0));
+      refused = λ none. room_made.refused none (most_few b.limits b.shape.rows);
       spares = made.1;
       memo = room_memo b old.cutoff (deadline_of old) room_made.arranges.calls old.pass room.new.pass c.requires.member.0 room_made.arranges.makes;
       stats = c.count_effort.ensures ∙ counted_too room_made.arranges.calls room.result.1 old.stats room_made.arranges.comes;
