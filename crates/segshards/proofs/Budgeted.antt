@@ -8,12 +8,11 @@ use Rattle.segword.specs.declared.row.TheConstants.{ROW_WORDS}
 use Rattle.segword.specs.declared.shape.ShapeFault.{ShapeFault}
 use Rattle.segword.specs.Shape.{IsValid, word_count}
 use Rattle.segword.specs.Words.{Shape}
-use Rattle.segshards.specs.Budget.{bytes_of, clients_bytes, IsPlanOf, IsPlanWithin, IsShapeFor, TakesOver}
-use Rattle.segshards.specs.declared.budget.TheConstants.{MOST_ITEMS}
+use Rattle.segshards.specs.Budget.{bytes_of, clients_bytes, IsPlanOf, IsPlanWithin, IsShapeFor, most_items, TakesOver}
 use Rattle.segshards.specs.declared.plan.ShardPlan.{ShardPlan}
 
 -- a shard with the most keys takes more than 2 ^ 25 bytes
-large_words : (threads : ℕ) (shape : Shape) → IsShapeFor MOST_ITEMS threads shape → 4194304 ≤ word_count shape
+large_words : (threads : ℕ) (shape : Shape) → IsShapeFor most_items threads shape → 4194304 ≤ word_count shape
 large_words threads shape is =
     let rows = is.room.rows in
     let spread : shape.passes * shape.segments_each * (1 + ROW_WORDS * shape.rows)
@@ -21,7 +20,7 @@ large_words threads shape is =
     omega arith in
     omega (arith, rows, spread)
 
-large_bytes : (threads count : ℕ) (shape : Shape) → IsShapeFor MOST_ITEMS threads shape
+large_bytes : (threads count : ℕ) (shape : Shape) → IsShapeFor most_items threads shape
     → (count + 1) * 33554432 ≤ bytes_of shape count
 large_bytes threads count shape is =
     let words = large_words threads shape is in
@@ -96,8 +95,8 @@ module _ (bytes threads count : ℕ) (some : 1 ≤ count) (few : count ≤ 16384
     full = full is.full;
   }
     where
-      full : (is.each ≡ MOST_ITEMS) ⊎ TakesOver bytes threads (is.each + 1) plan.count
-          → ((is.each ≡ MOST_ITEMS) × (plan.count ≡ 16384)) ⊎ TakesOver bytes threads (is.each + 1) plan.count
+      full : (is.each ≡ most_items) ⊎ TakesOver bytes threads (is.each + 1) plan.count
+          → ((is.each ≡ most_items) × (plan.count ≡ 16384)) ⊎ TakesOver bytes threads (is.each + 1) plan.count
       full (inr over) = inr over
       full (inl most) = inl (most, all enough)
         where
@@ -122,8 +121,8 @@ module _ (bytes threads count : ℕ) (some : 1 ≤ count) (few : count ≤ 16384
     full = full is.full;
   }
     where
-      full : (is.each ≡ MOST_ITEMS) ⊎ TakesOver bytes threads (is.each + 1) plan.count
-          → ((is.each ≡ MOST_ITEMS) × (plan.count ≡ 16384)) ⊎ TakesOver bytes threads (is.each + 1) plan.count
+      full : (is.each ≡ most_items) ⊎ TakesOver bytes threads (is.each + 1) plan.count
+          → ((is.each ≡ most_items) × (plan.count ≡ 16384)) ⊎ TakesOver bytes threads (is.each + 1) plan.count
       full (inr more) = inr more
       full (inl most) =
           let large = large_bytes threads plan.count plan.shape

@@ -1,16 +1,15 @@
 -- How many bytes a cache takes, and how large one is that may take a number of bytes.
-use Rattle.std.specs.Prelude.{◌≡◌, ℕ, ◌+◌, ◌*◌, ◌<◌, ◌≤◌, ◌⊎◌, List, All, length}
+use Rattle.std.specs.Prelude.{◌≡◌, ℕ, ◌+◌, ◌*◌, ◌/◌, ◌<◌, ◌≤◌, ◌⊎◌, List, All, length}
 use Rattle.std.specs.Int.{div_ceil, IsInRange}
 use Rattle.segword.specs.declared.shape.ShapeFault.{ShapeFault}
 use Rattle.segword.specs.declared.shape.ShapeFault.TheVariants.{BadPasses, TooLarge}
 use Rattle.segword.specs.Shape.{word_count}
 use Rattle.segword.specs.Words.{Shape}
 use Rattle.segindex.specs.Words.{Index, shape_of}
-use Rattle.segshards.specs.declared.budget.TheConstants.{MOST_ITEMS}
-use Rattle.segshards.specs.declared.items.TheConstants.{MEAN_ROWS}
+use Rattle.segshards.specs.declared.plan.TheConstants.{MOST_KEYS}
 use Rattle.segshards.specs.declared.plan.ShardPlan.{ShardPlan}
 use Rattle.segshards.specs.declared.shard.TheConstants.{MOST_SHARDS}
-use Rattle.segshards.specs.Items.{IsShapeForItems}
+use Rattle.segshards.specs.Items.{IsShapeForItems, mean_rows}
 
 -- what the clients of a shard keep beside its table: for each segment 64 bytes, 3 for each row
 -- and one for each eight rows, and 4,096 each
@@ -23,9 +22,13 @@ clients_bytes shape =
 abbrev pub bytes_of : Shape → ℕ → ℕ
 bytes_of shape count = (count + 1) * (8 * word_count shape) + count * clients_bytes shape
 
+-- so many keys of the mean length a shard has at most
+abbrev pub most_items : ℕ
+most_items = MOST_KEYS / mean_rows
+
 -- a shard of the shape has room for so many keys of the mean length, and a pass for each thread
 abbrev pub IsShapeFor : ℕ → ℕ → Shape → Type 0
-IsShapeFor keys threads shape = IsShapeForItems keys MEAN_ROWS threads shape
+IsShapeFor keys threads shape = IsShapeForItems keys mean_rows threads shape
 
 -- so many shards with room for so many keys each take over so many bytes
 abbrev pub TakesOver : ℕ → ℕ → ℕ → ℕ → Type 0
@@ -40,7 +43,7 @@ pub record IsPlanWithin (bytes threads : ℕ) (plan : ShardPlan) : Type 0 where
   pub some : 1 ≤ plan.count
   pub few : plan.count ≤ MOST_SHARDS
   pub within : bytes_of plan.shape plan.count ≤ bytes
-  pub full : ((each ≡ MOST_ITEMS) × (plan.count ≡ MOST_SHARDS))
+  pub full : ((each ≡ most_items) × (plan.count ≡ MOST_SHARDS))
       ⊎ TakesOver bytes threads (each + 1) plan.count
 
 -- The same for so many shards, which can have the most keys each.
@@ -49,7 +52,7 @@ pub record IsPlanOf (bytes threads count : ℕ) (plan : ShardPlan) : Type 0 wher
   pub shape : IsShapeFor each threads plan.shape
   pub is : plan.count ≡ count
   pub within : bytes_of plan.shape plan.count ≤ bytes
-  pub full : (each ≡ MOST_ITEMS) ⊎ TakesOver bytes threads (each + 1) plan.count
+  pub full : (each ≡ most_items) ⊎ TakesOver bytes threads (each + 1) plan.count
 
 -- The same of shards that are there.
 pub record AreWithin (bytes threads : ℕ) (indexes : List Index) : Type 0 where

@@ -1,20 +1,27 @@
 -- Caches for items of several rows: how large one is for so many items of a mean length.
-use Rattle.std.specs.Prelude.{◌≡◌, ℕ, ◌+◌, ◌*◌, ◌^◌, ◌<◌, ◌≤◌, ◌==◌, ◌⊎◌, if◌then◌else◌, List, All, length, max, min}
+use Rattle.std.specs.Prelude.{◌≡◌, ℕ, ◌+◌, ◌*◌, ◌^◌, ◌<◌, ◌≤◌, ◌⊎◌, List, All, length, max, min}
 use Rattle.std.specs.Int.{div_ceil, IsInRange}
 use Rattle.segword.specs.declared.row.TheConstants.{ROW_WORDS}
 use Rattle.segword.specs.declared.shape.ShapeFault.{ShapeFault}
 use Rattle.segword.specs.declared.shape.ShapeFault.TheVariants.{BadPasses, TooLarge}
-use Rattle.segword.specs.declared.spans.TheConstants.{MOST_SPAN}
 use Rattle.segword.specs.Shape.{HasBucketsFor, IsValid, word_count}
-use Rattle.segword.specs.Words.{Shape}
+use Rattle.segword.specs.Words.{longest, most_rows, Shape}
 use Rattle.segindex.specs.Words.{Index, shape_of}
 use Rattle.segshards.specs.declared.plan.ShardPlan.{ShardPlan}
 use Rattle.segshards.specs.declared.shard.TheConstants.{MOST_SHARDS}
 
+-- how many rows an item takes at most: its key and value are no longer than the longest
+abbrev pub most_of_item : ℕ
+most_of_item = most_rows longest
+
+-- so many rows an item is taken to have where nobody says how long items are
+abbrev pub mean_rows : ℕ
+mean_rows = min most_of_item 4
+
 -- how many rows an item takes of so many bytes of key and value: a row has 64 bytes,
--- and eight of the first one's are no such bytes
+-- and eight of the first one's are no such bytes; and no more than the longest takes
 abbrev pub rows_of_mean : ℕ → ℕ
-rows_of_mean bytes = if MOST_SPAN == 1 then 1 else div_ceil (min bytes 4088 + 8) 64
+rows_of_mean bytes = min (div_ceil (min bytes 4088 + 8) 64) most_of_item
 
 -- There are two words of chains for each item, and rows for each one twice, in at least 64 segments
 -- of each pass. The table has few words more: with ROW_WORDS 8 at most 27 for each item of one row,

@@ -2,10 +2,10 @@
 ghost use Rattle.std.specs.Prelude.{◌≡◌, ◌+◌, ◌*◌, ◌^◌, ◌<◌, ◌≤◌, ◌⊎◌, IfErr, IfOk, IfSome, IsNone};
 ghost use Rattle.std.specs.Int.{IsInRange};
 ghost use Rattle.segword.specs.Words.{IsValid};
-ghost use Rattle.segshards.specs.Budget.{bytes_of, IsShapeFor, TakesOver};
+ghost use Rattle.segshards.specs.Budget.{bytes_of, IsShapeFor, most_items, TakesOver};
 ghost use Rattle.segshards.specs.Budget.{IsFaultOfBudget, IsPlanOf, IsPlanWithin};
 
-use crate::items::{MEAN_ROWS, shape_for_items};
+use crate::items::{mean_rows, shape_for_items};
 use crate::plan::{MOST_KEYS, ShardPlan};
 use crate::shard::MOST_SHARDS;
 use segclient::{Shape, ShapeFault};
@@ -42,15 +42,19 @@ fn shards_within(bytes: u64) -> u32
 }
 
 // So many keys a shard has at most, if their items have the mean length.
-const MOST_ITEMS: u32 = MOST_KEYS / MEAN_ROWS;
+fn most_items() -> u32
+    ensures { result ≡ most_items }
+{
+    MOST_KEYS / mean_rows()
+}
 
 // A shape for so many keys, which few enough keys have.
 fn shape_for(keys: u32, threads: u32) -> Shape
-    requires few { keys ≤ MOST_ITEMS }
+    requires few { keys ≤ most_items }
     requires threads { IsInRange 1 64 threads }
     ensures { IsShapeFor keys threads result }
 {
-    shape_for_items(keys, MEAN_ROWS, threads)
+    shape_for_items(keys, mean_rows(), threads)
 }
 
 // How many bytes a cache takes at most, from its opening on.
@@ -81,7 +85,7 @@ fn largest_plan(bytes: u64, threads: u32, count: u32) -> Option<ShardPlan>
         return None;
     }
     let mut keys = 0;
-    let mut over = MOST_ITEMS + 1;
+    let mut over = most_items() + 1;
     while over - keys > 1 {
         let middle = keys + (over - keys) / 2;
         let tried = shape_for(middle, threads);

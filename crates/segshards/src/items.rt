@@ -1,24 +1,34 @@
 //! How many rows items take on the mean, and shapes with room for items of so many rows.
 ghost use Rattle.std.specs.Prelude.{◌≡◌, ◌*◌, ◌≤◌};
 ghost use Rattle.std.specs.Int.{IsInRange};
-ghost use Rattle.segshards.specs.Items.{IsShapeForItems, rows_of_mean};
+ghost use Rattle.segshards.specs.Items.{IsShapeForItems, mean_rows, most_of_item, rows_of_mean};
 
 use segclient::Shape;
-use segword::MOST_SPAN;
+use segword::Limits;
 
-/// So many rows an item is taken to have where nobody says how long items are.
-pub(crate) const MEAN_ROWS: u32 = if MOST_SPAN == 1 { 1 } else { 4 };
+// How many rows an item takes at most.
+fn most_of_item() -> u32
+    ensures { result ≡ most_of_item }
+{
+    Limits::longest().most_rows()
+}
+
+/// So many rows an item is taken to have where nobody says how long items are: four, where an
+/// item can have as many.
+pub(crate) fn mean_rows() -> u32
+    ensures { result ≡ mean_rows }
+{
+    most_of_item().min(4)
+}
 
 /// How many rows an item takes whose key and value have so many bytes together, about: one for
-/// each 64 bytes, of which eight have the lengths. It is 64 at most.
+/// each 64 bytes, of which eight have the lengths. It is 64 at most, and no more than the longest
+/// item takes.
 pub fn rows_of_mean(bytes: u32) -> u32
     ensures rows { result ≡ rows_of_mean bytes }
     ensures few { IsInRange 1 64 result }
 {
-    if MOST_SPAN == 1 {
-        return 1;
-    }
-    (bytes.min(4_088) + 8).div_ceil(64)
+    (bytes.min(4_088) + 8).div_ceil(64).min(most_of_item())
 }
 
 // A shape in which so many items have room to spare that take so many rows each.
