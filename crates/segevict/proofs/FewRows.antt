@@ -10,7 +10,7 @@ use Rattle.segcore.proofs.Standing.{coherent}
 use Rattle.segcore.proofs.Within.{stands_within}
 use Rattle.segbase.specs.Words.{Board, IsPassOf, Pass, seen, trace}
 use Rattle.segevict.specs.Moving.{SeesRow}
-use Rattle.segevict.proofs.Longest.{spans_few}
+use Rattle.segword.proofs.Longest.{spans_few}
 
 -- ---- what stands, and what a pass saw of a row
 

@@ -1,6 +1,5 @@
 pub mod Own
 pub mod Walking
-pub mod Longest
 pub mod Tiles
 pub mod Unnamed
 pub mod Seeking

@@ -12,7 +12,7 @@ use Rattle.segcore.proofs.Spans.{alone_span, same_after}
 use Rattle.segcore.proofs.Standing.{coherent, link_words, now_linked, now_moved, relinks, row_itself}
 use Rattle.segcore.proofs.Within.{began_within, stands_within}
 use Rattle.segstore.proofs.Held.{IsPairOf}
-use Rattle.segevict.proofs.Longest.{spans_few}
+use Rattle.segword.proofs.Longest.{spans_few}
 
 -- how many rows the item has whose first row this is
 abbrev pub rows_at : List Event → ℕ → ℕ → ℕ

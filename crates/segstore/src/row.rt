@@ -1,5 +1,5 @@
 //! Rows that a pass may read, word by word.
-ghost use Rattle.std.specs.Prelude.{◌≡◌, ℕ, ◌+◌, ◌<◌, ◌≤◌, ◌↔◌, List, IfSome, IsSome, Some};
+ghost use Rattle.std.specs.Prelude.{◌≡◌, ℕ, ◌<◌, ◌↔◌, List, IfSome, IsSome, Some};
 ghost use Rattle.std.specs.Prelude.{slice_index};
 ghost use Rattle.segword.specs.Words.{head_width, IsKey, IsValue};
 ghost use Rattle.segcore.specs.Words.{Holds, row_after};

@@ -1,6 +1,5 @@
 //! The words of an item, by their places in it, and how many rows it takes.
-ghost use Rattle.std.specs.Prelude.{◌≡◌, ◌==◌, ℕ, ◌+◌, ◌-◌, ◌*◌, ◌^◌, ◌<◌, ◌≤◌, slice_index};
-ghost use Rattle.std.specs.Prelude.{if◌then◌else◌};
+ghost use Rattle.std.specs.Prelude.{◌≡◌, ℕ, ◌+◌, ◌-◌, ◌*◌, ◌^◌, ◌<◌, ◌≤◌, slice_index};
 ghost use Rattle.segword.specs.RowLayout.{value_length};
 ghost use Rattle.segword.specs.Words.{place_behind, row_behind, row_width};
 ghost use Rattle.segcore.specs.declared.cell.Cell.TheVariants.{OfRow};

@@ -1,7 +1,7 @@
 -- The words of this crate that others use, from one place.
 use Rattle.std.specs.Prelude.{ℕ}
 use Rattle.segword.specs.declared.row.TheConstants.{HEAD_WORDS, ROW_WORDS}
-use Rattle.segword.specs.declared.spans.TheConstants.{ITEM_WORDS, MOST_SPAN}
+use Rattle.segword.specs.declared.spans.TheConstants.{ITEM_WORDS}
 use Rattle.segword.specs.declared.value.TheConstants.{VALUE_BYTES, VALUE_WORDS}
 pub use Rattle.segword.specs.Bytes.{IsKey, IsValue}
 pub use Rattle.segword.specs.ChainWord.{chain_word, IsChainWord}
@@ -49,12 +49,9 @@ Shape = declared_shape.Shape
 abbrev pub row_width : ℕ
 row_width = ROW_WORDS
 
--- how many words the longest item has, in whole rows, and how many rows that are
+-- how many words the longest item has, in whole rows
 abbrev pub item_width : ℕ
 item_width = ITEM_WORDS
-
-abbrev pub most_span : ℕ
-most_span = MOST_SPAN
 
 abbrev pub head_width : ℕ
 head_width = HEAD_WORDS

@@ -1,5 +1,5 @@
 //! A key in the form in which rows hold it, for comparing it with rows word by word.
-ghost use Rattle.std.specs.Prelude.{◌≡◌, ◌↔◌, ◌<◌, ◌≤◌, ◌==◌, ◌+◌, IsTrue, List, ℕ, take, length, slice_index, if◌then◌else◌};
+ghost use Rattle.std.specs.Prelude.{◌≡◌, ◌↔◌, ◌<◌, ◌≤◌, ◌==◌, ◌+◌, IsTrue, List, ℕ, length, slice_index, if◌then◌else◌};
 ghost use Rattle.segword.specs.Bytes.{IsKey, IsValue};
 ghost use Rattle.segword.specs.Row.{row_of};
 ghost use Rattle.segword.specs.KeyWords.{key_words};

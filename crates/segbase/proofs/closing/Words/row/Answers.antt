@@ -4,7 +4,7 @@ use Rattle.std.proofs.lemmas.List.{length-replicate}
 use Rattle.segword.specs.Words.{item_width, place_behind, row_behind, row_width, span_of_header}
 use Rattle.segcore.specs.declared.cell.Cell.TheVariants.{OfRow}
 use Rattle.segbase.specs.declared.closing.Words.{Words}
-use Rattle.segbase.specs.Closing.{rows_there, shape_of, word_of_cell, word_on}
+use Rattle.segbase.specs.Closing.{rows_there, word_of_cell, word_on}
 use Rattle.segbase.proofs.closing.Words.row.Goals as goal
 
 zeros : (count place : ℕ) → ◌≡◌ {A = ℕ} (get_or (replicate {A = ℕ} count 0) place 0) 0

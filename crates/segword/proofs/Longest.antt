@@ -3,7 +3,7 @@ use Rattle.std.proofs.Common.{ℕ, ◌+◌, ◌≤◌, max, min, arith}
 use Rattle.std.specs.Int.{div_ceil}
 use Rattle.segword.specs.declared.key.TheConstants.{KEY_WORDS}
 use Rattle.segword.specs.Row.{key_width}
-use Rattle.segword.specs.Words.{SpansAreFew}
+use Rattle.segword.specs.Limits.{SpansAreFew}
 
 eighths_grow : (m n : ℕ) → m ≤ n → div_ceil m 8 ≤ div_ceil n 8
 eighths_grow m n le = omega (arith, le)
