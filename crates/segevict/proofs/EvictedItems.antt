@@ -131,7 +131,7 @@ module _ (b : Board) (segment from row used rows : ℕ) (p q r : Pass) (quiet : 
 
 -- the pass looked which row from this one on is an item's first
 evicting_looked : (b : Board) (segment from used : ℕ) (p q : Pass) → IsQuiet b p → used_of p segment ≡ Some used → AreUnnamed b.shape segment from p
-    → LooksForFirst b from p q → Evicting b segment from from 0 p q
+    → LooksForFirst b segment from p q → Evicting b segment from from 0 p q
 evicting_looked b segment from used p q quiet is none looks =
     let i = looks.0 in
     let keeps = calm_keeps_gone b segment [] p q i.moved tt (owns_used b p segment used quiet.pass is) in record {
@@ -164,7 +164,7 @@ has_used : (segment used row : ℕ) (p q : Pass) → q.plain ≡ p.plain → sta
 has_used segment used row p q plain in_use is lt = (same_states p q segment plain ∙ in_use, (used, same_used p q segment plain ∙ is, lt))
 
 pub items_first : (b : Board) (segment from row used : ℕ) (p q : Pass) → IsQuiet b p → state_of p segment ≡ Some InUse → used_of p segment ≡ Some used → AreUnnamed b.shape segment from p
-    → LooksForFirst b from p q → from ≤ row → row ≤ used → (IsUsedRow segment row q → IsFirstRow (trace q) segment row)
+    → LooksForFirst b segment from p q → from ≤ row → row ≤ used → (IsUsedRow segment row q → IsFirstRow (trace q) segment row)
     → ((i : ℕ) → from ≤ i → i < row → RowGone b.shape segment i (trace q)) → EvictingItems b segment from row 0 p q
 items_first b segment from row used p q quiet in_use is none looks later within first behind =
     let i = looks.0 in record {

@@ -87,8 +87,8 @@ pub record Evicting (b : Board) (segment from row taken : ℕ) (p q : Pass) : Ty
   pub order : EvictsOver b segment from rows taken p q
 
 -- the pass looks for no item's first row
-pub looks_for_none : (b : Board) (from : ℕ) (p : Pass) → IsPassOf b p → LooksForFirst b from p p
-looks_for_none b from p is = (idles b p is, omega arith)
+pub looks_for_none : (b : Board) (segment from : ℕ) (p : Pass) → IsPassOf b p → LooksForFirst b segment from p p
+looks_for_none b segment from p is = (idles b p is, omega arith, λ used there past. refl)
 
 -- the rows that no item names are used ones
 pub unnamed_few : (shape : Shape) (segment from used : ℕ) (p : Pass) → AreUnnamed shape segment from p → used_of p segment ≡ Some used → from ≤ used

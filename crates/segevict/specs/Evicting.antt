@@ -1,6 +1,6 @@
 -- What an evict answers: how many keys it took out of the segment, each by one entry.
 -- Either no key stands there then, or the bucket of one was in the way. And what an evict costs.
-use Rattle.std.specs.Prelude.{◌≡◌, ◌≢◌, ◌↔◌, ◌⊎◌, ℕ, zero, suc, ◌+◌, ◌<◌, List, [], ◌∷◌, ◌++◌, length, Some, None}
+use Rattle.std.specs.Prelude.{◌≡◌, ◌≢◌, ◌↔◌, ◌⊎◌, ℕ, zero, suc, ◌+◌, ◌<◌, ◌≤◌, List, [], ◌∷◌, ◌++◌, length, Some, None}
 use Rattle.segword.specs.Words.{Shape}
 use Rattle.segmodel.specs.declared.entry.Entry.TheVariants as entry
 use Rattle.segmodel.specs.declared.answer.EvictAnswer.TheVariants as evict
@@ -52,14 +52,17 @@ IsEvictAnswer shape segment (evict.Busy count) p q =
 
 -- The pass first looks which row from this one on is an item's first,
 -- by no more loads than there are rows before this one.
-abbrev pub LooksForFirst : Board → ℕ → Pass → Pass → Type 0
-LooksForFirst b from p q = Idles b p q × TakesAtMost from p q
+-- Where no row from this one on is used, it does nothing.
+abbrev pub LooksForFirst : Board → ℕ → ℕ → Pass → Pass → Type 0
+LooksForFirst b segment from p q =
+    Idles b p q × TakesAtMost from p q
+    × ((used : ℕ) → used_of p segment ≡ Some used → used ≤ from → q ≡ p)
 
 -- This number of rows was gone over, from this one on, each by an evict of one row. One behind an
 -- item's first row is Left, by no step.
 -- This number of their keys was taken out.
 abbrev pub EvictsOver : Board → ℕ → ℕ → ℕ → ℕ → Pass → Pass → Type 0
-EvictsOver b segment from zero count p q = (count ≡ 0) × LooksForFirst b from p q
+EvictsOver b segment from zero count p q = (count ≡ 0) × LooksForFirst b segment from p q
 EvictsOver b segment from (suc rows) count p q =
     (middle : Pass)
     × (((before : ℕ) × (count ≡ before + 1) × EvictsOver b segment from rows before p middle

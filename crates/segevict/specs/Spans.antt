@@ -2,13 +2,15 @@
 use Rattle.std.specs.Prelude.{◌≡◌, ℕ, zero, suc, ◌+◌, ◌≤◌, List}
 use Rattle.segcore.specs.Words.{Event, span_in}
 use Rattle.segbase.specs.Words.{Board, Pass, trace}
-use Rattle.segstore.specs.Words.{Idles}
+use Rattle.segstore.specs.Words.{Idles, TakesAtMost}
 use Rattle.segevict.specs.Rows.{HasRow}
 
--- The pass only looked. The number is at least 1, and of a used row it is what word 0 tells.
+-- The pass only looked, by one step at most. The number is at least 1, and of a used row it is what
+-- word 0 tells.
 abbrev pub TellsSpan : Board → ℕ → ℕ → ℕ → Pass → Pass → Type 0
 TellsSpan b segment row told p q =
     Idles b p q × (1 ≤ told) × (HasRow segment row p → told ≡ span_in (trace q) segment row)
+    × TakesAtMost 1 p q
 
 -- The first row of an item of a segment, by how many items are before it.
 -- Behind the last item it is the first row that isn't used.

@@ -58,7 +58,7 @@ pub(crate) fn item_at(board: &Board, pass: &mut Pass, segment: u32, row: u32) ->
 pub(crate) fn first_from(board: &Board, pass: &mut Pass, segment: u32, from: u32) -> u32
     requires quiet { IsQuiet board.now pass.old }
     requires unnamed { AreUnnamed board.now.shape segment from pass.old }
-    ensures looks { LooksForFirst board.now from pass.old pass.new }
+    ensures looks { LooksForFirst board.now segment from pass.old pass.new }
     ensures later { from ≤ result }
     ensures within { (used : ℕ) → used_of pass.old segment ≡ Some used → result ≤ used }
     ensures first { IsUsedRow segment result pass.new
