@@ -65,21 +65,15 @@ fn timed(alloc: Global, clock: &Cell<u32>) -> Result<TimedSink<'_>, AllocError>
 
 #[test]
 fn the_writer_is_flushed_before_a_fault_is_printed(rt: HostRuntime) {
-    for words in [
-        ["script", "--buckets", "3"].as_slice(),
-        ["script", "--rows", "2"].as_slice(),
-        ["word", "0"].as_slice(),
-        ["scrpt"].as_slice(),
-    ] {
+    for line in ["script --buckets 3", "script --rows 2", "word 0", "scrpt"] {
         let clock = Cell::new(0);
         let mut streams = Streams {
             source: MemSource::new(b"p0 refill 0 4294967295\nx\n"),
             writer: timed(rt.alloc(), &clock).expect(&rt, "memory for a writer"),
             errors: timed(rt.alloc(), &clock).expect(&rt, "memory for a writer"),
         };
-        let status = run_over(&rt, words, &mut streams);
+        let status = run_over(&rt, line, &mut streams);
         let (flushed, printed) = (streams.writer.flushed_at, streams.errors.written_at);
-        assert!(rt; status != 0, "{words:?}");
-        assert!(rt; 0 < flushed && flushed < printed, "{words:?}");
+        assert!(rt; status != 0 && 0 < flushed && flushed < printed, "{line}");
     }
 }

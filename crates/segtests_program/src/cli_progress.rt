@@ -1,209 +1,118 @@
 //! What a watch sees of a load or a replay, and the line of progress.
-use crate::cli_runs::{Ended, check_same, run_watched};
+use crate::cli_runs::check_watched;
+use crate::same::same;
 use segcli::{Watch, progress_line};
-use std::alloc::AllocGlobal;
-use std::process::Abort;
-use std::sync::Wait;
 use std::sync::atomic::AtomicU64;
 use std::sync::atomic::Ordering::SeqCst;
-use std::thread::{Threads, yield_now};
+use std::thread::yield_now;
 
 // How often the first call of a watch lets other threads go first.
 const YIELDS: u32 = 100_000;
 
-/// A watch that keeps how often it was called, and the arguments of the first calls.
+// After so many commands of pass 0 the watch is called.
+const EACH: u64 = 1024;
+
+/// A watch over a load of so many commands, of which others make some.
 /// At the first call it leaves the passes that are not watched time for their commands.
 #[derive(Drop)]
 struct Seen {
+    of: u64,
+    others: u64,
+    /// How often it was called, how often not as it should be, and what it was told last.
     calls: AtomicU64,
-    made: [AtomicU64; 4],
-    of: [AtomicU64; 4],
+    wrong: AtomicU64,
+    last: AtomicU64,
 }
 
-fn nothing() -> [AtomicU64; 4] {
-    [
-        AtomicU64::new(0),
-        AtomicU64::new(0),
-        AtomicU64::new(0),
-        AtomicU64::new(0),
-    ]
-}
-
-impl Seen {
-    fn new() -> Seen {
-        Seen {
-            calls: AtomicU64::new(0),
-            made: nothing(),
-            of: nothing(),
-        }
-    }
-
-    // What the watch was told by the first four calls: 0 of 0 if there was no such call.
-    fn told(&self) -> [(u64, u64); 4] {
-        let mut told = [(0u64, 0u64); 4];
-        for (at, pair) in told.iter_mut().enumerate() {
-            if let (Some(made), Some(of)) = (self.made.get(at), self.of.get(at)) {
-                *pair = (made.load(SeqCst), of.load(SeqCst));
-            }
-        }
-        told
+fn watch_over(of: u64, others: u64) -> Seen {
+    Seen {
+        of,
+        others,
+        calls: AtomicU64::new(0),
+        wrong: AtomicU64::new(0),
+        last: AtomicU64::new(0),
     }
 }
 
 impl Watch for Seen {
     fn saw(&self, made: u64, of: u64) {
-        let at = self.calls.fetch_add(1, SeqCst) as usize;
-        if let Some(kept) = self.made.get(at) {
-            kept.store(made, SeqCst);
+        let calls = self.calls.fetch_add(1, SeqCst).saturating_add(1);
+        let before = self.last.load(SeqCst);
+        self.last.store(made, SeqCst);
+        let own = calls.saturating_mul(EACH);
+        let has_others = calls > 1 && self.others > 0;
+        let is_enough = own <= made && before < made && (!has_others || own < made);
+        if !is_enough || made > own.saturating_add(self.others) || of != self.of {
+            self.wrong.fetch_add(1, SeqCst);
         }
-        if let Some(kept) = self.of.get(at) {
-            kept.store(of, SeqCst);
-        }
-        if at == 0 {
+        if calls == 1 {
             for _ in 0..YIELDS {
                 yield_now();
             }
         }
     }
 
-    // A replay has no whole.
     fn made(&self, commands: u64) {
-        self.saw(commands, 0);
+        self.calls.fetch_add(1, SeqCst);
+        self.last.store(commands, SeqCst);
     }
 }
 
-/// Runs a load while the watch looks on, with devices that don't fail.
-fn run_seen<R: Threads + Wait + AllocGlobal + Abort + Sync>(
-    rt: &R,
-    words: &[&str],
-    seen: &Seen,
-) -> Ended {
-    run_watched(rt, words, b"", seen)
-}
-
-/// Checks how a load ends, and what a watch sees of it.
-fn check_watched<R: Threads + Wait + AllocGlobal + Abort + Sync>(
-    rt: &R,
-    words: &[&str],
-    seen: &Seen,
-    calls: u64,
-) {
-    let ended = run_seen(rt, words, seen);
-    check_same(rt, words, ended.status, 0);
-    check_same(rt, words, ended.printed.as_slice(), b"");
-    check_same(rt, words, seen.calls.load(SeqCst), calls);
-}
-
-/// Checks what a watch sees of a load of one pass.
-fn check_seen<R: Threads + Wait + AllocGlobal + Abort + Sync>(
-    rt: &R,
-    words: &[&str],
-    calls: u64,
-    told: [(u64, u64); 4],
-) {
-    let seen = Seen::new();
-    check_watched(rt, words, &seen, calls);
-    check_same(rt, words, seen.told(), told);
-}
-
-// The watch is called after each 1,024 commands of pass 0.
+// The calls are those of pass 0, and they tell the commands of all passes: in the last line 3 times 2,048.
 #[test]
 fn a_watch_sees_each_1024_commands(rt: HostRuntime) {
-    let none = [(0, 0); 4];
-    check_seen(&rt, &["load", "--progress", "--commands", "0"], 0, none);
-    check_seen(&rt, &["load", "--progress", "--commands", "1023"], 0, none);
-    check_seen(
-        &rt,
-        &["load", "--progress", "--commands", "1024"],
-        1,
-        [(1024, 1024), (0, 0), (0, 0), (0, 0)],
-    );
-    check_seen(
-        &rt,
-        &["load", "--progress", "--commands", "4096"],
-        4,
-        [(1024, 4096), (2048, 4096), (3072, 4096), (4096, 4096)],
-    );
-    check_seen(
-        &rt,
-        &["load", "--progress", "--commands", "5119"],
-        4,
-        [(1024, 5119), (2048, 5119), (3072, 5119), (4096, 5119)],
-    );
+    for (line, calls, of, others) in [
+        ("load --progress --commands 0", 0, 0, 0),
+        ("load --progress --commands 1023", 0, 1023, 0),
+        ("load --progress --commands 1024", 1, 1024, 0),
+        ("load --progress --commands 4096", 4, 4096, 0),
+        ("load --progress --commands 5119", 4, 5119, 0),
+        ("load --commands 4096", 0, 4096, 0),
+        (
+            "load --passes=3 --buckets=16 --commands=2048 --progress",
+            2,
+            6144,
+            4096,
+        ),
+    ] {
+        let seen = watch_over(of, others);
+        check_watched(&rt, line, b"", &seen);
+        let told = (seen.calls.load(SeqCst), seen.wrong.load(SeqCst));
+        same(&rt, &(line, told), &(line, (calls, 0)));
+    }
 }
 
-#[test]
-fn a_watch_sees_nothing_without_the_option(rt: HostRuntime) {
-    check_seen(&rt, &["load", "--commands", "4096"], 0, [(0, 0); 4]);
-}
-
-// The calls are those of pass 0, and they tell the commands of all passes: 3 times 2,048.
-#[test]
-fn a_watch_sees_the_commands_of_all_passes(rt: HostRuntime) {
-    let words = [
-        "load",
-        "--passes=3",
-        "--buckets=16",
-        "--commands=2048",
-        "--progress",
-    ];
-    let seen = Seen::new();
-    check_watched(&rt, &words, &seen, 2);
-    let told = seen.told();
-    let [(first, _), (second, _), _, _] = told;
-    check_same(
-        &rt,
-        &words,
-        told,
-        [(first, 6144), (second, 6144), (0, 0), (0, 0)],
-    );
-    assert!(rt;
-        1024 <= first && first < second && 2048 < second && second <= 6144,
-        "{told:?}"
-    );
-}
-
-// A blank line is no command.
+// A blank line is no command, and a replay has no whole.
 #[test]
 fn a_watch_sees_the_commands_of_a_replay(rt: HostRuntime) {
-    let words = ["replay", "--progress"];
-    let seen = Seen::new();
-    let ended = run_watched(&rt, &words, b"a\n\nset b\nget a\n", &seen);
-    check_same(&rt, &words, ended.status, 0);
-    check_same(&rt, &words, seen.calls.load(SeqCst), 1);
-    check_same(&rt, &words, seen.told(), [(3, 0), (0, 0), (0, 0), (0, 0)]);
-}
-
-fn check_line<R: AllocGlobal + Abort>(
-    rt: &R,
-    (made, of): (u64, u64),
-    each_second: Option<u128>,
-    line: &str,
-) {
-    let text = progress_line(rt.alloc(), made, of, each_second).expect(rt, "memory for a line");
-    assert_eq!(rt; text.as_slice(), line.as_bytes(), "{line}");
+    let seen = watch_over(0, 0);
+    check_watched(&rt, "replay --progress", b"a\n\nset b\nget a\n", &seen);
+    same(
+        &rt,
+        &(seen.calls.load(SeqCst), seen.last.load(SeqCst)),
+        &(1, 3),
+    );
 }
 
 #[test]
 fn a_line_tells_commands_share_and_rate(rt: HostRuntime) {
-    for (made, of, each_second, line) in [
-        (0, 0, None, "0 of 0, 0 %\n"),
+    let most = (u64::MAX, u64::MAX);
+    let all =
+        "18446744073709551615 of 18446744073709551615, 100 %, 340282366920938463463374607431768211455 a second\n";
+    // Two thirds are 66.7 hundredths.
+    for ((made, of), each_second, line) in [
+        ((0, 0), None, "0 of 0, 0 %\n"),
         (
-            1024,
-            4096,
+            (1024, 4096),
             Some(2048),
             "1024 of 4096, 25 %, 2048 a second\n",
         ),
-        // Two thirds are 66.7 hundredths.
-        (2, 3, Some(0), "2 of 3, 66 %, 0 a second\n"),
-        (99, 100, None, "99 of 100, 99 %\n"),
-        (
-            u64::MAX,
-            u64::MAX,
-            Some(u128::MAX),
-            "18446744073709551615 of 18446744073709551615, 100 %, 340282366920938463463374607431768211455 a second\n",
-        ),
+        ((2, 3), Some(0), "2 of 3, 66 %, 0 a second\n"),
+        ((99, 100), None, "99 of 100, 99 %\n"),
+        (most, Some(u128::MAX), all),
     ] {
-        check_line(&rt, (made, of), each_second, line);
+        let text = progress_line(rt.alloc(), made, of, each_second);
+        let text = text.expect(&rt, "memory for a line");
+        same(&rt, &text.as_slice(), &line.as_bytes());
     }
 }

@@ -1,26 +1,19 @@
 //! Runs of the program over memory: its words, and what it writes, prints and returns.
 ghost use Rattle.std.specs.Prelude.{◌≡◌, false, IfOk};
 
+use crate::same::same;
 use segcli::{Streams, Watch, read_command, run_given, run_program};
 use segscript::{MemSink, MemSource, Sink, Source, WhenFull};
 use std::alloc::{AllocError, AllocGlobal, Global};
-use std::fmt::Debug;
 use std::process::Abort;
 use std::sync::Wait;
 use std::thread::Threads;
 
-/// A script of three lines, and its replies.
-pub const SCRIPT: &[u8] = b"p0 refill 0 4294967295\np0 set a 1 @0\np0 get a @0\n";
-
-pub const REPLIES: &[u8] = b"REFILLED\nSTORED\nVALUE 1\n";
-
-/// What a load without commands prints.
-pub const NO_TOTALS: &[u8] =
-    b"p0 commands=0 hit=0 miss=0 stored=0 not_stored=0 exists=0 not_found=0 deleted=0 noroom=0 bucketfull=0 busy=0\ntotal commands=0 keys=0\n";
-
-/// What the devices of a run do. Of a pair the first is the writer's, the second the error writer's.
+/// What is given to a run, and what its devices do.
+/// Of a pair the first is the writer's, the second the error writer's.
 #[derive(Clone, Copy)]
-pub struct Devices {
+pub struct Devices<'d> {
+    pub given: &'d [u8],
     /// After how many bytes the reader fails.
     pub good: Option<usize>,
     /// How many bytes each writer takes.
@@ -29,54 +22,22 @@ pub struct Devices {
     pub flush_fails: (bool, bool),
 }
 
-/// Devices that don't fail.
-pub const SOUND: Devices = Devices {
+/// Devices that don't fail, over a script of three lines.
+pub const SOUND: Devices<'static> = Devices {
+    given: b"p0 refill 0 4294967295\np0 set a 1 @0\np0 get a @0\n",
     good: None,
     rooms: (10_000, 10_000),
     when_full: WhenFull::Fails,
     flush_fails: (false, false),
 };
 
-/// How a run of the program ended, and what it wrote.
-#[derive(Drop)]
-pub struct Ended {
-    pub status: u8,
-    pub written: Vec<u8>,
-    pub printed: Vec<u8>,
-    /// How many flushes the writer and the error writer were asked for.
-    pub flushes: (u64, u64),
-}
-
 /// How a run of the program has to end: its status, what it writes and what it prints.
-#[derive(Clone, Copy)]
-pub struct End<'e> {
-    pub status: u8,
-    pub written: &'e [u8],
-    pub printed: &'e [u8],
-}
+pub type End<'e> = (u8, &'e [u8], &'e [u8]);
 
-/// The end of a run without a fault, which prints nothing.
-pub fn writes(written: &[u8]) -> End<'_> {
-    End {
-        status: 0,
-        written,
-        printed: b"",
-    }
-}
-
-/// The end of a run with a fault, which writes nothing.
-pub fn fails(status: u8, printed: &[u8]) -> End<'_> {
-    End {
-        status,
-        written: b"",
-        printed,
-    }
-}
-
-/// The words as the program gets them.
-pub fn words_of(alloc: Global, words: &[&str]) -> Result<Vec<String>, AllocError> {
+// The words of a command line, which spaces part.
+fn words_of(alloc: Global, line: &str) -> Result<Vec<String>, AllocError> {
     let mut list = Vec::new(alloc);
-    for word in words {
+    for word in line.split(' ') {
         list.push(String::from_str(alloc, word)?)?;
     }
     Ok(list)
@@ -86,14 +47,14 @@ pub fn words_of(alloc: Global, words: &[&str]) -> Result<Vec<String>, AllocError
 /// at one of `run_program` the proof of a test would have to read its whole contract.
 pub fn run_over<R: Threads + Wait + AllocGlobal + Abort + Sync, S: Source, W: Sink, E: Sink>(
     rt: &R,
-    words: &[&str],
+    line: &str,
     streams: &mut Streams<S, W, E>,
 ) -> u8
     requires source_works { S.has_failed streams.old.source ≡ false }
     requires writer_works { W.has_failed streams.old.writer ≡ false }
     requires errors_work { E.has_failed streams.old.errors ≡ false }
 {
-    let words = words_of(rt.alloc(), words).expect(rt, "memory for words");
+    let words = words_of(rt.alloc(), line).expect(rt, "memory for words");
     let Streams {
         source,
         writer,
@@ -102,11 +63,11 @@ pub fn run_over<R: Threads + Wait + AllocGlobal + Abort + Sync, S: Source, W: Si
     run_program(rt, rt.alloc(), words.as_slice(), source, writer, errors)
 }
 
-fn reader_of(script: &[u8], good: Option<usize>) -> MemSource<'_>
+fn reader_of(devices: Devices<'_>) -> MemSource<'_>
     ensures { result.failed ≡ false }
 {
-    let mut reader = MemSource::new(script);
-    reader.good = good;
+    let mut reader = MemSource::new(devices.given);
+    reader.good = devices.good;
     reader
 }
 
@@ -124,11 +85,10 @@ fn writer_of(
     Ok(writer)
 }
 
-/// A reader of the script and two writers, which do this.
-pub fn streams_of<'s, R: AllocGlobal + Abort>(
+// A reader and two writers, which do this.
+fn streams_of<'s, R: AllocGlobal + Abort>(
     rt: &R,
-    script: &'s [u8],
-    devices: Devices,
+    devices: Devices<'s>,
 ) -> Streams<MemSource<'s>, MemSink, MemSink>
     ensures source { result.source.failed ≡ false }
     ensures writer { result.writer.failed ≡ false }
@@ -139,84 +99,37 @@ pub fn streams_of<'s, R: AllocGlobal + Abort>(
     let writer = writer_of(rt.alloc(), room, devices.when_full, fails);
     let errors = writer_of(rt.alloc(), error_room, devices.when_full, error_fails);
     Streams {
-        source: reader_of(script, devices.good),
+        source: reader_of(devices),
         writer: writer.expect(rt, "memory for a writer"),
         errors: errors.expect(rt, "memory for a writer"),
     }
 }
 
-/// What was written and printed by a run that ended with this status.
-pub fn end_of(status: u8, streams: Streams<MemSource<'_>, MemSink, MemSink>) -> Ended {
-    let Streams { writer, errors, .. } = streams;
-    Ended {
-        status,
-        flushes: (writer.flushes, errors.flushes),
-        written: writer.taken,
-        printed: errors.taken,
-    }
-}
-
-/// Runs the program over devices in memory while a watch looks on.
-pub fn run_watched<R: Threads + Wait + AllocGlobal + Abort + Sync, V: Watch>(
+/// Checks that a run over sound devices ends well while a watch looks on.
+pub fn check_watched<R: Threads + Wait + AllocGlobal + Abort + Sync, V: Watch>(
     rt: &R,
-    words: &[&str],
+    line: &str,
     given: &[u8],
     watch: &V,
-) -> Ended {
-    let words = words_of(rt.alloc(), words).expect(rt, "memory for words");
-    let mut streams = streams_of(rt, given, SOUND);
+) {
+    let words = words_of(rt.alloc(), line).expect(rt, "memory for words");
+    let mut streams = streams_of(rt, Devices { given, ..SOUND });
     let read = read_command(rt.alloc(), words.as_slice());
     let status = run_given(rt, rt.alloc(), &read, &mut streams, watch);
-    end_of(status, streams)
+    let printed = streams.errors.taken.as_slice();
+    same(rt, &(line, status, printed), &(line, 0, b"".as_slice()));
 }
 
-/// Runs the program over devices in memory.
-pub fn run_with<R: Threads + Wait + AllocGlobal + Abort + Sync>(
+/// Checks what the program writes, prints and returns over these devices.
+pub fn check<R: Threads + Wait + AllocGlobal + Abort + Sync>(
     rt: &R,
-    words: &[&str],
-    script: &[u8],
-    devices: Devices,
-) -> Ended {
-    let mut streams = streams_of(rt, script, devices);
-    let status = run_over(rt, words, &mut streams);
-    end_of(status, streams)
-}
-
-/// Runs the program with devices that don't fail.
-pub fn run<R: Threads + Wait + AllocGlobal + Abort + Sync>(
-    rt: &R,
-    words: &[&str],
-    script: &[u8],
-) -> Ended {
-    run_with(rt, words, script, SOUND)
-}
-
-/// Checks one thing that a run with these words came to.
-pub fn check_same<T: Copy + PartialEq + Debug>(
-    rt: &impl Abort,
-    words: &[&str],
-    found: T,
-    wanted: T,
-) {
-    assert_eq!(rt; found, wanted, "{words:?}");
-}
-
-/// Checks what the program wrote, printed and returned.
-pub fn check_ended(rt: &impl Abort, words: &[&str], ended: &Ended, end: End<'_>) {
-    check_same(rt, words, ended.written.as_slice(), end.written);
-    check_same(rt, words, ended.printed.as_slice(), end.printed);
-    check_same(rt, words, ended.status, end.status);
-}
-
-/// Checks what the program writes, prints and returns,
-/// and that it flushes once what it writes and prints.
-pub fn check_program<R: Threads + Wait + AllocGlobal + Abort + Sync>(
-    rt: &R,
-    words: &[&str],
-    script: &[u8],
+    line: &str,
+    devices: Devices<'_>,
     end: End<'_>,
 ) {
-    let ended = run(rt, words, script);
-    check_ended(rt, words, &ended, end);
-    check_same(rt, words, ended.flushes, (1, u64::from(end.status != 0)));
+    let mut streams = streams_of(rt, devices);
+    let status = run_over(rt, line, &mut streams);
+    let Streams { writer, errors, .. } = &streams;
+    let ended = (status, writer.taken.as_slice(), errors.taken.as_slice());
+    same(rt, &(line, ended), &(line, end));
 }

@@ -4,17 +4,11 @@
 #[cfg(test)]
 mod cli_devices;
 #[cfg(test)]
-mod cli_given;
-#[cfg(test)]
 mod cli_order;
 #[cfg(test)]
 mod cli_progress;
 #[cfg(test)]
-mod cli_replays;
-#[cfg(test)]
 mod cli_runs;
-#[cfg(test)]
-mod cli_scripts;
 #[cfg(test)]
 mod cli_stats;
 #[cfg(test)]

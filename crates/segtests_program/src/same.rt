@@ -7,8 +7,3 @@ use std::process::Abort;
 pub fn same<T: PartialEq + Debug>(rt: &impl Abort, found: &T, wanted: &T) {
     assert_eq!(rt; found, wanted);
 }
-
-/// Checks that this is so. It is a call for the same reason.
-pub fn check_that(rt: &impl Abort, is_so: bool) {
-    assert!(rt; is_so);
-}

@@ -1,4 +1,4 @@
-//! Tests of scripts and loads: devices that fail, passes at the same time, and a run of the plain cache.
+//! Tests of scripts and loads: devices that fail, and passes at the same time.
 #![tactic(auto)]
 
 #[cfg(test)]
@@ -10,13 +10,9 @@ mod load_gates;
 #[cfg(test)]
 mod load_runs;
 #[cfg(test)]
-mod model_run;
-#[cfg(test)]
 mod same;
 #[cfg(test)]
 mod script_hostile;
-#[cfg(test)]
-mod script_making;
 #[cfg(test)]
 mod script_order;
 #[cfg(test)]

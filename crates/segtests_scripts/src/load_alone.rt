@@ -1,10 +1,9 @@
 //! A load of one pass counts what a plain loop over the same commands counts.
 ghost use Rattle.std.specs.Prelude.{◌≡◌, ◌<◌, ◌≤◌, ◌^◌};
 
-use crate::load_runs::{SEED, SHAPE, run, run_over};
+use crate::load_runs::{PLACES, SEED, SHAPE, counts_of, run_over, sum_of};
 use crate::same::{check_that, same};
-use segindex::IndexStats;
-use segload::{OpenGate, PassTotals, Recycled, Tallies, Totals};
+use segload::{OpenGate, Recycled};
 use segmodel::{
     Answer, Command, DeleteAnswer, EvictAnswer, GetAnswer, GetsAnswer, RefillAnswer, Request,
     WriteAnswer,
@@ -30,26 +29,7 @@ const WIDE: Shape = Shape {
     ..SHAPE
 };
 
-#[test]
-fn no_commands(rt: HostRuntime) {
-    let totals = run(&rt, SHAPE, 1, 0, &OpenGate).expect(&rt, "totals");
-    let nothing = PassTotals {
-        commands: 0,
-        tallies: Tallies::new(),
-        recycled: Recycled::new(),
-        table: IndexStats {
-            overflow_buckets: 0,
-            used_rows: 0,
-            named_rows: 0,
-        },
-    };
-    same(&rt, &totals.keys, &0);
-    same(&rt, &totals.passes.as_slice(), &[nothing].as_slice());
-}
-
-/// How many tallies there are. They stand in the order in which a load is printed.
-pub const PLACES: usize = 10;
-
+// The place of the tally that an answer counts in.
 fn place_of(answer: &Answer) -> usize
     ensures { result < PLACES }
 {
@@ -117,12 +97,7 @@ fn serve(
 fn keys_of(solo: &mut Solo, mut workload: Workload, commands: u32) -> u32 {
     let mut keys = 0u32;
     for _ in 0..commands {
-        let Load {
-            key,
-            kind: _,
-            value: _,
-            draw: _,
-        } = workload.next();
+        let Load { key, .. } = workload.next();
         let answer = solo.answer(&Command::Write(Request::Delete(key, MOMENT)));
         if answer == Answer::Delete(DeleteAnswer::Deleted) {
             keys = keys.saturating_add(1);
@@ -131,16 +106,14 @@ fn keys_of(solo: &mut Solo, mut workload: Workload, commands: u32) -> u32 {
     keys
 }
 
-// What a plain loop comes to.
-#[derive(Clone, Copy)]
-struct PlainRun {
-    counts: [u32; PLACES],
-    recycled: Recycled,
+// What a plain loop counts over the commands of pass 0 of so many keys, what it recycles, and how many of these keys
+// stand then.
+fn plain_loop(
+    alloc: Global,
+    shape: Shape,
+    commands: u32,
     keys: u32,
-}
-
-// What a plain loop counts over the commands of pass 0 of so many keys, and how many of these stand then.
-fn plain_loop(alloc: Global, shape: Shape, commands: u32, keys: u32) -> Option<PlainRun>
+) -> Option<([u32; PLACES], Recycled, u32)>
     requires keys { 1 ≤ keys }
     requires one_pass { shape.passes ≡ 1 }
     requires some { (1 ≤ shape.segments_each) × (shape.segments_each < 2 ^ 32) }
@@ -161,27 +134,7 @@ fn plain_loop(alloc: Global, shape: Shape, commands: u32, keys: u32) -> Option<P
         counts[place] = counts[place].saturating_add(1);
     }
     let again = Workload::with_keys(SEED, 0, keys);
-    Some(PlainRun {
-        counts,
-        recycled,
-        keys: keys_of(&mut solo, again, commands),
-    })
-}
-
-/// The tallies, in the order in which a load is printed.
-pub fn counts_of(tallies: &Tallies) -> [u32; PLACES] {
-    [
-        tallies.hit,
-        tallies.miss,
-        tallies.stored,
-        tallies.not_stored,
-        tallies.exists,
-        tallies.not_found,
-        tallies.deleted,
-        tallies.no_room,
-        tallies.bucket_full,
-        tallies.busy,
-    ]
+    Some((counts, recycled, keys_of(&mut solo, again, commands)))
 }
 
 // Checks that two loads over so many keys are the same, and that no command is busy.
@@ -200,37 +153,15 @@ fn counts_as_plain<R: Threads + Wait + AllocGlobal + Abort + Sync>(
     let second = run_over(rt, shape, commands, keys, &OpenGate).expect(rt, "totals");
     same(rt, &first, &second);
     let plain = plain_loop(rt.alloc(), shape, commands, keys).expect(rt, "an index");
-    check_counts(rt, &first, &plain, commands);
-}
-
-// Checks that the totals of one pass are what a plain loop came to, and that no command was busy.
-fn check_counts(rt: &impl Abort, totals: &Totals, plain: &PlainRun, commands: u32) {
-    same(rt, &(totals.keys, totals.passes.len()), &(plain.keys, 1));
-    for pass in totals.passes.iter() {
-        same(
-            rt,
-            &(pass.commands, pass.table.named_rows),
-            &(commands, plain.keys),
-        );
-        same(
-            rt,
-            &(counts_of(&pass.tallies), pass.recycled),
-            &(plain.counts, plain.recycled),
-        );
-        same(
-            rt,
-            &(pass.tallies.busy, sum_of(plain.counts)),
-            &(0, commands),
-        );
+    let (counts, recycled, standing) = plain;
+    same(rt, &(first.keys, first.passes.len()), &(standing, 1));
+    for pass in first.passes.iter() {
+        let found = (pass.commands, pass.table.named_rows, pass.tallies.busy);
+        same(rt, &found, &(commands, standing, 0));
+        same(rt, &sum_of(counts), &commands);
+        let told = (counts_of(&pass.tallies), pass.recycled);
+        same(rt, &told, &(counts, recycled));
     }
-}
-
-fn sum_of(counts: [u32; PLACES]) -> u32 {
-    let mut sum = 0u32;
-    for count in counts {
-        sum = sum.saturating_add(count);
-    }
-    sum
 }
 
 #[test]
@@ -238,24 +169,13 @@ fn a_load_counts_as_a_plain_loop(rt: HostRuntime) {
     counts_as_plain(&rt, SHAPE, 500, 64);
 }
 
-#[test]
-fn segments_are_given_up_in_turn(rt: HostRuntime) {
-    counts_as_plain(&rt, WIDE, 2000, 64);
-}
-
+// Segments are given up in turn.
 #[test]
 fn a_load_is_over_any_number_of_keys(rt: HostRuntime) {
-    for keys in [1, 2, 1_000_000, u32::MAX] {
+    for keys in [1, 2, 64, 1_000_000, u32::MAX] {
         counts_as_plain(&rt, WIDE, 2000, keys);
     }
     // Over one key each command finds what the one before it left.
     let totals = run_over(&rt, WIDE, 2000, 1, &OpenGate).expect(&rt, "totals");
     check_that(&rt, totals.keys <= 1);
-}
-
-#[test]
-fn a_load_is_over_64_keys_where_nothing_is_said(rt: HostRuntime) {
-    let said = run_over(&rt, WIDE, 500, 64, &OpenGate).expect(&rt, "totals");
-    let unsaid = run(&rt, WIDE, SEED, 500, &OpenGate).expect(&rt, "totals");
-    same(&rt, &said, &unsaid);
 }

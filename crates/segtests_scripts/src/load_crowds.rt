@@ -1,8 +1,7 @@
 //! Crowds: four passes beside each other over one key, and over more keys than a cache of the machine has room for.
 ghost use Rattle.std.specs.Prelude.{◌≤◌};
 
-use crate::load_alone::counts_of;
-use crate::load_runs::{SHAPE, run_over};
+use crate::load_runs::{SHAPE, counts_of, run_over, sum_of};
 use crate::same::{check_that, same};
 use segload::OpenGate;
 use segword::Shape;
@@ -10,8 +9,6 @@ use std::alloc::AllocGlobal;
 use std::process::Abort;
 use std::sync::Wait;
 use std::thread::Threads;
-
-const PASSES: usize = 4;
 
 // One bucket, whose version soon passes 0, and segments that are soon given up.
 const ONE_KEY: Shape = Shape {
@@ -42,18 +39,14 @@ fn keys_of_crowd<R: Threads + Wait + AllocGlobal + Abort + Sync>(
     requires { 1 ≤ keys }
 {
     let totals = run_over(rt, shape, commands, keys, &OpenGate).expect(rt, "totals");
-    same(rt, &totals.passes.len(), &PASSES);
-    let mut stored = 0u64;
+    same(rt, &totals.passes.len(), &4);
+    let mut has_stored = false;
     for pass in totals.passes.iter() {
-        same(rt, &pass.commands, &commands);
-        let mut sum = 0u64;
-        for count in counts_of(&pass.tallies) {
-            sum = sum.saturating_add(u64::from(count));
-        }
-        same(rt, &sum, &u64::from(commands));
-        stored = stored.saturating_add(u64::from(pass.tallies.stored));
+        let sum = sum_of(counts_of(&pass.tallies));
+        same(rt, &(pass.commands, sum), &(commands, commands));
+        has_stored = has_stored || pass.tallies.stored > 0;
     }
-    check_that(rt, 0 < stored);
+    check_that(rt, has_stored);
     totals.keys
 }
 

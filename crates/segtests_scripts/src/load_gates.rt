@@ -1,19 +1,17 @@
 //! Gates that hold and stop the passes of a load.
-
 use crate::load_runs::{SHAPE, run};
 use crate::same::same;
-use segindex::MakeFault;
-use segload::{Gate, LoadFault, OpenGate};
-use segword::{Shape, ShapeFault};
+use segload::{Gate, LoadFault};
+use segword::Shape;
 use std::sync::atomic::AtomicU64;
 use std::sync::atomic::Ordering::SeqCst;
 
 const TURNS: u32 = 1_000_000_000;
 
-// Waits until the flag is set, which may take too long.
-fn is_set(flag: &AtomicU64) -> bool {
+// Waits until the word is this one, which may take too long.
+fn comes_to(word: &AtomicU64, wanted: u64) -> bool {
     for _ in 0..TURNS {
-        if flag.load(SeqCst) != 0 {
+        if word.load(SeqCst) == wanted {
             return true;
         }
     }
@@ -34,9 +32,9 @@ impl Gate for Crossing {
         match (pass, call) {
             (0, 0) => {
                 self.first_asked.store(1, SeqCst);
-                is_set(&self.second_answered)
+                comes_to(&self.second_answered, 1)
             }
-            (1, 0) => is_set(&self.first_asked),
+            (1, 0) => comes_to(&self.first_asked, 1),
             _ => true,
         }
     }
@@ -59,7 +57,7 @@ fn passes_work_at_the_same_time(rt: HostRuntime) {
         first_asked: AtomicU64::new(0),
         second_answered: AtomicU64::new(0),
     };
-    let totals = run(&rt, shape, 1, 100, &gate).expect(&rt, "totals");
+    let totals = run(&rt, shape, 100, &gate).expect(&rt, "totals");
     same(&rt, &(totals.passes.len(), totals.commands()), &(2, 200));
 }
 
@@ -70,23 +68,9 @@ struct InTurn {
     answered: AtomicU64,
 }
 
-impl InTurn {
-    fn new() -> InTurn {
-        InTurn {
-            answered: AtomicU64::new(0),
-        }
-    }
-}
-
 impl Gate for InTurn {
     fn enter(&self, pass: u32, call: u32) -> bool {
-        let turn = 2 * u64::from(call) + u64::from(pass);
-        for _ in 0..TURNS {
-            if self.answered.load(SeqCst) == turn {
-                return true;
-            }
-        }
-        false
+        comes_to(&self.answered, 2 * u64::from(call) + u64::from(pass))
     }
 
     fn answered(&self, _pass: u32, _call: u32) {
@@ -105,60 +89,39 @@ fn passes_that_take_turns_count_the_same_each_time(rt: HostRuntime) {
         rows: 16,
         ..SHAPE
     };
-    let first = run(&rt, shape, 1, 2000, &InTurn::new()).expect(&rt, "totals");
-    let second = run(&rt, shape, 1, 2000, &InTurn::new()).expect(&rt, "totals");
+    let mut gate = InTurn {
+        answered: AtomicU64::new(0),
+    };
+    let first = run(&rt, shape, 2000, &gate).expect(&rt, "totals");
+    gate.answered = AtomicU64::new(0);
+    let second = run(&rt, shape, 2000, &gate).expect(&rt, "totals");
     same(&rt, &first, &second);
     for totals in first.passes.iter() {
         same(&rt, &totals.tallies.busy, &0);
     }
 }
 
-const PASSES: usize = 4;
-
-const COMMANDS: u32 = 200;
-
-// The command before which passes are stopped.
-const STOP: u32 = 3;
-
-// A gate that stops pass 1 and pass 2, and counts how often each pass asked, and was answered.
+// A gate that stops pass 1 and pass 2 before command 3, and counts how often each pass asked, and was answered.
+// Each of four passes has 16 bits of the counts.
 #[derive(Drop)]
 struct Stopper {
-    asked: [AtomicU64; PASSES],
-    answered: [AtomicU64; PASSES],
+    asked: AtomicU64,
+    answered: AtomicU64,
 }
 
-fn no_counts() -> [AtomicU64; PASSES] {
-    [
-        AtomicU64::new(0),
-        AtomicU64::new(0),
-        AtomicU64::new(0),
-        AtomicU64::new(0),
-    ]
-}
-
-// What the counts are.
-fn read(counts: &[AtomicU64; PASSES]) -> [u64; PASSES] {
-    let [first, second, third, fourth] = counts;
-    [
-        first.load(SeqCst),
-        second.load(SeqCst),
-        third.load(SeqCst),
-        fourth.load(SeqCst),
-    ]
+// One more, in the bits of a pass.
+fn one_of(pass: u32) -> u64 {
+    1u64.wrapping_shl(pass.wrapping_mul(16))
 }
 
 impl Gate for Stopper {
     fn enter(&self, pass: u32, call: u32) -> bool {
-        if let Some(count) = self.asked.get(pass as usize) {
-            count.fetch_add(1, SeqCst);
-        }
-        !((pass == 1 || pass == 2) && call == STOP)
+        self.asked.fetch_add(one_of(pass), SeqCst);
+        !((pass == 1 || pass == 2) && call == 3)
     }
 
     fn answered(&self, pass: u32, _call: u32) {
-        if let Some(count) = self.answered.get(pass as usize) {
-            count.fetch_add(1, SeqCst);
-        }
+        self.answered.fetch_add(one_of(pass), SeqCst);
     }
 }
 
@@ -171,28 +134,16 @@ fn a_stopped_pass_does_not_stop_the_others(rt: HostRuntime) {
         ..SHAPE
     };
     let gate = Stopper {
-        asked: no_counts(),
-        answered: no_counts(),
+        asked: AtomicU64::new(0),
+        answered: AtomicU64::new(0),
     };
-    let fault = run(&rt, shape, 1, COMMANDS, &gate).err();
+    let fault = run(&rt, shape, 0x200, &gate).err();
     same(&rt, &fault, &Some(LoadFault::Stopped(1)));
-    let (all, some) = (u64::from(COMMANDS), u64::from(STOP));
-    same(&rt, &read(&gate.answered), &[all, some, some, all]);
     // Each pass asks once before each command, and a stopped pass doesn't ask again.
-    same(&rt, &read(&gate.asked), &[all, some + 1, some + 1, all]);
-}
-
-#[test]
-fn a_shape_that_cannot_be_made(rt: HostRuntime) {
-    let shape = Shape {
-        buckets: 3,
-        rows: 2,
-        ..SHAPE
-    };
-    let fault = run(&rt, shape, 1, COMMANDS, &OpenGate).err();
+    let counts = (gate.asked.load(SeqCst), gate.answered.load(SeqCst));
     same(
         &rt,
-        &fault,
-        &Some(LoadFault::Make(MakeFault::Shape(ShapeFault::BadBuckets))),
+        &counts,
+        &(0x0200_0004_0004_0200, 0x0200_0003_0003_0200),
     );
 }

@@ -2,7 +2,7 @@
 ghost use Rattle.std.specs.Prelude.{◌≡◌, ◌++◌, [], refl};
 ghost use Rattle.segscript.specs.Words.{hands_more, takes_more, takes_none};
 
-use crate::script_runs::{REPLIES, SCRIPT, check_same, reader_of, run_over, shape_of};
+use crate::script_runs::{REPLIES, SCRIPT, check_same, reader_of, run_over};
 use segscript::{Failed, MemSink, MemSource, Sink, Source};
 use std::cell::Cell;
 
@@ -74,7 +74,7 @@ fn the_reply_of_each_whole_line_is_written_before_the_next_read(rt: HostRuntime)
         inner: MemSink::new(rt.alloc(), 1000).expect(&rt, "memory for a writer"),
         written: &written,
     };
-    let found = run_over(rt.alloc(), &mut reader, &mut writer, shape_of(2));
+    let found = run_over(rt.alloc(), &mut reader, &mut writer);
     check_same(&rt, 7, found, Ok(()));
     check_same(&rt, 7, writer.inner.taken.as_slice(), REPLIES);
     // The lines end at bytes 23, 37 and 49.

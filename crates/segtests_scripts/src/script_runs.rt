@@ -7,25 +7,20 @@ use std::alloc::{AllocError, AllocGlobal, Global};
 use std::fmt::Debug;
 use std::process::Abort;
 
-/// How many bytes go through a device at a time.
-pub const STEPS: [usize; 3] = [1, 3, 5000];
-
 /// A script of three lines, and its replies.
 pub const SCRIPT: &[u8] = b"p0 refill 0 4294967295\np0 set a 1 @0\np0 get a @0\n";
 
 pub const REPLIES: &[u8] = b"REFILLED\nSTORED\nVALUE 1\n";
 
-/// One bucket, one pass, and one segment.
-pub fn shape_of(rows: u32) -> Shape {
-    Shape {
-        buckets: 1,
-        overflow: 0,
-        passes: 1,
-        segments_each: 1,
-        rows,
-        first_version: 0,
-    }
-}
+/// One bucket, one pass, and one segment of two rows.
+const SHAPE: Shape = Shape {
+    buckets: 1,
+    overflow: 0,
+    passes: 1,
+    segments_each: 1,
+    rows: 2,
+    first_version: 0,
+};
 
 /// Runs a script over these devices. The tests stand on this call:
 /// at one of `run_script` the proof of a test would have to read its whole contract.
@@ -33,12 +28,11 @@ pub fn run_over<S: Source, W: Sink>(
     alloc: Global,
     reader: &mut S,
     writer: &mut W,
-    shape: Shape,
 ) -> Result<(), RunFault>
     requires reader_works { S.has_failed reader.old ≡ false }
     requires writer_works { W.has_failed writer.old ≡ false }
 {
-    run_script(alloc, reader, writer, shape)
+    run_script(alloc, reader, writer, SHAPE)
 }
 
 /// A reader of the script in pieces, which can fail after some bytes.
@@ -81,13 +75,6 @@ fn writer_of(alloc: Global, step: usize, devices: Devices) -> Result<MemSink, Al
     Ok(writer)
 }
 
-/// How a run has to end, and what it has to write.
-#[derive(Clone, Copy)]
-pub struct Wanted<'w> {
-    pub end: Result<(), RunFault>,
-    pub replies: &'w [u8],
-}
-
 /// Checks one thing that a run came to, which moved so many bytes at a time.
 pub fn check_same<T: Copy + PartialEq + Debug>(rt: &impl Abort, step: usize, found: T, wanted: T) {
     assert_eq!(rt; found, wanted, "in pieces of {step}");
@@ -98,18 +85,18 @@ pub fn check_same<T: Copy + PartialEq + Debug>(rt: &impl Abort, step: usize, fou
 /// It meets the end of the script at most once.
 pub fn check<R: AllocGlobal + Abort>(
     rt: &R,
-    shape: Shape,
     script: &[u8],
     devices: Devices,
-    wanted: Wanted<'_>,
+    end: Result<(), RunFault>,
+    replies: &[u8],
 ) {
-    let is_flushed = wanted.end.is_ok() || devices.flush_fails;
-    for step in STEPS {
+    let is_flushed = end.is_ok() || devices.flush_fails;
+    for step in [1, 3, 5000] {
         let mut reader = reader_of(script, step, devices.good);
         let mut writer = writer_of(rt.alloc(), step, devices).expect(rt, "memory for a writer");
-        let found = run_over(rt.alloc(), &mut reader, &mut writer, shape);
-        check_same(rt, step, found, wanted.end);
-        check_same(rt, step, writer.taken.as_slice(), wanted.replies);
+        let found = run_over(rt.alloc(), &mut reader, &mut writer);
+        check_same(rt, step, found, end);
+        check_same(rt, step, writer.taken.as_slice(), replies);
         check_same(rt, step, writer.flushes, u64::from(is_flushed));
         check_same(rt, step, reader.ends <= 1, true);
     }

@@ -1,125 +1,116 @@
-//! Readers and writers of std.
+//! Readers and writers of std, and the texts of faults.
 //! No contract states how often a reader or a writer of std was called, so these count their calls.
 use crate::same::same;
-use crate::script_runs::{REPLIES, SCRIPT, run_over, shape_of};
+use crate::script_runs::{REPLIES, SCRIPT, run_over};
+use segindex::MakeFault;
 use segscript::{Failed, ReadSource, RunFault, Sink, Source, WriteSink};
-use std::alloc::Global;
 use std::io;
 use std::io::{ErrorKind, Read, Write};
 
-/// Hands out as many letters as it has left and the buffer takes. Then it ends or fails.
+/// A reader and a writer of std, which counts its calls and the bytes that it took.
+/// It hands out as many letters as it has left and the buffer takes.
 #[derive(Drop)]
-struct Letters {
+struct Device {
     left: usize,
-    fails: bool,
+    is_bad: bool,
+    flush_fails: bool,
     reads: u32,
+    writes: u32,
+    flushes: u32,
+    bytes: usize,
 }
 
-impl Read for Letters {
+// One that nothing has reached. A bad one fails at each write, and at a read that finds nothing left.
+fn new_device(left: usize, is_bad: bool, flush_fails: bool) -> Device {
+    Device {
+        left,
+        is_bad,
+        flush_fails,
+        reads: 0,
+        writes: 0,
+        flushes: 0,
+        bytes: 0,
+    }
+}
+
+fn ends<T: Drop>(fails: bool, value: T) -> io::Result<T> {
+    if fails {
+        return Err(io::Error::from(ErrorKind::Other));
+    }
+    Ok(value)
+}
+
+impl Read for Device {
     fn read(&mut self, buffer: &mut [u8]) -> io::Result<usize> {
         self.reads = self.reads.wrapping_add(1);
         let count = self.left.min(buffer.len());
-        if count == 0 && self.fails {
-            return Err(io::Error::from(ErrorKind::Other));
-        }
         buffer[..count].fill(b'a');
         self.left -= count;
-        Ok(count)
+        ends(count == 0 && self.is_bad, count)
     }
 }
 
-/// Counts the bytes, the writes and the flushes that reach it.
-#[derive(Drop)]
-struct Counter {
-    bytes: usize,
-    writes: u32,
-    flushes: u32,
-    write_fails: bool,
-    flush_fails: bool,
-}
-
-// A counter that nothing has reached.
-fn counter_of(write_fails: bool, flush_fails: bool) -> Counter {
-    Counter {
-        bytes: 0,
-        writes: 0,
-        flushes: 0,
-        write_fails,
-        flush_fails,
-    }
-}
-
-impl Write for Counter {
+impl Write for Device {
     fn write(&mut self, bytes: &[u8]) -> io::Result<usize> {
         self.writes = self.writes.wrapping_add(1);
-        if self.write_fails {
-            return Err(io::Error::from(ErrorKind::Other));
+        if !self.is_bad {
+            self.bytes = self.bytes.wrapping_add(bytes.len());
         }
-        self.bytes = self.bytes.wrapping_add(bytes.len());
-        Ok(bytes.len())
+        ends(self.is_bad, bytes.len())
     }
 
     fn flush(&mut self) -> io::Result<()> {
         self.flushes = self.flushes.wrapping_add(1);
-        if self.flush_fails {
-            Err(io::Error::from(ErrorKind::Other))
-        } else {
-            Ok(())
-        }
+        ends(self.flush_fails, ())
     }
-}
-
-// Runs the script over a reader and a writer of std.
-fn run(alloc: Global, counter: &mut Counter) -> Result<(), RunFault> {
-    let mut reader = ReadSource::new(SCRIPT);
-    let mut writer = WriteSink::new(counter);
-    run_over(alloc, &mut reader, &mut writer, shape_of(2))
 }
 
 #[test]
 fn a_flush_is_passed_on_and_an_end_is_no_failure(rt: HostRuntime) {
     for (flush_fails, end) in [(false, Ok(())), (true, Err(RunFault::Write))] {
-        let mut counter = counter_of(false, flush_fails);
-        let found = run(rt.alloc(), &mut counter);
-        same(&rt, &found, &end);
-        same(&rt, &counter.bytes, &REPLIES.len());
-        same(&rt, &counter.flushes, &1);
+        let mut device = new_device(0, false, flush_fails);
+        let mut reader = ReadSource::new(SCRIPT);
+        let mut writer = WriteSink::new(&mut device);
+        same(&rt, &run_over(rt.alloc(), &mut reader, &mut writer), &end);
+        same(&rt, &(device.bytes, device.flushes), &(REPLIES.len(), 1));
     }
 }
 
 #[test]
 fn a_read_is_one_read_of_std(rt: HostRuntime) {
     for (left, fails, told) in [(2, false, Ok(2)), (0, false, Ok(0)), (0, true, Err(Failed))] {
-        let mut letters = Letters {
-            left,
-            fails,
-            reads: 0,
-        };
-        let mut source = ReadSource::new(&mut letters);
+        let mut device = new_device(left, fails, false);
+        let mut source = ReadSource::new(&mut device);
         let mut buffer = [0; 8];
         same(&rt, &source.read(&mut buffer), &told);
-        same(&rt, &letters.reads, &1);
+        same(&rt, &device.reads, &1);
     }
 }
 
 #[test]
-fn a_write_is_one_write_of_std(rt: HostRuntime) {
-    for (write_fails, told) in [(false, Ok(2)), (true, Err(Failed))] {
-        let mut counter = counter_of(write_fails, false);
-        let mut sink = WriteSink::new(&mut counter);
-        same(&rt, &sink.write(b"ab"), &told);
-        same(&rt, &counter.writes, &1);
-        same(&rt, &counter.flushes, &0);
+fn a_write_and_a_flush_are_each_one_of_std(rt: HostRuntime) {
+    for (fails, written, flushed) in [(false, Ok(2), Ok(())), (true, Err(Failed), Err(Failed))] {
+        let mut device = new_device(0, fails, fails);
+        let mut sink = WriteSink::new(&mut device);
+        same(&rt, &sink.write(b"ab"), &written);
+        same(&rt, &(device.writes, device.flushes), &(1, 0));
+        let mut sink = WriteSink::new(&mut device);
+        same(&rt, &sink.flush(), &flushed);
+        same(&rt, &sink.flush(), &flushed);
+        same(&rt, &(device.writes, device.flushes), &(1, 2));
     }
 }
 
 #[test]
-fn a_flush_is_one_flush_of_std(rt: HostRuntime) {
-    for (flush_fails, told) in [(false, Ok(())), (true, Err(Failed))] {
-        let mut counter = counter_of(false, flush_fails);
-        let mut sink = WriteSink::new(&mut counter);
-        same(&rt, &sink.flush(), &told);
-        same(&rt, &sink.flush(), &told);
-        same(&rt, &counter.flushes, &2);
+fn the_texts_of_faults(rt: HostRuntime) {
+    for (fault, text) in [
+        (RunFault::Read, "read failed"),
+        (RunFault::Write, "write failed"),
+        (RunFault::Line(3), "bad line 3"),
+        (RunFault::TooLong, "script too long"),
+        (RunFault::Make(MakeFault::OutOfMemory), "out of memory"),
+    ] {
+        let shown = format!(in rt.alloc(); "{fault}").expect(&rt, "memory for a text");
+        same(&rt, &shown.as_str(), &text);
     }
 }

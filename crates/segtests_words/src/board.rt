@@ -22,16 +22,6 @@ const SHAPE: Shape = Shape {
 /// The counter, two buckets, an overflow bucket, and two segments of a word and two rows.
 const COUNT: usize = 1 + 16 + 8 + 2 * 17;
 
-#[test]
-fn every_word_at_the_start(rt: HostRuntime) -> Result<(), Fail> {
-    let (board, pass) = made(rt.alloc(), SHAPE)?;
-    let mut words = [0; COUNT];
-    words[1] = 0x0000_0005_0000_0000;
-    words[9] = 0x0000_0005_0000_0000;
-    check(&rt, &board.close(pass), &words);
-    Ok(())
-}
-
 // Takes the bit of bucket 1, and gives it back if that is asked for.
 // Returns the board's words after that.
 fn bit_of_bucket_1(rt: &impl Abort, alloc: Global, is_given_back: bool) -> Result<Words, Fail>

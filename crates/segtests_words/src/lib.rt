@@ -17,10 +17,6 @@ mod readers;
 #[cfg(test)]
 mod same;
 #[cfg(test)]
-mod spans;
-#[cfg(test)]
 mod table;
-#[cfg(test)]
-mod values_in_place;
 #[cfg(test)]
 mod words;

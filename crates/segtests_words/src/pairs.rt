@@ -1,13 +1,14 @@
-//! Keys, values and their words: the limits, words worked by hand, and words that no pair has.
+//! Keys, values and their words: the limits, words and rows worked by hand, and words that no pair has.
 //! They are the same in each build, but for lengths that only one of them has.
 use crate::same::same;
 use segword::{
     HEAD_WORDS, ITEM_WORDS, KEY_BYTES, Key, MOST_SPAN, ROW_WORDS, VALUE_BYTES, Value, read_key,
-    read_row, row_words,
+    read_row, row_words, span, span_of_header,
 };
 use std::process::Abort;
 
-fn key(rt: &impl Abort, bytes: &[u8]) -> Key {
+/// A key with these bytes, of which there aren't too many.
+pub fn key(rt: &impl Abort, bytes: &[u8]) -> Key {
     Key::new(bytes).expect(rt, "a key")
 }
 
@@ -97,4 +98,29 @@ fn words_that_no_pair_has_are_no_row(rt: HostRuntime) {
     let row = (read.as_bytes(), stored.as_bytes());
     same(&rt, &row, &(b"a".as_slice(), b"z".as_slice()));
     assert!(rt; read_row(&in_one_row([0x2018, 0, 0, last, 0, 0, 0, last])).is_some());
+}
+
+// An item's words are 1, at least 3 for the key, and those of the value: eight to a row.
+#[test]
+fn an_item_takes_the_rows_that_its_words_fill(rt: HostRuntime) {
+    let values = [0u32, 31, 32, 33, 96, 97, 4064];
+    for (key, rows) in [
+        (24u32, [1, 1, 1, 2, 2, 3, 64]),
+        (25, [1, 2, 2, 2, 3, 3, 65]),
+        (250, [5, 5, 5, 5, 6, 6, 68]),
+    ] {
+        for (value, rows) in values.into_iter().zip(rows) {
+            if key as usize <= KEY_BYTES {
+                let header = u64::from(value) << 8 | u64::from(key);
+                let found = (key, value, span(key, value), span_of_header(header));
+                same(&rt, &found, &(key, value, rows, rows));
+            }
+        }
+    }
+    let longest = span(KEY_BYTES as u32, VALUE_BYTES as u32) as usize;
+    same(
+        &rt,
+        &(longest, ITEM_WORDS),
+        &(MOST_SPAN, MOST_SPAN * ROW_WORDS),
+    );
 }

@@ -3,20 +3,22 @@
 use crate::same::same;
 use segpolicy::{Kind, Load, Workload, next_frequency};
 use segword::{Key, Value};
+use std::alloc::AllocGlobal;
 use std::process::Abort;
 
-// Checks that the next command is this one.
-fn check_next(
-    rt: &impl Abort,
+// Checks the next command. Its value is its draw, in decimals.
+fn check_next<R: AllocGlobal + Abort>(
+    rt: &R,
     workload: &mut Workload,
-    (kind, draw): (Kind, u32),
+    kind: Kind,
     key: &[u8],
-    value: &[u8],
+    draw: u32,
 ) {
+    let value = format!(in rt.alloc(); "{draw}").expect(rt, "memory for a text");
     let load = Load {
         kind,
         key: Key::new(key).expect(rt, "a key"),
-        value: Value::new(value).expect(rt, "a value"),
+        value: Value::new(value.as_bytes()).expect(rt, "a value"),
         draw,
     };
     same(rt, &workload.next(), &load);
@@ -41,11 +43,8 @@ fn frequencies(rt: HostRuntime) {
         (255, 0, 255),
         (255, 255, 255),
     ] {
-        assert_eq!(rt;
-            next_frequency(frequency, draw),
-            next,
-            "{frequency} by {draw}"
-        );
+        let found = (frequency, draw, next_frequency(frequency, draw));
+        same(&rt, &found, &(frequency, draw, next));
     }
 }
 
@@ -54,35 +53,11 @@ fn frequencies(rt: HostRuntime) {
 #[test]
 fn published_words_make_two_commands(rt: HostRuntime) {
     let mut small = Workload::new(42, 54);
-    check_next(
-        &rt,
-        &mut small,
-        (Kind::Get, 0xba1d_3330),
-        b"k55",
-        b"3122475824",
-    );
-    check_next(
-        &rt,
-        &mut small,
-        (Kind::Get, 0xcbed_606e),
-        b"k19",
-        b"3421331566",
-    );
+    check_next(&rt, &mut small, Kind::Get, b"k55", 0xba1d_3330);
+    check_next(&rt, &mut small, Kind::Get, b"k19", 0xcbed_606e);
     let mut large = Workload::with_keys(42, 54, 1_000_000);
-    check_next(
-        &rt,
-        &mut large,
-        (Kind::Get, 0xba1d_3330),
-        b"k161783",
-        b"3122475824",
-    );
-    check_next(
-        &rt,
-        &mut large,
-        (Kind::Get, 0xcbed_606e),
-        b"k639955",
-        b"3421331566",
-    );
+    check_next(&rt, &mut large, Kind::Get, b"k161783", 0xba1d_3330);
+    check_next(&rt, &mut large, Kind::Get, b"k639955", 0xcbed_606e);
 }
 
 // The commands were worked out from the published rule of the generator by another program, which
@@ -90,37 +65,20 @@ fn published_words_make_two_commands(rt: HostRuntime) {
 #[test]
 fn commands_of_each_kind(rt: HostRuntime) {
     let mut workload = Workload::new(7, 0);
-    for (kind, key, value, draw) in [
-        (
-            Kind::Get,
-            b"k17".as_slice(),
-            b"2740157135".as_slice(),
-            2740157135,
-        ),
-        (Kind::Gets, b"k63", b"785995372", 785995372),
-        (Kind::Set, b"k37", b"724092055", 724092055),
-        (Kind::Delete, b"k25", b"1028066956", 1028066956),
-        (Kind::Add, b"k51", b"2581433859", 2581433859),
+    for (kind, key, draw) in [
+        (Kind::Get, b"k17", 2740157135),
+        (Kind::Gets, b"k63", 785995372),
+        (Kind::Set, b"k37", 724092055),
+        (Kind::Delete, b"k25", 1028066956),
+        (Kind::Add, b"k51", 2581433859),
     ] {
-        check_next(&rt, &mut workload, (kind, draw), key, value);
+        check_next(&rt, &mut workload, kind, key, draw);
     }
     let mut other = Workload::new(7, 1);
-    check_next(
-        &rt,
-        &mut other,
-        (Kind::Replace, 1954657312),
-        b"k10",
-        b"1954657312",
-    );
+    check_next(&rt, &mut other, Kind::Replace, b"k10", 1954657312);
     let mut third = Workload::new(2, 0);
     for _ in 0..15 {
         let _earlier = third.next();
     }
-    check_next(
-        &rt,
-        &mut third,
-        (Kind::Cas, 257534981),
-        b"k18",
-        b"257534981",
-    );
+    check_next(&rt, &mut third, Kind::Cas, b"k18", 257534981);
 }

@@ -1,14 +1,7 @@
 //! Tables and texts that no contract has: hashes and words known from outside, and the limits.
+use crate::pairs::key;
 use crate::same::same;
-use segword::{
-    Chain, Info, Item, Key, Reading, SegmentWord, Shape, ShapeFault, bucket_of, hash, same_item,
-    tag_of,
-};
-use std::process::Abort;
-
-fn key(rt: &impl Abort, bytes: &[u8]) -> Key {
-    Key::new(bytes).expect(rt, "a key")
-}
+use segword::{Chain, Info, Reading, Shape, ShapeFault, bucket_of, hash, same_item, tag_of};
 
 #[test]
 fn keys_have_their_published_hashes(rt: HostRuntime) {
@@ -46,173 +39,57 @@ fn keys_have_their_published_hashes(rt: HostRuntime) {
     same(&rt, &buckets, &[65_535, 0, 1]);
 }
 
+// The other words and their readings are cases of `segrun word`, and the table's tests.
 #[test]
 fn words_have_their_parts(rt: HostRuntime) {
     // Items are told apart but for the frequency.
-    let item = Item {
-        tag: 0xaf6,
-        freq: 1,
-        seg: 2,
-        row: 3,
-    };
-    let often = Item {
-        tag: 0xaf6,
-        freq: 255,
-        seg: 2,
-        row: 3,
-    };
     let word = 0xaf60_1000_0020_0003;
-    same(
-        &rt,
-        &(item.pack(), often.pack()),
-        &(word, 0xaf6f_f000_0020_0003),
-    );
-    let are_same = [
-        same_item(word, 0xaf6f_f000_0020_0003),
-        same_item(word, 0xaf60_1000_0020_0004),
-        same_item(word, 0xaf60_1000_0030_0003),
-        same_item(word, 0xaf70_1000_0020_0003),
-        same_item(1, 1),
-    ];
-    same(&rt, &are_same, &[true, false, false, false, false]);
-    let unpacked = (Item::unpack(word), Item::unpack(0x000f_ffff_ffff_ffff));
-    same(&rt, &unpacked, &(Some(item), None));
+    for (other, is_same) in [
+        (0xaf6f_f000_0020_0003, true),
+        (0xaf60_1000_0020_0004, false),
+        (0xaf60_1000_0030_0003, false),
+        (0xaf70_1000_0020_0003, false),
+    ] {
+        same(&rt, &(other, same_item(word, other)), &(other, is_same));
+    }
+    same(&rt, &same_item(1, 1), &false);
     // Information has no bit between.
     let held = Info {
         version: 5,
         held: true,
     };
     same(&rt, &held.pack(), &0x0000_0005_0000_0001);
-    let unpacked = [
-        Info::unpack(0x0000_0005_0000_0001),
-        Info::unpack(0x0000_0001_0000_0002),
-        Info::unpack(0x0000_0001_8000_0000),
-    ];
-    same(&rt, &unpacked, &[Some(held), None, None]);
-    // A deadline stands above the readers.
-    let segment = SegmentWord {
-        deadline: 7,
-        readers: 3,
-    };
-    same(&rt, &segment.pack(), &0x0000_0007_0000_0003);
-    same(&rt, &SegmentWord::unpack(0x0000_0007_0000_0003), &segment);
-}
-
-#[test]
-fn a_word_has_one_of_three_readings_or_none(rt: HostRuntime) {
-    let unpacked = [
-        Chain::unpack(0),
-        Chain::unpack(1),
-        Chain::unpack(0x0001_0000),
-        Chain::unpack(0x0001_0001),
-        Chain::unpack(0x0000_0001_0000_0001),
-    ];
-    same(&rt, &unpacked, &[None, Some(0), Some(65_535), None, None]);
-    same(&rt, &Chain::pack(65_535), &0x0001_0000);
-    let item = Item {
-        tag: 1,
-        freq: 0,
-        seg: 0,
-        row: 0,
-    };
-    let readings = [
-        Reading::Empty,
-        Reading::Chain(0),
-        Reading::Chain(1),
-        Reading::Item(item),
-    ];
-    for (word, reading) in [0, 1, 2, 0x0010_0000_0000_0000].into_iter().zip(readings) {
-        same(
-            &rt,
-            &(Reading::unpack(word), reading.pack()),
-            &(Some(reading), word),
-        );
+    for word in [0x0000_0001_0000_0002, 0x0000_0001_8000_0000] {
+        same(&rt, &Info::unpack(word), &None);
     }
     for word in [0x0001_0001, 0x000f_ffff_ffff_ffff] {
-        same(&rt, &Reading::unpack(word), &None);
-    }
-}
-
-#[test]
-fn the_first_fault_of_a_shape_is_told(rt: HostRuntime) {
-    let shape = Shape {
-        buckets: 1,
-        overflow: 0,
-        passes: 64,
-        segments_each: 1024,
-        rows: 127,
-        first_version: 0,
-    };
-    let large = Shape { rows: 128, ..shape };
-    same(
-        &rt,
-        &(shape.words(), large.words()),
-        &(66_650_121, 67_174_409),
-    );
-    let no_rows = Shape { rows: 0, ..shape };
-    let no_segments = Shape {
-        segments_each: 1025,
-        ..no_rows
-    };
-    let no_passes = Shape {
-        passes: 65,
-        ..no_segments
-    };
-    let overflow = Shape {
-        overflow: 65_537,
-        ..no_passes
-    };
-    let three = Shape {
-        buckets: 3,
-        ..overflow
-    };
-    for (shape, told) in [
-        (shape, Ok(())),
-        (large, Err(ShapeFault::TooLarge)),
-        (no_rows, Err(ShapeFault::BadRows)),
-        (no_segments, Err(ShapeFault::BadSegments)),
-        (no_passes, Err(ShapeFault::BadPasses)),
-        (overflow, Err(ShapeFault::BadOverflow)),
-        (three, Err(ShapeFault::BadBuckets)),
-    ] {
-        same(&rt, &shape.check(), &told);
+        same(
+            &rt,
+            &(Chain::unpack(word), Reading::unpack(word)),
+            &(None, None),
+        );
     }
 }
 
 #[test]
 fn faults_have_texts_and_numbers(rt: HostRuntime) {
-    for (fault, number, text) in [
-        (
-            ShapeFault::BadBuckets,
-            1u8,
-            "the number of buckets is not a power of two, or is over 65536",
-        ),
-        (
-            ShapeFault::BadOverflow,
-            2,
-            "the number of overflow buckets is over 65536",
-        ),
-        (
-            ShapeFault::BadPasses,
-            3,
-            "the number of passes is not 1 to 64",
-        ),
-        (
-            ShapeFault::BadSegments,
-            4,
-            "the number of segments of a pass is not 1 to 1024",
-        ),
-        (
-            ShapeFault::BadRows,
-            5,
-            "the number of rows of a segment is not 1 to 4096",
-        ),
-        (
-            ShapeFault::TooLarge,
-            6,
-            "the table would have over 67108864 words",
-        ),
-    ] {
+    let faults = [
+        ShapeFault::BadBuckets,
+        ShapeFault::BadOverflow,
+        ShapeFault::BadPasses,
+        ShapeFault::BadSegments,
+        ShapeFault::BadRows,
+        ShapeFault::TooLarge,
+    ];
+    let texts = [
+        "the number of buckets is not a power of two, or is over 65536",
+        "the number of overflow buckets is over 65536",
+        "the number of passes is not 1 to 64",
+        "the number of segments of a pass is not 1 to 1024",
+        "the number of rows of a segment is not 1 to 4096",
+        "the table would have over 67108864 words",
+    ];
+    for ((fault, text), number) in faults.into_iter().zip(texts).zip(1..=6u8) {
         let shown = format!(in rt.alloc(); "{fault}").expect(&rt, "memory");
         same(&rt, &(fault.number(), shown.as_str()), &(number, text));
     }

@@ -1,5 +1,5 @@
 //! The command line.
-use crate::mix::{Mix, Way, mix_named, way_named};
+use crate::mix::{Mix, Way, mix_named};
 use segclient::Shape;
 
 /// What is measured. Its words have places, as those of the programs in bench/common.
@@ -22,10 +22,7 @@ pub struct Asked {
 }
 
 fn word(words: &[String], place: usize) -> &str {
-    match words.get(place) {
-        Some(word) => word.as_str(),
-        None => "",
-    }
+    words.get(place).map_or("", |word| word.as_str())
 }
 
 fn number(words: &[String], place: usize) -> Option<u32> {
@@ -40,11 +37,12 @@ pub fn asked_of(words: &[String]) -> Option<Asked> {
     }
     let keys = number(words, 2)?;
     let threads = number(words, 3)?;
+    let (mix, way) = mix_named(name)?;
     let is_plan = name == "plan";
     Some(Asked {
         is_plan,
-        mix: mix_named(name)?,
-        way: way_named(name),
+        mix,
+        way,
         is_zipf: draw == "zipf",
         keys,
         threads,

@@ -16,20 +16,9 @@ pub enum Way {
     Apart,
 }
 
-/// The way of a mix.
-pub fn way_named(name: &str) -> Way {
-    match name {
-        "gets16" => Way::Together,
-        "mixed16" => Way::Ahead,
-        "gets16apart" | "mixed16apart" => Way::Apart,
-        _ => Way::Alone,
-    }
-}
-
 /// A mix. bench/README.md explains each.
 #[derive(Clone, Copy)]
 pub enum Mix {
-    Sets,
     Replaces,
     Fetches,
     Mixed,
@@ -55,10 +44,16 @@ pub enum Kind {
     Fetch,
 }
 
-/// The mix of one of the names. Those of one letter are YCSB's.
-pub fn mix_named(name: &str) -> Option<Mix> {
-    Some(match name {
-        "plan" | "sets" => Mix::Sets,
+/// The mix of one of the names, and its way. Those of one letter are YCSB's.
+pub fn mix_named(name: &str) -> Option<(Mix, Way)> {
+    let way = match name {
+        "gets16" => Way::Together,
+        "mixed16" => Way::Ahead,
+        "gets16apart" | "mixed16apart" => Way::Apart,
+        _ => Way::Alone,
+    };
+    let mix = match name {
+        "plan" | "sets" => Mix::Shared(0),
         "replaces" => Mix::Replaces,
         "a" => Mix::Shared(50),
         "b" => Mix::Shared(95),
@@ -67,7 +62,8 @@ pub fn mix_named(name: &str) -> Option<Mix> {
         "fetches" => Mix::Fetches,
         "mixed" | "mixed16" | "mixed16apart" => Mix::Mixed,
         _ => return None,
-    })
+    };
+    Some((mix, way))
 }
 
 impl Mix {
@@ -75,7 +71,7 @@ impl Mix {
     pub fn kind(self, draw: u32) -> Kind {
         match self {
             Mix::Shared(gets) | Mix::Modifying(gets) if draw % 100 < gets => Kind::Get,
-            Mix::Sets | Mix::Shared(_) => Kind::Set,
+            Mix::Shared(_) => Kind::Set,
             Mix::Modifying(_) => Kind::Modify,
             Mix::Replaces => Kind::Replace,
             Mix::Fetches => Kind::Fetch,

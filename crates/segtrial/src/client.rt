@@ -156,20 +156,14 @@ impl<'a> ClientCaller<'a> {
         ensures index { self.new.client.index.now ≡ self.old.client.index.now }
         ensures held { holding self.new.client.member.pass ≡ holding self.old.client.member.pass }
     {
-        set_now(&mut self.client, now);
         let before = self.client.stats();
         let called = self.session.stamp();
-        let answer = put(&mut self.client, key, value);
-        let stamps = (called, self.session.stamp());
+        let answer = put(&mut self.client, key, value, now);
         let recycled = self.recycled(before);
         let (place, number, until) = (asked.place, self.number, self.until());
-        self.session.notes.add(
-            stamps,
-            format_args!(
-                "put {place} {now} {} {number} {until} {answer:?}{recycled}",
-                asked.value
-            ),
-        );
+        let stored = format_args!("{place} {now} {} {number} {until}", asked.value);
+        self.session
+            .note(called, format_args!("put {stored} {answer:?}{recycled}"));
         if self.left == 0 && recycled.refilled > 0 {
             self.left = self.session.desk.rows;
         }
@@ -187,10 +181,9 @@ impl<'a> ClientCaller<'a> {
         let Some(answer) = serve(&mut self.client, &asked.command) else {
             return;
         };
-        let stamps = (called, self.session.stamp());
         let recycled = self.recycled(before);
         asked.deadline = self.until();
-        self.session.note_answer(stamps, &asked, &answer, recycled);
+        self.session.note_answer(called, &asked, &answer, recycled);
         self.go_on(answer == Answer::Write(WriteAnswer::Stored), recycled);
         if answer == Answer::Write(WriteAnswer::NoRoom) {
             (self.left, self.is_sure) = (0, true);
@@ -203,16 +196,14 @@ impl<'a> ClientCaller<'a> {
         ensures held { holding self.new.client.member.pass ≡ holding self.old.client.member.pass }
     {
         let now = self.session.draws.moment();
-        set_now(&mut self.client, now);
         let before = self.client.stats();
         let called = self.session.stamp();
-        let is_made = make_room(&mut self.client);
-        let stamps = (called, self.session.stamp());
+        let is_made = make_room(&mut self.client, now);
         let recycled = self.recycled(before);
         let answer = if is_made { "Made" } else { "NotMade" };
         let number = self.number;
-        self.session.notes.add(
-            stamps,
+        self.session.note(
+            called,
             format_args!("make_room {number} {answer}{recycled}"),
         );
         self.is_sure = is_made && (self.is_sure || recycled.refilled > 0);
@@ -229,14 +220,12 @@ impl<'a> ClientCaller<'a> {
         let Some(keys) = all.get(first..first.saturating_add(EACH)) else {
             return;
         };
-        set_now(&mut self.client, now);
         let called = self.session.stamp();
+        self.client.set_now(now);
         get_many(&mut self.client, keys, self.answers.as_mut_slice());
-        let stamps = (called, self.session.stamp());
         let answers = Several(&self.answers);
         self.session
-            .notes
-            .add(stamps, format_args!("get_many {bucket} {now}{answers}"));
+            .note(called, format_args!("get_many {bucket} {now}{answers}"));
     }
 
     // The deadline of what is stored now.
@@ -280,21 +269,21 @@ impl<'a> ClientCaller<'a> {
         let called = self.session.stamp();
         let answer = self.client.hold(key);
         let stamps = (called, self.session.stamp());
-        let notes = &mut self.session.notes;
-        match answer {
+        let told = match answer {
             HoldAnswer::Holding(hold) => {
                 hold_stays();
                 let number = number_of(&self.client.held_value(&hold));
-                notes.add(stamps, format_args!("hold {place} {now} Found {number}"));
+                let call = format_args!("hold {place} {now} Found {number}");
+                self.session.notes.add(stamps, call);
                 self.make_commands();
-                self.end_hold(place.bucket, hold);
+                return self.end_hold(place.bucket, hold);
             }
-            HoldAnswer::Miss => notes.add(stamps, format_args!("hold {place} {now} Miss")),
-            HoldAnswer::Busy => notes.add(stamps, format_args!("hold {place} {now} Busy")),
-            HoldAnswer::AlreadyHolding => {
-                notes.add(stamps, format_args!("hold {place} {now} AlreadyHolding"));
-            }
-        }
+            HoldAnswer::Miss => "Miss",
+            HoldAnswer::Busy => "Busy",
+            HoldAnswer::AlreadyHolding => "AlreadyHolding",
+        };
+        let notes = &mut self.session.notes;
+        notes.add(stamps, format_args!("hold {place} {now} {told}"));
     }
 
     // The two commands that are made while an item is held.
@@ -314,15 +303,11 @@ impl<'a> ClientCaller<'a> {
         let value = self.client.held_value(&hold);
         let stamps = (called, self.session.stamp());
         let number = number_of(&value);
-        self.session
-            .notes
-            .add(stamps, format_args!("held {bucket} {number}"));
+        let notes = &mut self.session.notes;
+        notes.add(stamps, format_args!("held {bucket} {number}"));
         let called = self.session.stamp();
         self.client.release(hold);
-        let stamps = (called, self.session.stamp());
-        self.session
-            .notes
-            .add(stamps, format_args!("release {bucket}"));
+        self.session.note(called, format_args!("release {bucket}"));
     }
 }
 
@@ -339,27 +324,21 @@ impl Display for Several<'_> {
     }
 }
 
-// Sets the clock of a client. What it holds stays held.
-fn set_now(client: &mut Client<'_>, now: u32)
+// A put at a moment. What the client holds stays held.
+fn put(client: &mut Client<'_>, key: &Key, value: &Value, now: u32) -> PutAnswer
     ensures index { client.new.index.now ≡ client.old.index.now }
     ensures held { holding client.new.member.pass ≡ holding client.old.member.pass }
 {
     client.set_now(now);
-}
-
-// A put. What the client holds stays held.
-fn put(client: &mut Client<'_>, key: &Key, value: &Value) -> PutAnswer
-    ensures index { client.new.index.now ≡ client.old.index.now }
-    ensures held { holding client.new.member.pass ≡ holding client.old.member.pass }
-{
     client.put(key, value)
 }
 
-// Makes room, and returns whether there is some. What the client holds stays held.
-fn make_room(client: &mut Client<'_>) -> bool
+// Makes room at a moment, and returns whether there is some. What the client holds stays held.
+fn make_room(client: &mut Client<'_>, now: u32) -> bool
     ensures index { client.new.index.now ≡ client.old.index.now }
     ensures held { holding client.new.member.pass ≡ holding client.old.member.pass }
 {
+    client.set_now(now);
     client.make_room()
 }
 
@@ -375,32 +354,24 @@ fn serve(client: &mut Client<'_>, command: &Command) -> Option<Answer>
     ensures index { client.new.index.now ≡ client.old.index.now }
     ensures held { holding client.new.member.pass ≡ holding client.old.member.pass }
 {
-    match command {
-        Command::Get(key, now) => {
-            client.set_now(*now);
-            Some(Answer::Get(client.get(key)))
-        }
-        Command::Gets(key, now) => {
-            client.set_now(*now);
-            Some(Answer::Gets(client.gets(key)))
-        }
-        Command::Write(request) => {
-            client.set_now(request.moment());
-            Some(write(client, request))
-        }
-        Command::Keep(_, _) | Command::Evict(_) | Command::Refill(_, _) => None,
-    }
-}
-
-fn write(client: &mut Client<'_>, request: &Request) -> Answer
-    ensures index { client.new.index.now ≡ client.old.index.now }
-    ensures held { holding client.new.member.pass ≡ holding client.old.member.pass }
-{
-    match request {
-        Request::Set(key, value, _) => Answer::Write(client.set(key, value)),
-        Request::Add(key, value, _) => Answer::Write(client.add(key, value)),
-        Request::Replace(key, value, _) => Answer::Write(client.replace(key, value)),
-        Request::Cas(key, value, expected, _) => Answer::Write(client.cas(key, value, *expected)),
-        Request::Delete(key, _) => Answer::Delete(client.delete(key)),
-    }
+    let now = match command {
+        Command::Get(_, now) | Command::Gets(_, now) => *now,
+        Command::Write(request) => request.moment(),
+        Command::Keep(_, _) | Command::Evict(_) | Command::Refill(_, _) => return None,
+    };
+    client.set_now(now);
+    Some(match command {
+        Command::Get(key, _) => Answer::Get(client.get(key)),
+        Command::Gets(key, _) => Answer::Gets(client.gets(key)),
+        Command::Write(Request::Set(key, value, _)) => Answer::Write(client.set(key, value)),
+        Command::Write(Request::Add(key, value, _)) => Answer::Write(client.add(key, value)),
+        Command::Write(Request::Replace(key, value, _)) => Answer::Write(client.replace(
+            key, value,
+        )),
+        Command::Write(Request::Cas(key, value, expected, _)) => Answer::Write(client.cas(
+            key, value, *expected,
+        )),
+        Command::Write(Request::Delete(key, _)) => Answer::Delete(client.delete(key)),
+        _ => return None,
+    })
 }

@@ -45,29 +45,15 @@ impl Draws {
             rows: if has_clients {
                 self.below(3).saturating_add(2)
             } else {
-                self.rows()
+                2u32.wrapping_shl(self.below(4))
             },
             first_version: self.below(VERSIONS).wrapping_sub(VERSIONS),
         }
     }
 
-    fn rows(&mut self) -> u32 {
-        match self.below(4) {
-            0 => 2,
-            1 => 4,
-            2 => 8,
-            _ => 16,
-        }
-    }
-
     /// From which frequency on items are kept. From 0 or 1 on that is every item.
     pub fn cutoff(&mut self) -> u8 {
-        match self.below(4) {
-            0 => 0,
-            1 => 1,
-            2 => 2,
-            _ => 3,
-        }
+        self.below(4) as u8
     }
 
     /// The place of a key.

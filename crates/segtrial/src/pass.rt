@@ -6,9 +6,9 @@ ghost use Rattle.segstore.specs.Words.{IsQuiet, IsQuiet-prop};
 ghost use Rattle.segread.specs.Words.{IsHoldOf};
 
 use crate::keys::{Place, number_of};
-use crate::session::{Desk, Notes, Session};
+use crate::session::{Asked, Desk, Notes, Session};
 use segindex::{Hold, HoldAnswer, Index, LockAnswer, Pass, hold_stays};
-use segmodel::{Answer, Command, EvictAnswer, KeepAnswer, RefillAnswer, WriteAnswer};
+use segmodel::{Answer, Command, EvictAnswer, RefillAnswer, WriteAnswer};
 use std::alloc::Global;
 
 /// How many turns are made while a bucket is locked.
@@ -100,13 +100,43 @@ impl<'a> PassCaller<'a> {
             return;
         };
         let draw = self.session.draws.below(u32::MAX);
-        let called = self.session.stamp();
-        let answer = serve(self.index, &mut self.pass, &asked.command, draw);
-        let stamps = (called, self.session.stamp());
-        self.session.note_answer(stamps, &asked, &answer, "");
-        if answer == Answer::Write(WriteAnswer::NoRoom) {
+        if self.serve(&asked, draw) == Answer::Write(WriteAnswer::NoRoom) {
             self.refill();
         }
+    }
+
+    // Makes a command, and notes its answer and what that tells of the segments.
+    fn serve(&mut self, asked: &Asked, draw: u32) -> Answer
+        ensures index { self.new.index.now ≡ self.old.index.now }
+        ensures held { holding self.new.pass ≡ holding self.old.pass }
+    {
+        let called = self.session.stamp();
+        let answer = serve(self.index, &mut self.pass, &asked.command, draw);
+        self.session.note_answer(called, asked, &answer, "");
+        match (&asked.command, &answer) {
+            (_, Answer::Keep(_) | Answer::Evict(EvictAnswer::Busy(_))) => self.is_unsure = true,
+            (Command::Refill(segment, deadline), Answer::Refill(RefillAnswer::Refilled)) => {
+                self.segment = *segment;
+                self.deadline = *deadline;
+            }
+            _ => {}
+        }
+        answer
+    }
+
+    // The same of a command on segments.
+    fn serve_segment(&mut self, command: Command)
+        ensures index { self.new.index.now ≡ self.old.index.now }
+        ensures held { holding self.new.pass ≡ holding self.old.pass }
+    {
+        let asked = Asked {
+            place: Place::of_number(0),
+            value: 0,
+            segment: self.segment,
+            deadline: self.deadline,
+            command,
+        };
+        self.serve(&asked, 0);
     }
 
     // Goes on to the next segment, moves items of the oldest one there that were read often enough,
@@ -118,16 +148,8 @@ impl<'a> PassCaller<'a> {
         self.refill();
         let segment = self.next_segment();
         let cutoff = self.session.draws.cutoff();
-        let called = self.session.stamp();
-        let answer = keep(self.index, &mut self.pass, segment, cutoff);
-        let stamps = (called, self.session.stamp());
-        let into = self.segment;
-        self.session.notes.add(
-            stamps,
-            format_args!("keep {segment} {into} {cutoff} {answer:?}"),
-        );
-        self.is_unsure = true;
-        self.evict(segment);
+        self.serve_segment(Command::Keep(segment, cutoff));
+        self.serve_segment(Command::Evict(segment));
     }
 
     // The segment that the pass goes on to next. It is the one that was refilled first.
@@ -137,19 +159,6 @@ impl<'a> PassCaller<'a> {
         first.saturating_add(self.fillings % each)
     }
 
-    fn evict(&mut self, segment: u32)
-        ensures index { self.new.index.now ≡ self.old.index.now }
-        ensures held { holding self.new.pass ≡ holding self.old.pass }
-    {
-        let called = self.session.stamp();
-        let answer = evict(self.index, &mut self.pass, segment);
-        let stamps = (called, self.session.stamp());
-        self.session
-            .notes
-            .add(stamps, format_args!("evict {segment} {answer:?}"));
-        self.is_unsure = self.is_unsure || matches!(answer, EvictAnswer::Busy(_));
-    }
-
     /// Evicts and refills the next segment. If that is done, the pass stores there from then on.
     pub fn refill(&mut self)
         ensures index { self.new.index.now ≡ self.old.index.now }
@@ -157,19 +166,9 @@ impl<'a> PassCaller<'a> {
     {
         let segment = self.next_segment();
         self.fillings = self.fillings.wrapping_add(1);
-        self.evict(segment);
+        self.serve_segment(Command::Evict(segment));
         let deadline = self.session.draws.deadline();
-        let called = self.session.stamp();
-        let answer = refill(self.index, &mut self.pass, segment, deadline);
-        let stamps = (called, self.session.stamp());
-        self.session.notes.add(
-            stamps,
-            format_args!("refill {segment} {deadline} {answer:?}"),
-        );
-        if answer == RefillAnswer::Refilled {
-            self.segment = segment;
-            self.deadline = deadline;
-        }
+        self.serve_segment(Command::Refill(segment, deadline));
     }
 
     // Holds an item, while two commands are made if that is wanted.
@@ -181,21 +180,21 @@ impl<'a> PassCaller<'a> {
         let called = self.session.stamp();
         let answer = index.hold(&mut self.pass, key, now);
         let stamps = (called, self.session.stamp());
-        let notes = &mut self.session.notes;
-        match answer {
+        let told = match answer {
             HoldAnswer::Holding(hold) => {
                 hold_stays();
                 let number = number_of(&index.held_value(&mut self.pass, &hold));
-                notes.add(stamps, format_args!("hold {place} {now} Found {number}"));
+                let call = format_args!("hold {place} {now} Found {number}");
+                self.session.notes.add(stamps, call);
                 self.make_commands(has_commands);
-                self.end_hold(place.bucket, hold);
+                return self.end_hold(place.bucket, hold);
             }
-            HoldAnswer::Miss => notes.add(stamps, format_args!("hold {place} {now} Miss")),
-            HoldAnswer::Busy => notes.add(stamps, format_args!("hold {place} {now} Busy")),
-            HoldAnswer::AlreadyHolding => {
-                notes.add(stamps, format_args!("hold {place} {now} AlreadyHolding"));
-            }
-        }
+            HoldAnswer::Miss => "Miss",
+            HoldAnswer::Busy => "Busy",
+            HoldAnswer::AlreadyHolding => "AlreadyHolding",
+        };
+        let notes = &mut self.session.notes;
+        notes.add(stamps, format_args!("hold {place} {now} {told}"));
     }
 
     // The two commands that are made while an item is held, if there are any.
@@ -217,15 +216,11 @@ impl<'a> PassCaller<'a> {
         let value = self.index.held_value(&mut self.pass, &hold);
         let stamps = (called, self.session.stamp());
         let number = number_of(&value);
-        self.session
-            .notes
-            .add(stamps, format_args!("held {bucket} {number}"));
+        let notes = &mut self.session.notes;
+        notes.add(stamps, format_args!("held {bucket} {number}"));
         let called = self.session.stamp();
         self.index.release(&mut self.pass, hold);
-        let stamps = (called, self.session.stamp());
-        self.session
-            .notes
-            .add(stamps, format_args!("release {bucket}"));
+        self.session.note(called, format_args!("release {bucket}"));
     }
 
     // Locks a bucket for the next turns, unless the pass has one locked.
@@ -237,10 +232,8 @@ impl<'a> PassCaller<'a> {
         };
         let called = self.session.stamp();
         let answer = self.index.lock_bucket(&mut self.pass, key);
-        let stamps = (called, self.session.stamp());
         self.session
-            .notes
-            .add(stamps, format_args!("lock {bucket} {answer:?}"));
+            .note(called, format_args!("lock {bucket} {answer:?}"));
         if answer == LockAnswer::Locked {
             self.locked = Some((bucket, MEANWHILE));
         }
@@ -258,11 +251,9 @@ impl<'a> PassCaller<'a> {
     fn unlock(&mut self, bucket: usize) {
         let called = self.session.stamp();
         let is_unlocked = self.index.unlock_bucket(&mut self.pass);
-        let stamps = (called, self.session.stamp());
         let answer = if is_unlocked { "Unlocked" } else { "NotLocked" };
         self.session
-            .notes
-            .add(stamps, format_args!("unlock {bucket} {answer}"));
+            .note(called, format_args!("unlock {bucket} {answer}"));
         self.locked = None;
     }
 }
@@ -274,31 +265,4 @@ fn serve(index: &Index, pass: &mut Pass, command: &Command, draw: u32) -> Answer
     ensures held { holding pass.new ≡ holding pass.old }
 {
     index.serve(pass, command, draw)
-}
-
-// Evicts a segment. What the pass holds stays held.
-fn evict(index: &Index, pass: &mut Pass, segment: u32) -> EvictAnswer
-    requires { IsQuiet (board_of index.now) pass.old }
-    ensures quiet { IsQuiet (board_of index.now) pass.new }
-    ensures held { holding pass.new ≡ holding pass.old }
-{
-    index.evict(pass, segment)
-}
-
-// A keep. What the pass holds stays held.
-fn keep(index: &Index, pass: &mut Pass, segment: u32, cutoff: u8) -> KeepAnswer
-    requires { IsQuiet (board_of index.now) pass.old }
-    ensures quiet { IsQuiet (board_of index.now) pass.new }
-    ensures held { holding pass.new ≡ holding pass.old }
-{
-    index.keep(pass, segment, cutoff)
-}
-
-// A refill. What the pass holds stays held.
-fn refill(index: &Index, pass: &mut Pass, segment: u32, deadline: u32) -> RefillAnswer
-    requires { IsQuiet (board_of index.now) pass.old }
-    ensures quiet { IsQuiet (board_of index.now) pass.new }
-    ensures held { holding pass.new ≡ holding pass.old }
-{
-    index.refill(pass, segment, deadline)
 }

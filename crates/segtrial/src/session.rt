@@ -95,6 +95,12 @@ impl<'a> Session<'a> {
         self.desk.clock.fetch_add(1, Ordering::SeqCst)
     }
 
+    /// Notes a call that has just returned, and its answer. Its first stamp was drawn before.
+    pub fn note<C: Display + Drop>(&mut self, called: u64, call: C) {
+        let returned = self.stamp();
+        self.notes.add((called, returned), call);
+    }
+
     /// Counts the calling thread as there, and waits until all are.
     pub fn meet(&self) {
         self.desk.there.fetch_add(1, Ordering::SeqCst);
@@ -129,59 +135,42 @@ impl<'a> Session<'a> {
         })
     }
 
-    /// Notes the answer to a command, and what the call recycled.
+    /// Notes the answer to a command that has just returned, and what the call recycled.
     pub fn note_answer<C: Display + Drop>(
         &mut self,
-        stamps: (u64, u64),
+        called: u64,
         asked: &Asked,
         answer: &Answer,
         recycled: C,
     ) {
-        let notes = &mut self.notes;
-        match answer {
-            Answer::Get(answer) => {
-                notes.add(stamps, format_args!("{asked} {}{recycled}", Found(answer)));
+        self.note(called, format_args!("{asked} {}{recycled}", Told(answer)));
+        if let Answer::Gets(GetsAnswer::Found(_, version)) = answer {
+            if let Some(last) = self.versions.get_mut(asked.place.bucket) {
+                *last = *version;
             }
-            Answer::Gets(GetsAnswer::Found(value, version)) => {
-                let number = number_of(value);
-                notes.add(
-                    stamps,
-                    format_args!("{asked} Found {number} {version}{recycled}"),
-                );
-                if let Some(last) = self.versions.get_mut(asked.place.bucket) {
-                    *last = *version;
-                }
-            }
-            Answer::Gets(answer) => notes.add(stamps, format_args!("{asked} {answer:?}{recycled}")),
-            Answer::Write(answer) => {
-                notes.add(stamps, format_args!("{asked} {answer:?}{recycled}"));
-            }
-            Answer::Delete(answer) => {
-                notes.add(stamps, format_args!("{asked} {answer:?}{recycled}"));
-            }
-            Answer::Keep(_) | Answer::Evict(_) | Answer::Refill(_) => {}
         }
     }
 }
 
 impl Display for Asked {
     fn fmt<W: Write>(&self, f: &mut Formatter<W>) -> fmt::Result {
-        let (verb, now) = match &self.command {
-            Command::Get(_, now) => ("get", *now),
-            Command::Gets(_, now) => ("gets", *now),
-            Command::Write(request) => (verb_of(request), request.moment()),
-            Command::Keep(_, _) | Command::Evict(_) | Command::Refill(_, _) => return Ok(()),
-        };
-        write!(f, "{verb} {} {now}", self.place)?;
+        let place = self.place;
         match &self.command {
-            Command::Get(_, _) | Command::Gets(_, _) | Command::Write(Request::Delete(_, _)) => {
-                return Ok(());
+            Command::Get(_, now) => write!(f, "get {place} {now}"),
+            Command::Gets(_, now) => write!(f, "gets {place} {now}"),
+            Command::Write(request) => {
+                write!(f, "{} {place} {}", verb_of(request), request.moment())?;
+                if !matches!(request, Request::Delete(_, _)) {
+                    write!(f, " {} {} {}", self.value, self.segment, self.deadline)?;
+                }
+                match request {
+                    Request::Cas(_, _, expected, _) => write!(f, " {expected}"),
+                    _ => Ok(()),
+                }
             }
-            _ => write!(f, " {} {} {}", self.value, self.segment, self.deadline)?,
-        }
-        match &self.command {
-            Command::Write(Request::Cas(_, _, expected, _)) => write!(f, " {expected}"),
-            _ => Ok(()),
+            Command::Keep(from, cutoff) => write!(f, "keep {from} {} {cutoff}", self.segment),
+            Command::Evict(segment) => write!(f, "evict {segment}"),
+            Command::Refill(segment, deadline) => write!(f, "refill {segment} {deadline}"),
         }
     }
 }
@@ -193,6 +182,29 @@ fn verb_of(request: &Request) -> &'static str {
         Request::Replace(_, _, _) => "replace",
         Request::Cas(_, _, _, _) => "cas",
         Request::Delete(_, _) => "delete",
+    }
+}
+
+// An answer, with the numbers of values.
+#[derive(Clone, Copy)]
+struct Told<'a>(&'a Answer);
+
+impl Display for Told<'_> {
+    fn fmt<W: Write>(&self, f: &mut Formatter<W>) -> fmt::Result {
+        match self.0 {
+            Answer::Get(answer) => write!(f, "{}", Found(answer)),
+            Answer::Gets(GetsAnswer::Found(value, version)) => write!(
+                f,
+                "Found {} {version}",
+                number_of(value)
+            ),
+            Answer::Gets(answer) => write!(f, "{answer:?}"),
+            Answer::Write(answer) => write!(f, "{answer:?}"),
+            Answer::Delete(answer) => write!(f, "{answer:?}"),
+            Answer::Keep(answer) => write!(f, "{answer:?}"),
+            Answer::Evict(answer) => write!(f, "{answer:?}"),
+            Answer::Refill(answer) => write!(f, "{answer:?}"),
+        }
     }
 }
 
