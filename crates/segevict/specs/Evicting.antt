@@ -59,8 +59,7 @@ LooksForFirst b segment from p q =
     × ((used : ℕ) → used_of p segment ≡ Some used → used ≤ from → q ≡ p)
 
 -- This number of rows was gone over, from this one on, each by an evict of one row. One behind an
--- item's first row is Left, by no step.
--- This number of their keys was taken out.
+-- item's first row is Left. This number of their keys was taken out.
 abbrev pub EvictsOver : Board → ℕ → ℕ → ℕ → ℕ → Pass → Pass → Type 0
 EvictsOver b segment from zero count p q = (count ≡ 0) × LooksForFirst b segment from p q
 EvictsOver b segment from (suc rows) count p q =

@@ -20,22 +20,22 @@ use Rattle.segevict.specs.Tries.{IsInTheWay, TriesFor}
 
 -- ---- rows
 
--- This number of items uses rows of the segment: each at least one,
--- and at most as many as the table's limits allow an item.
+-- This number of items uses rows of the segment: no fewer than there are items, and no more than
+-- as many of the longest items that the table's limits allow take.
 abbrev pub UsesSome : Board → ℕ → ℕ → Pass → Pass → Type 0
 UsesSome b into count p q =
     (rows : ℕ) × (count ≤ rows) × (rows ≤ count * most_rows b.limits) × UsesRows into rows p q
 
--- The current segment has too few rows left for an item of the segment: for as many as a used
--- row's item took when the call began, which is no more than the table's limits allow.
+-- The current segment has too few rows left for an item of the segment: for as many as word 0 of a
+-- used row told when the call began, which is no more than the table's limits allow.
 abbrev pub LacksRows : Board → ℕ → Pass → Pass → Type 0
 LacksRows b segment p q =
     (row : ℕ) × IsUsedRow segment row p
     × (span_in (trace p) segment row ≤ most_rows b.limits)
     × (has_room_for b.shape (span_in (trace p) segment row) q ≡ false)
 
--- The current segment has rows enough for an item of the segment: for as many as a used row's
--- item took when the call began.
+-- The current segment has rows enough for an item of the segment: for as many as word 0 of a used
+-- row told when the call began.
 abbrev pub HasRowsForOne : Shape → ℕ → Pass → Pass → Type 0
 HasRowsForOne shape segment p q =
     (row : ℕ) × IsUsedRow segment row p
@@ -98,8 +98,7 @@ IsKeepAnswer b segment cutoff (keep.Busy count) p q =
 -- ---- rows in their order
 
 -- This number of rows was gone over, from the first on, each by a keep of one row. One behind an
--- item's first row is Left, by no step.
--- This number of their items was moved.
+-- item's first row is Left. This number of their items was moved.
 abbrev pub GoesOver : Board → ℕ → ℕ → ℕ → ℕ → Pass → Pass → Type 0
 GoesOver b segment cutoff zero count p q = (count ≡ 0) × (q ≡ p)
 GoesOver b segment cutoff (suc row) count p q =

@@ -5,12 +5,13 @@ use Rattle.segbase.specs.Words.{Board, Pass, trace}
 use Rattle.segstore.specs.Words.{Idles, TakesAtMost}
 use Rattle.segevict.specs.Rows.{HasRow}
 
--- The pass only looked, by one step at most. The number is at least 1, and of a used row it is what
--- word 0 tells.
+-- The pass only looked, by one step at most. Of a used row of a segment in use the number is what
+-- word 0 tells. For any other row it is 1, and the pass did nothing.
 abbrev pub TellsSpan : Board → ℕ → ℕ → ℕ → Pass → Pass → Type 0
 TellsSpan b segment row told p q =
     Idles b p q × (1 ≤ told) × (HasRow segment row p → told ≡ span_in (trace q) segment row)
     × TakesAtMost 1 p q
+    × (¬ (HasRow segment row p) → (told ≡ 1) × (q ≡ p))
 
 -- The first row of an item of a segment, by how many items are before it.
 -- Behind the last item it is the first row that isn't used.

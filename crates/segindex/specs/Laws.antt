@@ -61,10 +61,10 @@ abbrev pub ItemsAreWithin : Type 0
 ItemsAreWithin = OfQuiet (λ b p. (segment row : ℕ) → IsSome (linked_in (marked p) segment row)
     → span_in (trace p) segment row ≤ most_rows b.limits)
 
--- Where the table's limits allow an item only one row, those rows are used
--- that an item was linked to in this filling.
-abbrev pub ShortItemsTakeOneRow : Type 0
-ShortItemsTakeOneRow = OfQuiet (λ b p. most_rows b.limits ≡ 1
+-- Where the table's limits allow an item only one row, an item was linked to each used row in this
+-- filling, and to no other row.
+abbrev pub EachUsedIsLinked : Type 0
+EachUsedIsLinked = OfQuiet (λ b p. most_rows b.limits ≡ 1
     → (segment used row : ℕ) → used_of p segment ≡ Some used
     → row < b.shape.rows → is_some (linked_in (marked p) segment row) ≡ nat_lt row used)
 

@@ -5,7 +5,7 @@ ghost use Rattle.segindex.specs.Answered.{CommandHasItsAnswer, CommandIsRefused}
 ghost use Rattle.segindex.specs.Answered.{CommandLeavesSegment};
 ghost use Rattle.segindex.specs.Laws.{SeenIsLegal, MarksAreBeside, KnowsItsOwn, OwnAreInTable};
 ghost use Rattle.segindex.specs.Laws.{UsedAreLinked, CurrentIsInUse, UnusedIsEmpty, LockedIsStill};
-ghost use Rattle.segindex.specs.Laws.{DeadlinesAreKnown, ItemsAreWithin, ShortItemsTakeOneRow};
+ghost use Rattle.segindex.specs.Laws.{DeadlinesAreKnown, ItemsAreWithin, EachUsedIsLinked};
 ghost use Rattle.segindex.specs.Laws.{KeysAreFew, ChainsAreShort, AllAreOwn, NoTakeBounced};
 ghost use Rattle.segindex.specs.Laws.{NoLookGlanced, NobodyIsInside, BusyIsLocked, DrawnHaveJoined};
 ghost use Rattle.segindex.specs.Laws.{KeptAllLeavesNone, NothingIsStirred, WritesAtAMoment, DeletesAtAMoment};
@@ -41,7 +41,7 @@ pub fn quiet_pass()
     ensures in_table { OwnAreInTable }
     ensures rows { UsedAreLinked }
     ensures within { ItemsAreWithin }
-    ensures short { ShortItemsTakeOneRow }
+    ensures short { EachUsedIsLinked }
     ensures current { CurrentIsInUse }
     ensures deadlines { DeadlinesAreKnown }
     ensures unused { UnusedIsEmpty }

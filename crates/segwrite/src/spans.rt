@@ -1,4 +1,4 @@
-//! The rows that an item is stored into: one, or where items take several as many as its own needs.
+//! The rows that an item is stored into: as many as its lengths need.
 ghost use Rattle.std.specs.Prelude.{◌≡◌, ◌+◌, ◌<◌, ◌^◌, IsSome};
 ghost use Rattle.segbase.specs.Words.{used_of, with_used};
 
