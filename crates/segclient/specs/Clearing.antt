@@ -40,7 +40,7 @@ IsCleared shape (Some source) p =
     × AreUnnamed shape source.segment source.row p
     × (comes_to (trace p) source.segment source.row source.row 0 ≡ true)
 
--- the item at which the clearing is takes so many rows
+-- if the row at which the clearing is is used, its item takes this number of rows
 abbrev pub TakesRows : SourceSegment → ℕ → Pass → Type 0
 TakesRows source rows p =
     HasRow source.segment source.row p
@@ -143,7 +143,7 @@ effort_of_steps steps = record {
   keys = sum_by (came_to_step evicted_keys) steps;
 }
 
--- at most so many steps came to these numbers
+-- at most this number of steps came to these numbers
 pub record ClearsAtMost (b : Board) (cutoff : Option ℕ) (most : ℕ) (effort : Effort)
     (p q : Pass) : Type 0 where
   pub steps : List Step
@@ -151,11 +151,11 @@ pub record ClearsAtMost (b : Board) (cutoff : Option ℕ) (most : ℕ) (effort :
   pub few : length steps ≤ most
   pub comes : IsEffortOf steps effort
 
--- at most so many steps in a turn: a look at how many rows the item takes, and two
+-- the most steps of a turn, of which one is a look at how many rows the item takes
 abbrev pub most_steps_of_turn : ℕ
 most_steps_of_turn = 3
 
--- and so many of a put, which has eight turns
+-- and of a put, which has eight turns
 abbrev pub most_steps_of_put : ℕ
 most_steps_of_put = 24
 

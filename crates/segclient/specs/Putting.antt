@@ -11,8 +11,8 @@ use Rattle.segclient.specs.PutCalls.{PutCall, sets, finds_own, takes_out, is_for
 use Rattle.segclient.specs.PutCalls.{is_for_word, is_set, IsRefused}
 
 -- Stored by its last call, and only by that.
--- NoRoom if each segment of the pass was refused, of an item that takes no more rows than
--- a segment has.
+-- NoRoom of an item that takes no more rows than a segment has only if each segment of the pass
+-- was refused.
 -- BucketFull by its last set: behind it the pass found no item of its own in the bucket,
 -- or an earlier set had found the bucket full. Busy if its last 16 sets were.
 abbrev pub IsPutAnswer : Shape → ℕ → ℕ → PutAnswer → List PutCall → Type 0

@@ -48,9 +48,8 @@ RoomAdds = (i : Index) (made : Bool) (old new : Member)
     (sum_by (came_to refilled_segments) room.calls) (sum_by (came_to kept_items) room.calls)
     (sum_by (came_to evicted_keys) room.calls) (mine old.pass) (mine new.pass)
 
--- A write right after room was made, at the same moment and for the same time to live, isn't NoRoom.
--- So it is of an item that takes no more rows than the longest of the table may take,
--- and no more than a segment has.
+-- A write right after room was made, at the same moment and for the same time to live, isn't NoRoom
+-- if its item takes no more rows than the longest of the table may take, and than a segment has.
 abbrev pub RoomServes : Type 0
 RoomServes = (i : Index) (request : ℕ → Request) (told : WriteAnswer) (old made new : Member)
     → IsMember i old

@@ -437,9 +437,9 @@ pub(crate) fn is_due(segments: &Segments, moment: u32) -> bool
     }
 }
 
-// Clears some rows of segments of the pass, by the queues: at most 16 calls of the index,
-// and eight looks at how many rows an item takes. What has the cutoff's frequency or a higher one
-// can be kept.
+// Clears some rows of segments of the pass, by the queues: by at most 24 calls of the index, of which
+// up to eight look how many rows an item takes. What has the cutoff's frequency or a higher one can
+// be kept.
 pub(crate) fn clear_some(
     index: &Index,
     pass: &mut Pass,

@@ -91,9 +91,9 @@ pub fn what_a_put_adds()
     ensures room { RoomAdds }
 {}
 
-/// Right after `make_room` returned true, no write has too little room: the segment that the client
-/// then stores into has a row left, and a deadline in the item's time to live.
-/// So it is of an item that takes no more rows than the longest may take, and than a segment has.
+/// Right after `make_room` returned true, no write has too little room whose item takes no more rows
+/// than the longest may take, and than a segment has: the segment that the client then stores into
+/// has these rows left, and a deadline in the item's time to live.
 /// This function does nothing: its contract is the law.
 pub fn what_room_is_made_for()
     ensures { RoomServes }
