@@ -665,53 +665,14 @@ def chosen_keys_cost_only_keys_of_their_bucket():
 
 # Several keys at a time
 
-ONE_CHAIN = {"buckets": 1, "overflow": 3, "segments": 2, "rows": 32}
-EIGHT_ROWS = {"buckets": 16, "overflow": 0, "segments": 2, "rows": 4}
-
-
-def got(numbers, count):
-    """What a get of several reads, if each number below the count stands under itself."""
-    return "GOT " + " ".join(f"{number:08x}" if number < count else "-" for number in numbers)
-
-
-@case(**ONE_CHAIN)
+@case(buckets=1, overflow=3, segments=2, rows=32)
 def each_answer_has_the_place_of_its_key():
     """Keys of a chain of four buckets: more than two pieces, hits and misses in turn, and each of the first ones
     twice."""
     numbers = [3, 40, 3, 0, 24, 25, 24, 0, 40, 7, 7, 7, 1, 41, 2, 42, 4, 43, 5, 44, 6, 45, 8, 46, 9, 47, 10, 48, 11,
                49, 12, 50, 13, 51, 14, 52, 15, 53, 16, 54, 17, 55, 18, 56]
-    yield "put 0..25  STORED 25", f"get_many {listed(numbers)}  {got(numbers, 25)}", "stats hits misses busy  25 19 0"
-
-
-@case(**EIGHT_ROWS)
-def keys_that_were_evicted_are_missed():
-    """Forty keys were put where eight have room, and by turns none of the rows stays free."""
-    yield KEEP_NOTHING
-    yield "put 0..40  STORED 40"
-    yield f"get_many 0..40  GOT {'- ' * 32}{' '.join(f'{number:08x}' for number in range(32, 40))}"
-    yield f"missing 0..40  {listed(range(32))}"
-
-
-@case(**EIGHT_ROWS)
-def versions_come_with_the_values():
-    """Each version is the one of the key's bucket: a cas with it is stored, and only the first."""
-    yield "put 0 1  STORED 2", "gets_many 1 1 0 9  GOT 00000001@1 00000001@1 00000000@1 -"
-    yield "cas 1 version=1 value=5  STORED 1", "cas 1 version=1 value=5  EXISTS 1"
-    yield "cas 0 version=1 value=5  STORED 1", "get_many 0 1  GOT 00000005 00000005"
-
-
-@case(**EIGHT_ROWS)
-def no_keys_have_no_answers():
-    """A get of no keys returns none, and is not counted."""
-    yield "put 0..8  STORED 8", "get_many  GOT", "stats hits misses busy stored  0 0 0 8"
-
-
-@case(**ONE_CHAIN)
-def a_look_ahead_changes_nothing():
-    """A look ahead at present and at absent keys changes no answer and is not counted."""
-    numbers = [0, 24, 25, 99, 12, 0, 1, 2, 3, 4, 5, 6, 7, 8, 9, 10, 11, 13]
-    yield "put 0..25  STORED 25", f"look_ahead {listed(numbers)}  OK", "stats hits misses busy stored  0 0 0 25"
-    yield "named  25", f"get_many {listed(numbers)}  {got(numbers, 25)}"
+    values = " ".join(f"{number:08x}" if number < 25 else "-" for number in numbers)
+    yield "put 0..25  STORED 25", f"get_many {listed(numbers)}  GOT {values}", "stats hits misses busy  25 19 0"
 
 
 # Values
@@ -747,14 +708,6 @@ def a_buffer_that_is_too_short_is_left_as_it_was(most):
 
 
 @case(**VALUE_ROWS)
-def a_miss_leaves_the_buffer_and_a_short_one_is_a_hit():
-    """A get that finds a value counts as a hit, whether or not the buffer has room for that."""
-    yield "put 1 bytes=9  STORED 1", f"get_into 1 room=9  FOUND 9 {pattern(9, 17)}"
-    yield f"get_into 1 room=8  SHORT 9 {pattern(0, 16)}", f"get_into 2 room=40  MISS {pattern(0, 48)}"
-    yield "stats hits misses  2 1"
-
-
-@case(**VALUE_ROWS)
 def a_gets_copies_the_value_and_tells_the_version(most):
     """Each put of the bucket's only key counts its version on by one."""
     yield f"gets_into 1 room=40  MISS {pattern(0, 48)}"
@@ -772,18 +725,6 @@ def bytes_that_were_put_are_read(most):
         for number, time in ((1, ""), (2, " for=9")):
             yield f"put {number} bytes={length}{time}  {'STORED' if length <= most else 'TOO_LONG'} 1"
             yield [f"value {number}  FOUND {pattern(length, length)}"] if length <= most else []
-
-
-@case(**FEW_VALUES)
-def writes_in_place_answer_as_they_say():
-    """What a write of bytes answers, and the value that stands then."""
-    yield "make_room  ROOM", "replace 1 value=1  NOT_STORED 1", "value 1  MISS"
-    yield "cas 1 value=1 version=0  NOT_FOUND 1", "value 1  MISS"
-    for asked, told, stands in (
-            ("add 1 value=1", "STORED", 1), ("add 1 value=2", "NOT_STORED", 1), ("replace 1 value=2", "STORED", 2),
-            ("cas 1 value=1 version=1", "EXISTS", 2), ("cas 1 value=1 version=2", "STORED", 1),
-            ("set 1 value=2", "STORED", 2)):
-        yield f"{asked}  {told} 1", f"value 1  FOUND {stands:08x}"
 
 
 def generated(most):
