@@ -206,11 +206,22 @@ def build_all(names, ours):
     """The programs of these names that can be run, and ours, by name; and why the others can't, which it says."""
     OUT.mkdir(exist_ok=True)
     faults = {program.name: program.build() for program in PROGRAMS if program.name in names}
-    faults = {"ours": None if ours.exists() else f"no {ours}; `rt run` in crates/segtime makes it", **faults}
+    left_out = tell_left_out({"ours": no_program(ours, "segtime"), **faults})
+    return {name: ours.resolve() if name == "ours" else OUT / name
+            for name in ("ours", *faults) if name not in left_out}, left_out
+
+
+def no_program(path, crate):
+    """Why a program of the crates can't be run, or None."""
+    return None if path.exists() else f"no {path}; `rt run` in crates/{crate} makes it"
+
+
+def tell_left_out(faults):
+    """What is left out, with why, which it says."""
     left_out = {name: fault for name, fault in faults.items() if fault}
     for name, why in left_out.items():
         print(f"{name} is left out: {why}", file=sys.stderr)
-    return {name: ours.resolve() if name == "ours" else OUT / name for name in faults if name not in left_out}, left_out
+    return left_out
 
 
 def write_lines(path, machine, left_out, lines):
@@ -227,6 +238,12 @@ def trace_of(path, *words):
         subprocess.run(list(map(str, words)), check=True, stdout=file)
     yield path
     path.unlink()
+
+
+def replayed(segrun, trace, policy, shape, *more):
+    """What `segrun replay` says of a trace, with one client of this policy."""
+    words = [word for name, number in shape.items() for word in (f"--{name}", number)]
+    return told_by(segrun, "replay", trace, "--policy", policy, "--value-bytes", 16, "--format", "json", *more, *words)
 
 
 def told_by(*words):
@@ -292,9 +309,9 @@ def planned_sizes(ours, keys, threads):
 SEGMENTS = 128
 
 
-def queue_bytes(rows):
-    """What a client takes for a segment of so many rows, beside the 8 bytes of the index for it and 64 for each row."""
-    return 44 + 3 * rows + (rows + 7) // 8
+def segment_bytes(rows, has_queues=True):
+    """What the index takes for a segment of so many rows, and beside that a client that keeps by queues."""
+    return 8 + 64 * rows + (44 + 3 * rows + (rows + 7) // 8 if has_queues else 0)
 
 
 def index_sizes(room, threads):
@@ -306,7 +323,7 @@ def index_sizes(room, threads):
 
 def index_bytes(sizes, threads):
     buckets, overflow, segments, rows = sizes
-    return 8 + 64 * (buckets + overflow) + threads * segments * (8 + 64 * rows + queue_bytes(rows))
+    return 8 + 64 * (buckets + overflow) + threads * segments * segment_bytes(rows)
 
 
 def has_room(low, high, fits):
@@ -377,15 +394,6 @@ def sample(name, paths, cell, effort):
     def middle(name):
         return median(line[name] for line in lines) if name in lines[0] else None
 
-    return Sample(
-        process_ns=middle("process_ns"),
-        wall_ns=middle("wall_ns"),
-        thread_ns=middle("thread_ns"),
-        hits=share("hits"),
-        busy=share("busy"),
-        full=share("full"),
-        bytes_taken=middle("bytes"),
-        p50_ns=middle("p50_ns"),
-        p99_ns=middle("p99_ns"),
-        p999_ns=middle("p99.9_ns"),
-    )
+    costs = map(middle, ("process_ns", "wall_ns", "thread_ns"))
+    return Sample(*costs, *map(share, ("hits", "busy", "full")), bytes_taken=middle("bytes"),
+                  p50_ns=middle("p50_ns"), p99_ns=middle("p99_ns"), p999_ns=middle("p99.9_ns"))
