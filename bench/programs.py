@@ -366,11 +366,6 @@ def words_for(name, paths, cell, effort):
     return [paths[name], cell.mix, cell.draw, cell.keys, cell.threads, *places]
 
 
-def warm_rounds(name, effort):
-    """The rounds that don't count: three times as many for Java, which compiles what it has run for a while."""
-    return effort.warm * (3 if name == CAFFEINE.name else 1)
-
-
 @dataclass(frozen=True)
 class Effort:
     """How much a run does. Each command is timed whose place is a multiple of `every`; none is if that is 0."""
@@ -378,14 +373,15 @@ class Effort:
     times: int
     rounds: int
     every: int = 0
-    # Rounds before those that count.
+    # Rounds before those that count: three times as many for Java, which compiles what it has run for a while.
     warm: int = 0
 
 
 def sample(name, paths, cell, effort):
     """One run of a program: medians of its rounds, and shares of all their commands."""
     words = [str(word) for word in words_for(name, paths, cell, effort)]
-    lines = rounds_of(words, warm_rounds(name, effort) + effort.rounds, cell.pages)[-effort.rounds :]
+    warm = effort.warm * (3 if name == CAFFEINE.name else 1)
+    lines = rounds_of(words, warm + effort.rounds, cell.pages)[-effort.rounds :]
     commands = sum(line["commands"] for line in lines)
 
     def share(name):

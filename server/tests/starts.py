@@ -218,12 +218,6 @@ def told(command):
         check(re.fullmatch(wanted, text), f"{words}: {text}")
 
 
-def rights_of(connection):
-    """What the server that this connection goes to may do, as Linux shows it."""
-    text = Path(f"/proc/{stats_of(connection)['pid']}/status").read_text()
-    return dict(line.split(":", 1) for line in text.splitlines())
-
-
 def user(command):
     """Root has to name a user. -u gives root's rights up, all of them, and no server has a capability."""
     if os.geteuid() != 0:
@@ -244,7 +238,8 @@ def user(command):
                                        ([*as_nobody, "--inh-caps", capable, "--ambient-caps", capable], [],
                                         nobody.pw_uid, nobody.pw_gid)):
         with running([*before, *bare], *words) as port, connect(port) as connection:
-            status = rights_of(connection)
+            shown = Path(f"/proc/{stats_of(connection)['pid']}/status").read_text()
+            status = dict(line.split(":", 1) for line in shown.splitlines())
             ids = [status["Uid"].split(), status["Gid"].split()]
             check(ids == [[str(user)] * 4, [str(group)] * 4] and status["Groups"].split() == [],
                   f"{before} {words}: {ids} {status['Groups']}")
