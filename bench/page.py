@@ -20,17 +20,9 @@ PAGE_ROUNDS = 3
 THREADS = (1, 4)
 
 # The rows of the table of times: mix, draw, keys, threads, shape.
-ROWS = [
-    ("mixed", "zipf", 64, 4, "large"),
-    ("mixed", "zipf", 100_000, 1, "large"),
-    ("mixed", "zipf", 100_000, 4, "large"),
-    ("b", "zipf", 100_000, 1, "large"),
-    ("b", "zipf", 100_000, 4, "large"),
-    ("gets16", "zipf", 100_000, 1, "large"),
-    ("gets16", "zipf", 100_000, 4, "large"),
-    ("mixed", "zipf", 100_000, 1, "planned"),
-    ("mixed", "zipf", 100_000, 4, "planned"),
-]
+ROWS = [("mixed", "zipf", 64, 4, "large"),
+        *((mix, "zipf", 100_000, threads, shape) for (mix, shape), threads in product(
+            [("mixed", "large"), ("b", "large"), ("gets16", "large"), ("mixed", "planned")], THREADS))]
 # The columns of the table of releases: the mix and the threads. All are by Zipf's law over 100,000 keys.
 FRONT = [("mixed", 1), ("mixed", 4), ("gets16", 1), ("gets16", 4)]
 # The programs of the tables of times.
