@@ -53,7 +53,7 @@ impl Draws {
 
     /// From which frequency on items are kept. From 0 or 1 on that is every item.
     pub fn cutoff(&mut self) -> u8 {
-        self.below(4) as u8
+        self.below(4).min(3) as u8
     }
 
     /// The place of a key.
