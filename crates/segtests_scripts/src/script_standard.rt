@@ -33,35 +33,35 @@ fn new_device(left: usize, is_bad: bool, flush_fails: bool) -> Device {
     }
 }
 
-fn ends<T: Drop>(fails: bool, value: T) -> io::Result<T> {
-    if fails {
-        return Err(io::Error::from(ErrorKind::Other));
-    }
-    Ok(value)
-}
-
 impl Read for Device {
     fn read(&mut self, buffer: &mut [u8]) -> io::Result<usize> {
         self.reads = self.reads.wrapping_add(1);
         let count = self.left.min(buffer.len());
+        if count == 0 && self.is_bad {
+            return Err(io::Error::from(ErrorKind::Other));
+        }
         buffer[..count].fill(b'a');
         self.left -= count;
-        ends(count == 0 && self.is_bad, count)
+        Ok(count)
     }
 }
 
 impl Write for Device {
     fn write(&mut self, bytes: &[u8]) -> io::Result<usize> {
         self.writes = self.writes.wrapping_add(1);
-        if !self.is_bad {
-            self.bytes = self.bytes.wrapping_add(bytes.len());
+        if self.is_bad {
+            return Err(io::Error::from(ErrorKind::Other));
         }
-        ends(self.is_bad, bytes.len())
+        self.bytes = self.bytes.wrapping_add(bytes.len());
+        Ok(bytes.len())
     }
 
     fn flush(&mut self) -> io::Result<()> {
         self.flushes = self.flushes.wrapping_add(1);
-        ends(self.flush_fails, ())
+        if self.flush_fails {
+            return Err(io::Error::from(ErrorKind::Other));
+        }
+        Ok(())
     }
 }
 
