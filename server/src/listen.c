@@ -54,19 +54,37 @@ static in_port_t port_of(const struct server *server) {
   return known ? address.sin6_port : 0; /* it stands where that of an IPv4 address does */
 }
 
-static bool listen_name(struct server *server, const char *name) {
+/* Cuts a port off that stands behind an address, and the brackets of one of IPv6. A port without them is one only if no
+ * other colon stands there. False if it is no number of a port. */
+static bool cut_port(char **name, in_port_t *port) {
+  char *closing = **name == '[' ? strchr(*name, ']') : NULL;
+  char *colon = strchr(closing != NULL ? closing : *name, ':');
+  uint64_t number;
+  if (closing != NULL) *closing = '\0', ++*name;
+  if (colon == NULL || (closing == NULL && strchr(colon + 1, ':') != NULL)) return true;
+  *colon++ = '\0';
+  if (!read_number((struct word){colon, strlen(colon)}, UINT16_MAX, &number) || number == 0) return false;
+  *port = htons((uint16_t)number);
+  return true;
+}
+
+/* Listens at HOST, HOST:PORT, [HOST] or [HOST]:PORT, where a host is a name or an address, or `*` for all of them. */
+static bool listen_name(struct server *server, char *name) {
   struct addrinfo wanted = {.ai_socktype = SOCK_STREAM, .ai_flags = AI_PASSIVE}, *found = NULL;
-  int status = getaddrinfo(name, NULL, &wanted, &found);
+  in_port_t given = 0;
+  if (!cut_port(&name, &given)) return fault(name, "a port is a number from 1 to 65535");
+  int status = getaddrinfo(strcmp(name, "*") == 0 ? NULL : name, "0", &wanted, &found);
   if (status != 0) return fault(name, gai_strerror(status));
   bool listens = true;
   for (struct addrinfo *it = found; it != NULL && listens; it = it->ai_next) {
     if (it->ai_family != AF_INET && it->ai_family != AF_INET6) continue;
     int made = socket(it->ai_family, SOCK_STREAM | SOCK_NONBLOCK | SOCK_CLOEXEC, 0);
     if (made < 0) continue; /* a machine without IPv6 */
+    in_port_t port = given != 0 ? given : port_of(server);
     setsockopt(made, SOL_SOCKET, SO_REUSEADDR, &(int){1}, sizeof(int));
     if (it->ai_family == AF_INET6) setsockopt(made, IPPROTO_IPV6, IPV6_V6ONLY, &(int){1}, sizeof(int));
-    if (it->ai_family == AF_INET) ((struct sockaddr_in *)(void *)it->ai_addr)->sin_port = port_of(server);
-    else ((struct sockaddr_in6 *)(void *)it->ai_addr)->sin6_port = port_of(server);
+    if (it->ai_family == AF_INET) ((struct sockaddr_in *)(void *)it->ai_addr)->sin_port = port;
+    else ((struct sockaddr_in6 *)(void *)it->ai_addr)->sin6_port = port;
     listens = listen_at(server, made, it->ai_addr, it->ai_addrlen, name);
   }
   freeaddrinfo(found);
@@ -76,7 +94,8 @@ static bool listen_name(struct server *server, const char *name) {
 static bool listen_names(struct server *server) {
   char *names = strdup(server->options.addresses), *rest = names;
   bool listens = names != NULL;
-  for (char *name; listens && (name = strsep(&rest, ",")) != NULL;) listens = listen_name(server, name);
+  for (char *name; listens && (name = strsep(&rest, ",;")) != NULL;)
+    listens = *name == '\0' || listen_name(server, name);
   free(names);
   return listens && (server->listener_count > 0 || fault(server->options.addresses, "no address"));
 }

@@ -11,6 +11,7 @@
 #include <stdio.h>
 #include <stdlib.h>
 #include <string.h>
+#include <sys/mman.h>
 #include <sys/prctl.h>
 #include <sys/resource.h>
 #include <sys/signalfd.h>
@@ -33,6 +34,29 @@ static void raise_descriptors(const struct options *options) {
   if (setrlimit(RLIMIT_NOFILE, &limit) != 0 || limit.rlim_cur < wanted)
     fprintf(stderr, "segcache-server: -c %u: only %llu descriptors may be had\n", options->most_connections,
             (unsigned long long)limit.rlim_cur);
+}
+
+/* Raises a limit as far as may be, and returns it. */
+static rlim_t raise_limit(__rlimit_resource_t which) {
+  struct rlimit limit = {RLIM_INFINITY, RLIM_INFINITY};
+  if (setrlimit(which, &limit) == 0) return RLIM_INFINITY;
+  if (getrlimit(which, &limit) != 0) return 0;
+  limit.rlim_cur = limit.rlim_max;
+  return setrlimit(which, &limit) == 0 ? limit.rlim_max : 0;
+}
+
+/* -k and -r, as far as root can do it: before its rights are given up. */
+static bool raise_limits(const struct options *options) {
+  if (options->lock_memory) raise_limit(RLIMIT_MEMLOCK);
+  return !options->core_files || raise_limit(RLIMIT_CORE) > 0 || fault("-r", "the limit of core files is 0");
+}
+
+/* Locks in memory what the process has, and what it gets, unless a limit would refuse that. A fork loses it. */
+static void lock_memory(void) {
+  struct rlimit limit = {0};
+  getrlimit(RLIMIT_MEMLOCK, &limit);
+  int later = limit.rlim_cur == RLIM_INFINITY ? MCL_FUTURE | MCL_ONFAULT : 0;
+  if (mlockall(MCL_CURRENT | later) != 0) fault("-k: memory can't be locked", strerror(errno));
 }
 
 /* Gives all capabilities up, and takes none from a program that this one would run. */
@@ -108,11 +132,14 @@ static int catch_signals(void) {
   return signalfd(-1, &ends, SFD_CLOEXEC);
 }
 
-/* A file is made by the user, who can take it away again. A port below 1024 takes root. */
+/* A file is made by the user, who can take it away again. A port below 1024 takes root. Who changed its user writes a
+ * core file only if it asks for that. */
 static bool listen_and_become_user(struct server *server) {
-  const char *user = server->options.user;
-  if (server->options.socket_path != NULL) return become_user(user) && listen_open(server);
-  return listen_open(server) && become_user(user);
+  const struct options *options = &server->options;
+  bool is_user = options->socket_path != NULL ? become_user(options->user) && listen_open(server)
+                                              : listen_open(server) && become_user(options->user);
+  if (!is_user || !options->core_files || prctl(PR_SET_DUMPABLE, 1, 0, 0, 0) == 0) return is_user;
+  return fault("-r", strerror(errno));
 }
 
 static bool open_store(struct server *server) {
@@ -131,6 +158,7 @@ static bool open_store(struct server *server) {
 
 /* Serves until a signal comes. */
 static bool run(struct server *server, int signals, int told) {
+  if (server->options.lock_memory) lock_memory();
   uint32_t started = 0, threads = server->options.threads;
   while (started < threads && worker_start(server, &server->workers[started])) started++;
   bool serves = (started == threads || fault("a thread can't be had", strerror(errno))) && serves_now(told);
@@ -150,7 +178,7 @@ int main(int count, char **words) {
   server.verbosity = server.options.verbosity;
   clock_begin();
   raise_descriptors(&server.options);
-  bool ran = listen_and_become_user(&server) && open_store(&server);
+  bool ran = raise_limits(&server.options) && listen_and_become_user(&server) && open_store(&server);
   if (!ran) return listen_close(&server), 71;
   int signals = -1, told = -1;
   ran = (!server.options.daemon || become_daemon(&told)) && write_pid(server.options.pid_file) &&

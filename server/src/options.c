@@ -12,7 +12,8 @@
 enum { USUAL_ITEM = 1024 * 1024 };                                    /* bytes, without -I */
 enum { KEYS = UCHAR_MAX + 1, TIME_TO_LIVE, KEEP_FROM, IDLE_TIMEOUT }; /* options without a letter */
 
-static const char letters[] = ":p:s:a:l:dP:u:m:c:t:b:R:I:B:U:o:hVvACF";
+static const char letters[] = ":p:s:a:l:dP:u:m:c:t:b:R:I:B:U:o:hViv" /* memcached's, which it has, too */
+                              "ACFkrWXLf:n:D:N:MSZY:e:";
 
 static const struct option names[] = {
     {"port", required_argument, NULL, 'p'},
@@ -33,10 +34,24 @@ static const struct option names[] = {
     {"extended", required_argument, NULL, 'o'},
     {"help", no_argument, NULL, 'h'},
     {"version", no_argument, NULL, 'V'},
-    {"verbose", no_argument, NULL, 'v'},
+    {"license", no_argument, NULL, 'i'},
+    {"verbose", optional_argument, NULL, 'v'},
     {"enable-shutdown", no_argument, NULL, 'A'},
     {"disable-cas", no_argument, NULL, 'C'},
     {"disable-flush-all", no_argument, NULL, 'F'},
+    {"lock-memory", no_argument, NULL, 'k'},
+    {"enable-coredumps", no_argument, NULL, 'r'},
+    {"disable-watch", no_argument, NULL, 'W'},
+    {"disable-dumping", no_argument, NULL, 'X'},
+    {"enable-largepages", no_argument, NULL, 'L'},
+    {"slab-growth-factor", required_argument, NULL, 'f'},
+    {"slab-min-size", required_argument, NULL, 'n'},
+    {"napi-ids", required_argument, NULL, 'N'},
+    {"disable-evictions", no_argument, NULL, 'M'},
+    {"enable-sasl", no_argument, NULL, 'S'},
+    {"enable-ssl", no_argument, NULL, 'Z'},
+    {"auth-file", required_argument, NULL, 'Y'},
+    {"memory-file", required_argument, NULL, 'e'},
     {"keys", required_argument, NULL, KEYS},
     {"time-to-live", required_argument, NULL, TIME_TO_LIVE},
     {"keep-from", required_argument, NULL, KEEP_FROM},
@@ -72,6 +87,10 @@ static const char help[] =
     "    --time-to-live=SECONDS    the most that any item lives\n"
     "    --keep-from=FREQUENCY     keeps items that were read so often, or nothing with 0\n"
     "When environment has MEMCACHED_PORT_FILENAME, that file gets the ports.\n";
+
+static const char licence[] =
+    "segcache-server " SERVER_VERSION ", copyright of the Segcache index authors, is under the MIT licence.\n"
+    "The library in it has parts of others: bindings/README.md names their licences.";
 
 /* Says what is wrong with an option. */
 static enum reading bad(const char *name, const char *why) {
@@ -110,13 +129,105 @@ static bool item_size(const char *text, uint32_t *to) {
   return true;
 }
 
-/* -o: memcached's idle_timeout. Its others are about what this server doesn't have. */
+/* An option of memcached about what this server doesn't have, by which nobody is harmed. All are told in one line. */
+static char unused[2048];
+
+static bool without_effect(const char *name) {
+  size_t used = strlen(unused), length = strlen(name);
+  for (const char *it = unused; (it = strstr(it, name)) != NULL; it += length)
+    if (it[length] == '\0' || it[length] == ',') return true; /* it was told before */
+  snprintf(unused + used, sizeof unused - used, used > 0 ? ", %s" : "%s", name);
+  return true;
+}
+
+/* Those that would weaken what protects the server, or mean something else, if they were passed over: what begins so is
+ * refused. */
+static const struct {
+  const char *begin, *why;
+} refused[] = {
+    {"-M", "a full cache evicts, and can't answer with an error in place of that"},
+    {"-S", "there is no SASL, and without it anybody would be served"},
+    {"-Y", "there is no authentication, and without it anybody would be served"},
+    {"-Z", "there is no TLS; stunnel before the server has it, as deploy/stunnel.conf shows"},
+    {"-e", "the content doesn't outlive the server"},
+    {"-o ssl_", "there is no TLS; stunnel before the server has it, as deploy/stunnel.conf shows"},
+    {"-o ext_path", "there is no storage beside memory"},
+    {"-o proxy_", "there is no proxy"},
+    {"-o drop_privileges", "there is no filter of system calls; deploy/segcache-server.service has one"},
+    {"-o sock_cookie_id", "sockets get no mark"},
+};
+
+static bool is_refused(const char *name) {
+  for (size_t i = 0; i < sizeof refused / sizeof *refused; i++)
+    if (strncmp(name, refused[i].begin, strlen(refused[i].begin)) == 0) return bad(name, refused[i].why) == BAD;
+  return false;
+}
+
+/* The suboptions of memcached's -o about its slabs, queues, threads and buffers. `no_` may stand before them. */
+static const char *const tuning[] = {"chunked_items",
+                                     "drop_privileges",
+                                     "ext_compact_under",
+                                     "ext_drop_under",
+                                     "ext_drop_unread",
+                                     "ext_io_depth",
+                                     "ext_item_age",
+                                     "ext_item_size",
+                                     "ext_low_ttl",
+                                     "ext_max_frag",
+                                     "ext_max_sleep",
+                                     "ext_page_size",
+                                     "ext_recache_rate",
+                                     "ext_threads",
+                                     "ext_wbuf_size",
+                                     "hash_algorithm",
+                                     "hashexpand",
+                                     "hashpower",
+                                     "hot_lru_pct",
+                                     "hot_max_factor",
+                                     "inline_ascii_resp",
+                                     "lru_crawler",
+                                     "lru_crawler_sleep",
+                                     "lru_crawler_tocrawl",
+                                     "lru_maintainer",
+                                     "maxconns_fast",
+                                     "modern",
+                                     "relaxed_privileges",
+                                     "read_buf_mem_limit",
+                                     "resp_obj_mem_limit",
+                                     "slab_automove",
+                                     "slab_automove_freeratio",
+                                     "slab_automove_ratio",
+                                     "slab_automove_window",
+                                     "slab_chunk_max",
+                                     "slab_reassign",
+                                     "slab_sizes",
+                                     "tail_repair_time",
+                                     "temporary_ttl",
+                                     "track_sizes",
+                                     "warm_lru_pct",
+                                     "warm_max_factor",
+                                     "watcher_logbuf_size",
+                                     "worker_logbuf_size"};
+
+static bool is_tuning(const char *name) {
+  for (size_t i = 0; i < sizeof tuning / sizeof *tuning; i++)
+    if (strcmp(name, tuning[i]) == 0) return true;
+  return false;
+}
+
+/* -o, with commas between its suboptions. */
 static bool extended(struct options *options, char *text) {
-  char *const known[] = {(char[]){"idle_timeout"}, NULL};
-  for (char *value; *text != '\0';) {
-    if (getsubopt(&text, known, &value) != 0 || value == NULL)
-      return bad("-o", "only idle_timeout=SECONDS is known"), false;
-    if (!number("-o idle_timeout", value, 0, INT32_MAX, &options->idle_seconds)) return false;
+  char name[64];
+  for (char *value; (value = strsep(&text, ",")) != NULL;) {
+    snprintf(name, sizeof name, "-o %s", strsep(&value, "="));
+    const char *bare = name + 3;
+    if (*bare == '\0') continue;
+    if (strcmp(bare, "idle_timeout") == 0) {
+      if (!number(name, value == NULL ? "" : value, 0, INT32_MAX, &options->idle_seconds)) return false;
+    } else if (is_refused(name)) return false;
+    else if (!is_tuning(strncmp(bare, "no_", 3) == 0 ? bare + 3 : bare))
+      return bad(name, "isn't known; -h shows those that are"), false;
+    else if (strcmp(bare, "maxconns_fast") != 0) without_effect(name); /* which this server always is */
   }
   return true;
 }
@@ -160,6 +271,10 @@ static bool take(struct options *options, int option, char *argument) {
   case 'A': return options->may_shut_down = true;
   case 'C': return options->no_unique = true;
   case 'F': return options->no_flush = true;
+  case 'k': return options->lock_memory = true;
+  case 'r': return options->core_files = true;
+  case 'W':
+  case 'X': return true; /* there are no commands watch and dump */
   case KEYS: return number("--keys", argument, 1, UINT32_MAX, &options->keys);
   case TIME_TO_LIVE: return number("--time-to-live", argument, 1, INT32_MAX, &options->time_to_live);
   case KEEP_FROM: return number("--keep-from", argument, 0, UCHAR_MAX, &options->keep_from);
@@ -169,7 +284,7 @@ static bool take(struct options *options, int option, char *argument) {
     if (strcmp(argument, "auto") != 0 && strcmp(argument, "ascii") != 0)
       return bad("-B", "only the text protocol is served: -B auto or -B ascii"), false;
     return options->protocol = *argument == 'a' && argument[1] == 's' ? "ascii" : "auto-negotiate", true;
-  default: return false;
+  default: return !is_refused((char[]){'-', (char)option, '\0'}) && without_effect((char[]){'-', (char)option, '\0'});
   }
 }
 
@@ -202,6 +317,7 @@ enum reading options_read(struct options *options, int count, char **words) {
     if (option == '?') return bad(unknown(words), "isn't known; -h shows those that are");
     if (option == 'h') return fputs(help, stdout), SHOWN;
     if (option == 'V') return puts("segcache-server " SERVER_VERSION), SHOWN;
+    if (option == 'i') return puts(licence), SHOWN;
     if (!take(options, option, optarg)) return BAD;
   }
   if (optind < count) return bad(words[optind], "isn't an option; -h shows them");
@@ -210,6 +326,7 @@ enum reading options_read(struct options *options, int count, char **words) {
   if (options->most_item == 0) options->most_item = half < USUAL_ITEM ? (uint32_t)half : USUAL_ITEM;
   if (options->socket_path == NULL && options->port == NO_PORT) return bad("-p 0", "needs a socket by -s");
   if (options->user == NULL && may_be_root()) return bad("-u", "root has to name a user whose rights to take");
+  if (*unused != '\0') fprintf(stderr, "segcache-server: without effect here: %s\n", unused);
   return RUN;
 }
 

@@ -1,5 +1,5 @@
 // SPDX-License-Identifier: MIT
-/* The options of the command line: memcached's names, where this server has the thing. */
+/* The options of the command line, with memcached's names. */
 #ifndef OPTIONS_H
 #define OPTIONS_H
 
@@ -23,7 +23,7 @@ struct options {
   uint32_t keys;         /* that there is to be room for; 0: as many as the megabytes hold */
   uint32_t time_to_live; /* the most seconds that an item lives; 0: until it is evicted */
   uint32_t keep_from;    /* STORE_BY_QUEUES, or the frequency from which on items are kept */
-  bool daemon, may_shut_down, no_flush, no_unique;
+  bool daemon, may_shut_down, no_flush, no_unique, lock_memory, core_files;
   const char *pid_file, *user;
   const char *protocol; /* as it was given: "auto-negotiate" or "ascii" */
 };
@@ -33,7 +33,7 @@ bool may_be_root(void);
 
 enum reading { RUN, SHOWN /* what was asked for; the program ends well */, BAD };
 
-/* Reads the options. What is bad is said on standard error, in one line. */
+/* Reads the options. What is bad is said on standard error, in one line, and so is what has no effect. */
 enum reading options_read(struct options *options, int count, char **words);
 
 /* The bytes of -m. */

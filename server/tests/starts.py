@@ -19,7 +19,7 @@ from talk import (RIGHTS, alone, check, connect, free_port, read_to, running, sa
 FEW, MORE, MOST = 255, 2**31 - 1, 2**32 - 1
 SIZE = "an item's size is at least 1024, as in -I 1024, -I 512k or -I 1m"
 HALF = "an item has half of -m at most"
-ONLY_IDLE = "only idle_timeout=SECONDS is known"
+NO_TLS = "there is no TLS; stunnel before the server has it, as deploy/stunnel.conf shows"
 BITS = "needs access bits in octal, as 700"
 
 
@@ -37,15 +37,29 @@ BAD_OPTIONS = [
     *[(["-I", text], f"-I: {SIZE}")
       for text in ("1000", "1023", "x", "k", "", "0k", "4096m", "4194304k", "4294967296")],
     *[(["-m", "2", "-I", text], f"-I: {HALF}") for text in ("1025k", "1048577", "2m", "4095m")],
-    *[(["-o", text], f"-o: {ONLY_IDLE}") for text in ("nonesuch", "idle_timeout", "idle_timeout=5,nonesuch")],
+    *[(["-o", text], "-o nonesuch: isn't known; -h shows those that are")
+      for text in ("nonesuch", "idle_timeout=5,nonesuch", "modern,nonesuch=5")],
+    (["-o", "hash_algorithm,idle_timeout"], out_of("-o idle_timeout", 0, MORE, "")),
     (["-o", "idle_timeout=x"], out_of("-o idle_timeout", 0, MORE, "x")),
     (["-o", "idle_timeout=2147483648"], out_of("-o idle_timeout", 0, MORE, "2147483648")),
     *[(["-a", text], f"-a: {BITS}") for text in ("9", "", "1000", "70x", "x")],
     *[(["-B", text], "-B: only the text protocol is served: -B auto or -B ascii") for text in ("binary", "asci")],
     (["-U", "11211"], "-U: there is no UDP: only -U 0"),
     *[(words.split(), f"{named}: isn't known; -h shows those that are") for words, named in (
-        ("-x", "-x"), ("-vx", "-x"), ("-m 64 -f1.25", "-f"), ("--memory-limit 64 -n48", "-n"),
+        ("-x", "-x"), ("-vx", "-x"), ("-m 64 -j1.25", "-j"), ("--memory-limit 64 -kg48", "-g"),
         ("--daemon=1", "--daemon=1"))],
+    *[(words.split(), f"{named}: {why}") for words, named, why in (
+        ("-M", "-M", "a full cache evicts, and can't answer with an error in place of that"),
+        ("-kLM", "-M", "a full cache evicts, and can't answer with an error in place of that"),
+        ("--enable-sasl", "-S", "there is no SASL, and without it anybody would be served"),
+        ("-Y FILE", "-Y", "there is no authentication, and without it anybody would be served"),
+        ("-Z", "-Z", NO_TLS), ("-o modern,ssl_key=FILE", "-o ssl_key", NO_TLS),
+        ("-e FILE", "-e", "the content doesn't outlive the server"),
+        ("-o ext_threads=2,ext_path=FILE:1G", "-o ext_path", "there is no storage beside memory"),
+        ("-o proxy_config=FILE", "-o proxy_config", "there is no proxy"),
+        ("-o drop_privileges", "-o drop_privileges",
+         "there is no filter of system calls; deploy/segcache-server.service has one"),
+        ("-o sock_cookie_id=5", "-o sock_cookie_id", "sockets get no mark"))],
     (["--nonesuch"], "--nonesuch: isn't known; -h shows those that are"),
     (["-p"], "-p: needs an argument; -h shows them all"),
     (["--keys"], "--keys: needs an argument; -h shows them all"),
@@ -218,6 +232,48 @@ def told(command):
         check(re.fullmatch(wanted, text), f"{words}: {text}")
 
 
+# What memcached has and this server hasn't, and whose words are taken. The line at the start names each once.
+TUNED = ("-f 1.1 --slab-growth-factor=1.2 -n 64 -L --enable-largepages -D : -N 2 -WX --disable-dumping "
+         "-o modern,hashpower=22,no_lru_crawler,lru_crawler_sleep=5,maxconns_fast,no_hashexpand,slab_sizes=8-16 "
+         "-o modern,ext_threads=2,no_drop_privileges,idle_timeout=600, --verbose=9 -U 0",
+         "segcache-server: without effect here: -f, -n, -L, -D, -N, -o modern, -o hashpower, -o no_lru_crawler, "
+         "-o lru_crawler_sleep, -o no_hashexpand, -o slab_sizes, -o ext_threads, -o no_drop_privileges\n")
+
+
+def deployed(command):
+    """What a memcached's unit says starts this server. -k locks memory, and -r lets core files be written."""
+    for words, line, before in ((TUNED[0], TUNED[1], []), ("-k -r", "", ["prlimit", "--core=0:unlimited"]),
+                                ("--lock-memory --enable-coredumps", "", [])):
+        given = [*before, *command, "-p", str(port := free_port()), *words.split()]
+        with served(given, port, stderr=subprocess.PIPE, text=True) as server:
+            with connect(port) as connection:
+                status, pid = rights_of(connection), stats_of(connection)["pid"]
+                check(("-o" in words) == (stats_of(connection, "settings")["idle_timeout"] == "600"), words)
+                shown, locked = Path(f"/proc/{pid}/limits").read_text(), int(status["VmLck"].split()[0])
+                if "-o" not in words:
+                    check(re.search(r"Max core file size +unlimited", shown), f"{words}: {shown}")
+                    check(Path(f"/proc/{pid}").stat().st_uid == int(status["Uid"].split()[1]), "it may dump core")
+                if command[0].endswith(("tested", "tested_standin")):  # sanitizers lock nothing
+                    check((locked > 1000) == ("-o" not in words), f"{words}: {locked} KiB are locked")
+            text = said_by(server)
+        check(text == line, f"{words}: {text}")
+    if os.geteuid() == 0:
+        bounds = ["--memlock=1048576:1048576", "--core=0:0"]
+        few = ["setpriv", "--reuid=nobody", "--regid=nogroup", "--clear-groups", "prlimit", *bounds]
+        bare = command[:-len(RIGHTS)]
+        ends_with([*few, *bare], ["-p", "-1", "-r"], 71, "-r: the limit of core files is 0")
+        with served([*few, *bare, "-p", str(port := free_port()), "-k"], port, stderr=subprocess.PIPE, text=True) as it:
+            text = said_by(it)
+        right = "" if "tested" not in command[0] else "segcache-server: -k: memory can't be locked: Cannot allocate memory\n"
+        check(text == right, f"-k: {text}")
+
+
+def rights_of(connection):
+    """What the server that this connection goes to may do, as Linux shows it."""
+    text = Path(f"/proc/{stats_of(connection)['pid']}/status").read_text()
+    return dict(line.split(":", 1) for line in text.splitlines())
+
+
 def user(command):
     """Root has to name a user. -u gives root's rights up, all of them, and no server has a capability."""
     if os.geteuid() != 0:
@@ -378,6 +434,21 @@ def again(command):
     for _ in range(2):
         with running(command, port=port), connect(port) as connection:
             say(connection, "get a\r\nset a 0 0 1\r\nx\r\n", "END\r\nSTORED\r\n")
+
+
+def ports_of_addresses(command):
+    """An address can have a port of its own. Brackets stand around one of IPv6 then, and `*` is all addresses."""
+    one, two, three = (free_port() for _ in range(3))
+    words = [*command, "-p", str(one), "-l", f"127.0.0.2:{two};127.0.0.3,,[127.0.0.4]:{three},[127.0.0.5],*:{two + 1}"]
+    with start(words) as server:
+        for place in (("127.0.0.2", two), ("127.0.0.3", one), ("127.0.0.4", three), ("127.0.0.5", one),
+                      ("127.0.0.6", two + 1)):
+            with socket.socket() as connection:
+                check(wait_until(lambda it=connection, place=place: it.connect_ex(place) == 0), f"at {place}")
+                say(connection, "mn\r\n", "MN\r\n")
+        server.send_signal(signal.SIGTERM)
+    for text in ("0", "65536", "x", ""):
+        ends_with(command, ["-l", f"127.0.0.2:{text}"], 71, "to listen, 127.0.0.2: a port is a number from 1 to 65535")
 
 
 def seen_by_all(command):
