@@ -125,6 +125,22 @@ bool listen_open(struct server *server) {
   return server->options.socket_path != NULL ? listen_file(server) : listen_names(server);
 }
 
+void listen_places(const struct server *server, char *text, size_t room) {
+  *text = '\0';
+  if (server->options.socket_path != NULL) snprintf(text, room, "%s", server->options.socket_path);
+  for (uint32_t i = 0; i < server->listener_count && server->options.socket_path == NULL; i++) {
+    struct sockaddr_in6 address;
+    socklen_t length = sizeof address;
+    char host[64], port[8];
+    size_t used = strlen(text);
+    if (getsockname(server->listeners[i], (struct sockaddr *)&address, &length) == 0 &&
+        getnameinfo((struct sockaddr *)&address, length, host, sizeof host, port, sizeof port,
+                    NI_NUMERICHOST | NI_NUMERICSERV) == 0)
+      snprintf(text + used, room - used, address.sin6_family == AF_INET ? "%s%s:%s" : "%s[%s]:%s", i > 0 ? ", " : "",
+               host, port);
+  }
+}
+
 bool listen_tell_ports(const struct server *server) {
   const char *path = getenv("MEMCACHED_PORT_FILENAME");
   char beside[4096];

@@ -9,6 +9,9 @@
  * can't be had. */
 bool listen_open(struct server *server);
 
+/* Writes where connections come to, as `127.0.0.1:11211, [::1]:11211` or the UNIX socket's file, into a text. */
+void listen_places(const struct server *server, char *text, size_t room);
+
 /* Writes the ports to the file that MEMCACHED_PORT_FILENAME names, if it does. False, and said, if it can't. */
 bool listen_tell_ports(const struct server *server);
 

@@ -142,26 +142,43 @@ static bool listen_and_become_user(struct server *server) {
   return fault("-r", strerror(errno));
 }
 
-static bool open_store(struct server *server) {
+/* Opens the cache, and returns how many bytes of data ever have room in it, of those that the options allow. */
+static bool open_store(struct server *server, uint32_t *longest) {
   const struct options *options = &server->options;
   struct store_plan plan = {options->keys > 0 ? 0 : options_bytes(options), options_keys(options), options->threads,
                             options->time_to_live, options->keep_from};
   const char *why = store_open(&server->store, &plan);
   if (why != NULL) return fault("the cache can't be opened", why);
-  uint32_t longest = plan.bytes > 0 ? store_longest(&plan) : STORE_MOST_VALUE;
-  if (longest < HEADER + options_most_data(options, 0))
+  uint32_t value = plan.bytes > 0 ? store_longest(&plan) : STORE_MOST_VALUE;
+  *longest = options_most_data(options, 0);
+  if (value < HEADER + *longest) {
+    *longest = value < HEADER ? 0 : value - HEADER;
     fprintf(stderr, "segcache-server: -m %u with -t %u: no item of more than about %u bytes has room\n",
-            options->megabytes, options->threads, longest < HEADER ? 0 : longest - HEADER);
+            options->megabytes, options->threads, *longest);
+  }
   for (uint32_t i = 0; i < options->threads; i++) server->workers[i].client = &server->store.clients[i];
   return true;
 }
 
+/* Says in a line what is served from now on. */
+static void tell_start(const struct server *server, uint32_t longest) {
+  const struct options *options = &server->options;
+  char places[1024], room[32];
+  listen_places(server, places, sizeof places);
+  snprintf(room, sizeof room, options->keys > 0 ? "room for %u keys" : "%u MiB",
+           options->keys > 0 ? options->keys : options->megabytes);
+  fprintf(stderr, "segcache-server: serves %s: threads %u, %s, data of %u bytes at most\n", places, options->threads,
+          room, longest);
+}
+
 /* Serves until a signal comes. */
-static bool run(struct server *server, int signals, int told) {
+static bool run(struct server *server, uint32_t longest, int signals, int told) {
   if (server->options.lock_memory) lock_memory();
   uint32_t started = 0, threads = server->options.threads;
   while (started < threads && worker_start(server, &server->workers[started])) started++;
-  bool serves = (started == threads || fault("a thread can't be had", strerror(errno))) && serves_now(told);
+  bool serves = started == threads || fault("a thread can't be had", strerror(errno));
+  if (serves) tell_start(server, longest);
+  serves = serves && serves_now(told);
   if (serves) listen_accept(server, signals);
   server->ends = true;
   for (uint32_t i = 0; i < started; i++) worker_stop(&server->workers[i]);
@@ -172,17 +189,18 @@ int main(int count, char **words) {
   static struct server server = {.reset_lock = PTHREAD_MUTEX_INITIALIZER};
   static struct worker workers[STORE_MOST_CLIENTS];
   keep_outputs();
+  uint32_t longest = 0;
   enum reading reading = options_read(&server.options, count, words);
   if (reading != RUN) return reading == SHOWN ? 0 : 64;
   server.workers = workers;
   server.verbosity = server.options.verbosity;
   clock_begin();
   raise_descriptors(&server.options);
-  bool ran = raise_limits(&server.options) && listen_and_become_user(&server) && open_store(&server);
+  bool ran = raise_limits(&server.options) && listen_and_become_user(&server) && open_store(&server, &longest);
   if (!ran) return listen_close(&server), 71;
   int signals = -1, told = -1;
   ran = (!server.options.daemon || become_daemon(&told)) && write_pid(server.options.pid_file) &&
-        (signals = catch_signals()) >= 0 && listen_tell_ports(&server) && run(&server, signals, told);
+        (signals = catch_signals()) >= 0 && listen_tell_ports(&server) && run(&server, longest, signals, told);
   listen_close(&server);
   if (server.options.pid_file != NULL) unlink(server.options.pid_file);
   return store_close(&server.store) && ran ? 0 : 1;

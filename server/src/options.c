@@ -322,10 +322,12 @@ enum reading options_read(struct options *options, int count, char **words) {
   }
   if (optind < count) return bad(words[optind], "isn't an option; -h shows them");
   uint64_t half = options_bytes(options) / 2;
+  uint32_t asked = options->most_item, most = STORE_MOST_KEY + HEADER + MOST_DATA;
   if (options->most_item > half) return bad("-I", "an item has half of -m at most");
   if (options->most_item == 0) options->most_item = half < USUAL_ITEM ? (uint32_t)half : USUAL_ITEM;
   if (options->socket_path == NULL && options->port == NO_PORT) return bad("-p 0", "needs a socket by -s");
   if (options->user == NULL && may_be_root()) return bad("-u", "root has to name a user whose rights to take");
+  if (asked > most) fprintf(stderr, "segcache-server: -I %u: an item has %u bytes at most here\n", asked, most);
   if (*unused != '\0') fprintf(stderr, "segcache-server: without effect here: %s\n", unused);
   return RUN;
 }

@@ -268,6 +268,33 @@ def deployed(command):
         check(text == right, f"-k: {text}")
 
 
+def told_at_start(command):
+    """A line at the start says where, with how many threads, how much memory and how long items are served."""
+    with shared_folder() as folder:
+        path, port = Path(folder, "s"), free_port()
+        for words, where, what in (
+                (["-l", "127.0.0.1,127.0.0.2:1" + str(port)[1:]], f"127.0.0.1:{port}, 127.0.0.2:1{str(port)[1:]}",
+                 "threads 4, 64 MiB"), (["-s", path, "-t", "2", "-m", "5"], path, "threads 2, 5 MiB"),
+                (["-l", "::1", "-I", "1500", "-t", "1"], f"[::1]:{port}", "threads 1, 64 MiB"),
+                (["-d", "-P", f"{path}.pid", "--keys", "90", "-I", "9999"], f"127.0.0.1:{port}",
+                 "threads 4, room for 90 keys")):
+            if "::1" in words and not has_ipv6():
+                continue
+            with start([*command, "-p", str(port), *words], stderr=subprocess.PIPE, text=True) as server:
+                line = server.stderr.readline()
+                larger = re.fullmatch(r"segcache-server: -I 9999: an item has (4314|56) bytes at most here\n", line)
+                check(("9999" in words) == (larger is not None), f"{words}: {line}")
+                line = server.stderr.readline() if larger else line
+                told = re.fullmatch(r"segcache-server: serves (.+): (.+), data of (\d+) bytes at most\n", line)
+                check(told and told[1] == str(where) and told[2] == what, f"{words}: {line}")
+                most = int(told[3])
+                check(most in (16, 1484 if "-I" in words and not larger else 4048), f"{words}: {most}")
+                if "-d" in words:
+                    check(wait_until(Path(f"{path}.pid").exists), "-d -P")
+                    os.kill(int(Path(f"{path}.pid").read_text()), signal.SIGTERM)
+                server.send_signal(signal.SIGTERM)
+
+
 def rights_of(connection):
     """What the server that this connection goes to may do, as Linux shows it."""
     text = Path(f"/proc/{stats_of(connection)['pid']}/status").read_text()
@@ -436,6 +463,14 @@ def again(command):
             say(connection, "get a\r\nset a 0 0 1\r\nx\r\n", "END\r\nSTORED\r\n")
 
 
+def has_ipv6():
+    try:
+        socket.create_server(("::1", 0), family=socket.AF_INET6).close()
+        return True
+    except OSError:
+        return False
+
+
 def ports_of_addresses(command):
     """An address can have a port of its own. Brackets stand around one of IPv6 then, and `*` is all addresses."""
     one, two, three = (free_port() for _ in range(3))
@@ -454,11 +489,7 @@ def ports_of_addresses(command):
 def seen_by_all(command):
     """All addresses are listened at, up to eight, and of both families."""
     addresses = [f"127.0.0.{i}" for i in range(1, 9)]
-    families = [(socket.AF_INET6, "::1"), (socket.AF_INET, "127.0.0.1")]
-    try:
-        socket.create_server(("::1", 0), family=socket.AF_INET6).close()
-    except OSError:
-        families = families[1:]
+    families = [(socket.AF_INET6, "::1"), (socket.AF_INET, "127.0.0.1")][not has_ipv6():]
     anywhere = ["0.0.0.0", "::"] if len(families) == 2 else ["0.0.0.0"]
     for group in (addresses, [address for _, address in families], ["localhost"], anywhere):
         words = [*command, "-p", str(port := free_port()), "--listen", ",".join(group)]

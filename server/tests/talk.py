@@ -3,14 +3,19 @@
 
 import os
 import random
+import re
 import signal
 import socket
 import subprocess
+import sys
 import tempfile
 import threading
 import time
 from contextlib import contextmanager
 from pathlib import Path
+
+# The line that each server says at its start.
+SERVES = re.compile(r"(?m)^segcache-server: serves .+\n")
 
 # What each server is started with: root has to name a user. To others it says nothing.
 RIGHTS = ["-u", "nobody"]
@@ -35,12 +40,25 @@ def check(right, what):
 
 
 class Server(subprocess.Popen):
-    """A server's process. Where a test is broken off, it doesn't wait for the server's end."""
+    """A server's process. What it says is shown in the end, without the line at its start. Where a test is broken off,
+    it doesn't wait for the server's end."""
+
+    def __init__(self, words, **more):
+        self.said = tempfile.TemporaryFile("w+", errors="replace")
+        super().__init__(words, **{"stderr": self.said, **more})
 
     def __exit__(self, kind, *others):
         if kind is not None:
             self.kill()
-        return super().__exit__(kind, *others)
+        ended = super().__exit__(kind, *others)
+        self.tell()
+        return ended
+
+    def tell(self):
+        if not self.said.closed:
+            self.said.seek(0)
+            sys.stderr.write(SERVES.sub("", self.said.read(), count=1))
+            self.said.close()
 
 
 def start(words, **more):
@@ -53,6 +71,8 @@ def leave():
     """Ends the tests at once, and all servers."""
     for server in servers:
         server.kill()
+        server.wait()
+        server.tell()
     os._exit(1)
 
 
@@ -111,9 +131,11 @@ def running(command, *options, port=None):
 
 
 def said_by(server):
-    """Tells a server to end, and returns what it has said on standard error."""
+    """Tells a server to end, and returns what it has said on standard error beside the line at its start."""
     server.send_signal(signal.SIGTERM)
-    return server.stderr.read()
+    text = server.stderr.read()
+    check(len(SERVES.findall(text)) == 1, f"one line says what is served: {text[:1000]}")
+    return SERVES.sub("", text)
 
 
 def wait_until(is_so):
