@@ -61,32 +61,48 @@ static const struct option names[] = {
 
 static const char help[] =
     "segcache-server " SERVER_VERSION ": serves memcached's text and meta protocols\n"
-    "-p, --port=NUMBER             port (11211); 0: none, -1: any free one\n"
-    "-l, --listen=ADDRESSES        addresses or names, with commas between them (127.0.0.1)\n"
-    "-s, --unix-socket=FILE        a UNIX socket in place of a port\n"
-    "-a, --unix-mask=MODE          access to the UNIX socket, in octal (700)\n"
-    "-m, --memory-limit=MEGABYTES  memory for items, all taken at the start (64)\n"
-    "-I, --max-item-size=SIZE      largest item; with k or m behind it, in KiB or MiB (1m, or half of -m)\n"
-    "-t, --threads=NUMBER          worker threads, 1 to 64 (4)\n"
-    "-c, --conn-limit=NUMBER       connections at a time (1024)\n"
-    "-b, --listen-backlog=NUMBER   connections that wait to be accepted (1024)\n"
-    "-R, --max-reqs-per-event=N    commands of a connection before its worker looks at others (256)\n"
-    "-o, --extended=idle_timeout=SECONDS, or --idle_timeout=SECONDS\n"
-    "                              closes connections that were silent for so long\n"
-    "-d, --daemon                  runs in the background\n"
-    "-P, --pidfile=FILE            writes the number of the process\n"
-    "-u, --user=NAME               whose rights to take, if root starts it, which has to name one\n"
-    "-A, --enable-shutdown         the command shutdown ends the server\n"
-    "-C, --disable-cas             flush_all also takes what is stored in the same second\n"
-    "-F, --disable-flush-all       refuses flush_all\n"
-    "-B, --protocol=auto|ascii     the text protocol, either way\n"
-    "-U, --udp-port=0              there is no UDP\n"
-    "-v, --verbose                 tells of refused connections on standard error; twice: of commands too\n"
-    "-V, --version; -h, --help\n"
-    "    --keys=NUMBER             room for so many keys, whatever -m says\n"
-    "    --time-to-live=SECONDS    the most that any item lives\n"
-    "    --keep-from=FREQUENCY     keeps items that were read so often, or nothing with 0\n"
-    "When environment has MEMCACHED_PORT_FILENAME, that file gets the ports.\n";
+    "\n"
+    "Where it listens\n"
+    "  -p, --port=NUMBER             port (11211); 0: none, -1: any free one\n"
+    "  -l, --listen=ADDRESSES        addresses or names, with commas between them (127.0.0.1); :PORT may stand\n"
+    "                                behind each, [IPv6] in brackets then, and * is all addresses\n"
+    "  -s, --unix-socket=FILE        a UNIX socket in place of a port\n"
+    "  -a, --unix-mask=MODE          access to the UNIX socket, in octal (700)\n"
+    "  -b, --listen-backlog=NUMBER   connections that wait to be accepted (1024)\n"
+    "  The environment's MEMCACHED_PORT_FILENAME names a file that gets the ports.\n"
+    "\n"
+    "Memory and items\n"
+    "  -m, --memory-limit=MEGABYTES  memory for items, all taken at the start (64)\n"
+    "  -I, --max-item-size=SIZE      largest item; with k or m behind it, in KiB or MiB (1m, or half of -m)\n"
+    "  -k, --lock-memory             keeps memory from being swapped, where the limit of locked memory allows it\n"
+    "  -C, --disable-cas             flush_all also takes what is stored in the same second\n"
+    "  -F, --disable-flush-all       refuses flush_all\n"
+    "      --keys=NUMBER             room for so many keys, whatever -m says\n"
+    "      --time-to-live=SECONDS    the most that any item lives\n"
+    "      --keep-from=FREQUENCY     keeps items that were read so often, or nothing with 0\n"
+    "\n"
+    "Threads and connections\n"
+    "  -t, --threads=NUMBER          worker threads, 1 to 64 (4)\n"
+    "  -c, --conn-limit=NUMBER       connections at a time (1024)\n"
+    "  -R, --max-reqs-per-event=N    commands of a connection before its worker looks at others (256)\n"
+    "  -o, --extended=idle_timeout=SECONDS, or --idle_timeout=SECONDS\n"
+    "                                closes connections that were silent for so long\n"
+    "\n"
+    "The process and its log\n"
+    "  -u, --user=NAME               whose rights to take, if root starts it, which has to name one\n"
+    "  -d, --daemon                  runs in the background\n"
+    "  -P, --pidfile=FILE            writes the number of the process\n"
+    "  -r, --enable-coredumps        raises the limit of core files\n"
+    "  -A, --enable-shutdown         the command shutdown ends the server\n"
+    "  -v, --verbose                 tells of refused connections on standard error; twice: of commands too\n"
+    "  -V, --version; -h, --help; -i, --license\n"
+    "\n"
+    "What memcached has and this server hasn't\n"
+    "  -B, --protocol=auto|ascii     the text protocol, either way\n"
+    "  -U, --udp-port=0              there is no UDP\n"
+    "  -W, --disable-watch; -X, --disable-dumping; -o maxconns_fast: are so in any case\n"
+    "  Without effect, and named at the start: -f, --slab-growth-factor; -n, --slab-min-size;\n"
+    "  -L, --enable-largepages; -N, --napi-ids; -D; and of -o, also with no_ before them:\n";
 
 static const char licence[] =
     "segcache-server " SERVER_VERSION ", copyright of the Segcache index authors, is under the MIT licence.\n"
@@ -209,6 +225,20 @@ static const char *const tuning[] = {"chunked_items",
                                      "watcher_logbuf_size",
                                      "worker_logbuf_size"};
 
+/* What -h shows: behind the text what is in the tables. */
+static void show_help(void) {
+  fputs(help, stdout);
+  for (size_t i = 0, column = 0; i < sizeof tuning / sizeof *tuning; i++) {
+    column += strlen(tuning[i]) + 1;
+    bool ends = column > 90 || i + 1 == sizeof tuning / sizeof *tuning;
+    printf("%s%s%s", column == strlen(tuning[i]) + 1 ? "    " : " ", tuning[i], ends ? "\n" : "");
+    if (ends) column = 0;
+  }
+  puts("  Refused:");
+  for (size_t i = 0; i < sizeof refused / sizeof *refused; i++)
+    printf("    %-20s %s\n", refused[i].begin, refused[i].why);
+}
+
 static bool is_tuning(const char *name) {
   for (size_t i = 0; i < sizeof tuning / sizeof *tuning; i++)
     if (strcmp(name, tuning[i]) == 0) return true;
@@ -315,7 +345,7 @@ enum reading options_read(struct options *options, int count, char **words) {
   for (int option; (option = getopt_long(count, words, letters, names, NULL)) != -1;) {
     if (option == ':') return bad(words[optind - 1], "needs an argument; -h shows them all");
     if (option == '?') return bad(unknown(words), "isn't known; -h shows those that are");
-    if (option == 'h') return fputs(help, stdout), SHOWN;
+    if (option == 'h') return show_help(), SHOWN;
     if (option == 'V') return puts("segcache-server " SERVER_VERSION), SHOWN;
     if (option == 'i') return puts(licence), SHOWN;
     if (!take(options, option, optarg)) return BAD;

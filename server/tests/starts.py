@@ -110,6 +110,12 @@ def bad_options(command):
                         ("-V", "segcache-server 1.6.0-segcache\n"), ("--version", "segcache-server 1.6.0-segcache\n")):
         ran = subprocess.run([*command, word], capture_output=True, text=True, timeout=60)
         check(ran.returncode == 0 and shown in ran.stdout, f"{word} shows {shown}")
+    text = subprocess.run([*command, "-h"], capture_output=True, text=True, timeout=60).stdout
+    groups = re.findall(r"(?m)^\w.+", text)[1:]
+    check(groups == ["Where it listens", "Memory and items", "Threads and connections", "The process and its log",
+                     "What memcached has and this server hasn't"], f"-h has groups: {groups}")
+    shown = set(re.findall(r"(?:^|[ ;])-([A-Za-z])\b", text))
+    check(shown == set("plsabmIkCFtcRoudPrAvVhiBUWXfnLNDMSYZe"), f"-h shows all options: {shown}")
     for words, wanted in BOUNDS:
         with running(command, *words.split()) as port:
             settings = settings_of(port)
