@@ -6,9 +6,11 @@
 #include <netdb.h>
 #include <netinet/in.h>
 #include <poll.h>
+#include <signal.h>
 #include <stdio.h>
 #include <stdlib.h>
 #include <string.h>
+#include <sys/signalfd.h>
 #include <sys/socket.h>
 #include <sys/stat.h>
 #include <sys/un.h>
@@ -183,16 +185,30 @@ static void accept_one(struct server *server, int listener, uint32_t *turn) {
     return;
   }
   atomic_fetch_add(&server->accepted, 1);
-  if (server->connections >= server->options.most_connections) turn_away(server, socket);
-  else worker_hand_over(&server->workers[(*turn)++ % server->options.threads], socket);
+  if (server->connections >= server->options.most_connections) {
+    turn_away(server, socket);
+    return;
+  }
+  if (server->verbosity > 1) fprintf(stderr, "<%d new client connection\n", socket);
+  worker_hand_over(&server->workers[(*turn)++ % server->options.threads], socket);
+}
+
+/* Whether the signal that came ends the server. SIGUSR1 has the counts written. */
+static bool ends_it(struct server *server, int signals) {
+  struct signalfd_siginfo signal;
+  if (read(signals, &signal, sizeof signal) != sizeof signal) return false;
+  if (signal.ssi_signo == SIGUSR1) return log_stats(server), false;
+  if (server->verbosity > 0) fprintf(stderr, "segcache-server: ends: %s\n", strsignal((int)signal.ssi_signo));
+  return true;
 }
 
 void listen_accept(struct server *server, int signals) {
   struct pollfd waits[MOST_LISTENERS + 1] = {{.fd = signals, .events = POLLIN}};
   for (uint32_t i = 0; i < server->listener_count; i++)
     waits[i + 1] = (struct pollfd){.fd = server->listeners[i], .events = POLLIN};
-  for (uint32_t turn = 0; waits[0].revents == 0;) {
+  for (uint32_t turn = 0;;) {
     if (poll(waits, server->listener_count + 1, -1) < 0) continue;
+    if (waits[0].revents != 0 && ends_it(server, signals)) return;
     for (uint32_t i = 0; i < server->listener_count; i++)
       if (waits[i + 1].revents != 0) accept_one(server, server->listeners[i], &turn);
   }

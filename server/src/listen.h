@@ -15,7 +15,7 @@ void listen_places(const struct server *server, char *text, size_t room);
 /* Writes the ports to the file that MEMCACHED_PORT_FILENAME names, if it does. False, and said, if it can't. */
 bool listen_tell_ports(const struct server *server);
 
-/* Accepts connections until `signals` is readable, and hands them to the workers by turns. One too many gets a line
+/* Accepts connections until a signal comes that ends the server, and hands them to the workers by turns. One too many gets a line
  * that says so. */
 void listen_accept(struct server *server, int signals);
 

@@ -91,12 +91,13 @@ static bool become_daemon(int *told) {
   return setsid() >= 0 || fault("-d", strerror(errno));
 }
 
-/* The server serves from now on. One in the background leaves input and outputs, and lets its parent end. */
-static bool serves_now(int told) {
+/* The server serves from now on. One in the background leaves input and outputs, but for the log that -v asks for, and
+ * lets its parent end. */
+static bool serves_now(const struct server *server, int told) {
   if (told < 0) return true;
   int null = open("/dev/null", O_RDWR | O_CLOEXEC);
   if (null < 0) return fault("-d", strerror(errno));
-  for (int i = 0; i < 3; i++) dup2(null, i);
+  for (int i = 0; i < (server->verbosity > 0 ? 2 : 3); i++) dup2(null, i);
   bool heard = write(told, "", 1) == 1; /* else the parent was killed, which is nothing to the server */
   (void)heard;
   close(null);
@@ -118,18 +119,18 @@ static bool write_pid(const char *path) {
   return fclose(file) == 0 || fault(path, strerror(errno));
 }
 
-/* SIGINT, SIGTERM and SIGUSR1 end the server. SIGPIPE comes of a reply to who is gone. By SIGHUP memcached reads files
+/* SIGINT and SIGTERM end the server, and SIGUSR1 has its counts written. SIGPIPE comes of a reply to who is gone. By SIGHUP memcached reads files
  * again that this server hasn't. */
 static int catch_signals(void) {
-  sigset_t ends;
-  sigemptyset(&ends);
-  sigaddset(&ends, SIGINT);
-  sigaddset(&ends, SIGTERM);
-  sigaddset(&ends, SIGUSR1);
+  sigset_t taken;
+  sigemptyset(&taken);
+  sigaddset(&taken, SIGINT);
+  sigaddset(&taken, SIGTERM);
+  sigaddset(&taken, SIGUSR1);
   signal(SIGPIPE, SIG_IGN);
   signal(SIGHUP, SIG_IGN);
-  pthread_sigmask(SIG_BLOCK, &ends, NULL);
-  return signalfd(-1, &ends, SFD_CLOEXEC);
+  pthread_sigmask(SIG_BLOCK, &taken, NULL);
+  return signalfd(-1, &taken, SFD_CLOEXEC);
 }
 
 /* A file is made by the user, who can take it away again. A port below 1024 takes root. Who changed its user writes a
@@ -178,7 +179,7 @@ static bool run(struct server *server, uint32_t longest, int signals, int told) 
   while (started < threads && worker_start(server, &server->workers[started])) started++;
   bool serves = started == threads || fault("a thread can't be had", strerror(errno));
   if (serves) tell_start(server, longest);
-  serves = serves && serves_now(told);
+  serves = serves && serves_now(server, told);
   if (serves) listen_accept(server, signals);
   server->ends = true;
   for (uint32_t i = 0; i < started; i++) worker_stop(&server->workers[i]);

@@ -80,4 +80,7 @@ static inline struct caller caller_of(struct worker *worker) {
 struct totals count_all(struct worker *caller);
 void reset_all(struct worker *caller);
 
+/* Writes what `stats` tells to standard error. Any thread may call it that is no worker's. */
+void log_stats(struct server *server);
+
 #endif

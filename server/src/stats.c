@@ -9,18 +9,27 @@
 #include <time.h>
 #include <unistd.h>
 
-enum { ROW = 64 }; /* bytes of a row of the library */
+enum {
+  ROW = 64, /* bytes of a row of the library */
+  LOG = -1  /* in place of a socket: the counts go to standard error */
+};
+
+/* Tells a count to who asked for it. */
+static void tell(struct connection *connection, const char *text) {
+  if (connection->socket == LOG) fprintf(stderr, "segcache-server: %s\n", text);
+  else say(connection, false, text);
+}
 
 static void stat_number(struct connection *connection, const char *name, uint64_t number) {
   char text[96];
   snprintf(text, sizeof text, "STAT %s %" PRIu64, name, number);
-  say(connection, false, text);
+  tell(connection, text);
 }
 
 static void stat_text(struct connection *connection, const char *name, const char *value) {
   char text[512];
   snprintf(text, sizeof text, "STAT %s %s", name, value);
-  say(connection, false, text);
+  tell(connection, text);
 }
 
 static void stat_yes(struct connection *connection, const char *name, bool is) {
@@ -185,6 +194,13 @@ static bool rows_are_counted(struct connection *connection) {
     if (store_count_rows(&store->clients[connection->counted++])) return false;
   connection->counted = 0;
   return true;
+}
+
+void log_stats(struct server *server) {
+  struct worker nobody = {.server = server}; /* who serves no connection, and so has no counts of its own */
+  struct connection log = {.socket = LOG, .worker = &nobody};
+  while (!rows_are_counted(&log)) continue;
+  stat_all(&log);
 }
 
 bool serve_stats(struct connection *connection, const struct request *request) {

@@ -13,7 +13,7 @@ import threading
 import time
 from pathlib import Path
 
-from talk import (RIGHTS, alone, check, connect, free_port, read_to, running, said_by, say, served, shared_folder,
+from talk import (RIGHTS, SERVES, alone, check, connect, free_port, read_to, running, said_by, say, served, shared_folder,
                   start, stats_of, wait_until)
 
 FEW, MORE, MOST = 255, 2**31 - 1, 2**32 - 1
@@ -213,12 +213,21 @@ def background(command, names=("-d", "-P")):
             check(links == [Path("/dev/null")] * 3, f"-d leaves input and outputs: {links}")
         os.kill(pid, signal.SIGTERM)
         check(wait_until(lambda: not pid_file.exists()), "and is taken away")
+        with open(Path(folder, "log"), "w+") as log:
+            subprocess.run([*words, "-v"], env=environment, stderr=log)
+            os.kill(int(pid_file.read_text()), signal.SIGTERM)
+            check(wait_until(lambda: not pid_file.exists()), "and with -v")
+            text = SERVES.sub("", Path(log.name).read_text())
+            check(text == "segcache-server: ends: Terminated\n", f"-d -v goes on with its log: {text}")
 
 
 def told(command):
-    """What is said on standard error: with -v connections that were turned away, with -vv commands, else nothing."""
-    for words, wanted in ((["-c", "2"], r""), (["-vv"], r"(?s).*<\d+ set told 0 0 1\n<\d+ stats settings\n.*"),
-                          (["-v", "-c", "2"], r"(?:segcache-server: too many connections: [1-4] refused\n)+")):
+    """What is said on standard error: with -v of connections that were turned away, and of the end, with -vv of each
+    connection and command, else nothing."""
+    for words, wanted in ((["-c", "2"], r""),
+                          (["-vv"], r"(?s).*<(\d+) new client connection\n<\1 set told 0 0 1\n<\1 stats settings\n.*"),
+                          (["-v", "-c", "2"], r"(?:segcache-server: too many connections: [1-4] refused\n)+"
+                           r"segcache-server: ends: Terminated\n")):
         words = [*command, "-p", str(port := free_port()), "-o", "idle_timeout=600", "-b", "7", "-B", "ascii", *words]
         with served(words, port, stderr=subprocess.PIPE, text=True) as server:
             with connect(port) as connection:
@@ -243,7 +252,8 @@ TUNED = ("-f 1.1 --slab-growth-factor=1.2 -n 64 -L --enable-largepages -D : -N 2
          "-o modern,hashpower=22,no_lru_crawler,lru_crawler_sleep=5,maxconns_fast,no_hashexpand,slab_sizes=8-16 "
          "-o modern,ext_threads=2,no_drop_privileges,idle_timeout=600, --verbose=9 -U 0",
          "segcache-server: without effect here: -f, -n, -L, -D, -N, -o modern, -o hashpower, -o no_lru_crawler, "
-         "-o lru_crawler_sleep, -o no_hashexpand, -o slab_sizes, -o ext_threads, -o no_drop_privileges\n")
+         "-o lru_crawler_sleep, -o no_hashexpand, -o slab_sizes, -o ext_threads, -o no_drop_privileges\n"
+         "segcache-server: ends: Terminated\n")
 
 
 def deployed(command):
@@ -385,15 +395,28 @@ def shutdown(command):
 
 
 def ends(command):
-    """SIGINT and SIGUSR1 end the server as SIGTERM does. SIGHUP, and a reply to who is gone, end nothing."""
-    for end in (signal.SIGINT, signal.SIGUSR1):
-        with served([*command, "-l", "127.0.0.1", "-p", str(port := free_port())], port) as server:
+    """SIGINT ends the server as SIGTERM does. SIGHUP, and a reply to who is gone, end nothing. By SIGUSR1 it writes what
+    stats tells, and goes on."""
+    for end in (signal.SIGINT, signal.SIGTERM):
+        words = [*command, "-l", "127.0.0.1", "-p", str(port := free_port())]
+        with served(words, port, stderr=subprocess.PIPE, text=True) as server:
             with connect(port) as connection:
                 say(connection, "mn\r\n", "MN\r\n")
                 ignored = int(re.search(r"SigIgn:\s*(\w+)", Path(f"/proc/{server.pid}/status").read_text())[1], 16)
                 check(ignored >> signal.SIGPIPE - 1 & 1 == 1, "SIGPIPE is ignored")
                 server.send_signal(signal.SIGHUP)
                 say(connection, "mn\r\n", "MN\r\n")
+                say(connection, "set s 0 0 1\r\nx\r\nget s\r\n", "STORED\r\nVALUE s 0 1\r\nx\r\nEND\r\n")
+                for _ in range(2):
+                    server.send_signal(signal.SIGUSR1)
+                    lines = iter(server.stderr.readline, "segcache-server: STAT direct_reclaims 0\n")
+                    counts = dict(line.split()[2:] for line in lines if " STAT " in line)
+                    say(connection, "mn\r\n", "MN\r\n")
+                told = stats_of(connection)
+                same = {name for name in told if counts.get(name) == told[name]}
+                check(counts["get_hits"] == "1" and counts["curr_items"] != "0" and {*told} - same <= {
+                    "direct_reclaims", "rusage_user", "rusage_system", "time", "uptime", "cmd_meta", "bytes_read",
+                    "bytes_written"}, f"SIGUSR1 writes {counts}, and stats {told}")
                 server.send_signal(end)
                 check(server.wait(timeout=60) == 0 and connection.recv(1) == b"", f"{end} ends server and connections")
 
