@@ -227,7 +227,8 @@ static const char *const tuning[] = {"chunked_items",
                                      "watcher_logbuf_size",
                                      "worker_logbuf_size"};
 
-/* What -h shows: behind the text what is in the tables. */
+/* What -h shows: behind the text the table. It names no suboption that is refused, since programs look there for what a
+ * memcached has. */
 static void show_help(void) {
   fputs(help, stdout);
   for (size_t i = 0, column = 0; i < sizeof tuning / sizeof *tuning; i++) {
@@ -236,9 +237,9 @@ static void show_help(void) {
     printf("%s%s%s", column == strlen(tuning[i]) + 1 ? "    " : " ", tuning[i], ends ? "\n" : "");
     if (ends) column = 0;
   }
-  puts("  Refused:");
-  for (size_t i = 0; i < sizeof refused / sizeof *refused; i++)
-    printf("    %-20s %s\n", refused[i].begin, refused[i].why);
+  puts("  Refused, with a line that says why: -M, -S, -Y, -Z, -e; and of -o what is about encryption, storage on "
+       "disks, a\n"
+       "  proxy, system calls or the mark of a socket.");
 }
 
 static bool is_tuning(const char *name) {

@@ -111,6 +111,7 @@ def bad_options(command):
         ran = subprocess.run([*command, word], capture_output=True, text=True, timeout=60)
         check(ran.returncode == 0 and shown in ran.stdout, f"{word} shows {shown}")
     text = subprocess.run([*command, "-h"], capture_output=True, text=True, timeout=60).stdout
+    check(not re.search("(?i)ext_path|sasl|proxy_config|enable-ssl|no_drop_privileges", text), "-h names what it has")
     groups = re.findall(r"(?m)^\w.+", text)[1:]
     check(groups == ["Where it listens", "Memory and items", "Threads and connections", "The process and its log",
                      "What memcached has and this server hasn't"], f"-h has groups: {groups}")
