@@ -259,7 +259,8 @@ TUNED = ("-f 1.1 --slab-growth-factor=1.2 -n 64 -L --enable-largepages -D : -N 2
 
 def deployed(command):
     """What a memcached's unit says starts this server. -k locks memory, and -r lets core files be written."""
-    for words, line, before in ((TUNED[0], TUNED[1], []), ("-k -r", "", ["prlimit", "--core=0:unlimited"]),
+    lower = ["prlimit", "--core=0:unlimited", "--memlock=65536:"]
+    for words, line, before in ((TUNED[0], TUNED[1], []), ("-k -r", "", lower),
                                 ("--lock-memory --enable-coredumps", "", [])):
         given = [*before, *command, "-p", str(port := free_port()), *words.split()]
         with served(given, port, stderr=subprocess.PIPE, text=True) as server:
@@ -269,7 +270,9 @@ def deployed(command):
                 shown, locked = Path(f"/proc/{pid}/limits").read_text(), int(status["VmLck"].split()[0])
                 if "-o" not in words:
                     check(re.search(r"Max core file size +unlimited", shown), f"{words}: {shown}")
-                    check(Path(f"/proc/{pid}").stat().st_uid == int(status["Uid"].split()[1]), "it may dump core")
+                    owner = Path(f"/proc/{pid}/status").stat().st_uid  # root, where no core file may be written
+                    check(owner == int(status["Uid"].split()[1]), f"{words}: core files are written for {owner}")
+                    check(re.search(r"Max locked memory +(\w+) +\1 ", shown), f"{words}: as far as may be: {shown}")
                 if command[0].endswith(("tested", "tested_standin")):  # sanitizers lock nothing
                     check((locked > 1000) == ("-o" not in words), f"{words}: {locked} KiB are locked")
             text = said_by(server)
