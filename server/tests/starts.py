@@ -13,8 +13,8 @@ import threading
 import time
 from pathlib import Path
 
-from talk import (RIGHTS, SERVES, alone, check, connect, free_port, read_to, running, said_by, say, served, shared_folder,
-                  start, stats_of, wait_until)
+from talk import (RIGHTS, SERVES, alone, check, connect, free_port, read_to, running, said_by, say, served,
+                  shared_folder, start, stats_of, wait_until)
 
 FEW, MORE, MOST = 255, 2**31 - 1, 2**32 - 1
 SIZE = "an item's size is at least 1024, as in -I 1024, -I 512k or -I 1m"
@@ -283,9 +283,11 @@ def deployed(command):
         bare = command[:-len(RIGHTS)]
         ends_with([*few, *bare], ["-p", "-1", "-r"], 71, "-r: the limit of core files is 0")
         with served([*few, *bare, "-p", str(port := free_port()), "-k"], port, stderr=subprocess.PIPE, text=True) as it:
+            with connect(port) as connection:
+                say(connection, "mn\r\n", "MN\r\n")
             text = said_by(it)
-        right = "" if "tested" not in command[0] else "segcache-server: -k: memory can't be locked: Cannot allocate memory\n"
-        check(text == right, f"-k: {text}")
+        right = "segcache-server: -k: memory can't be locked: Cannot allocate memory\n"
+        check(text == (right if "tested" in command[0] else ""), f"-k: {text}")
 
 
 def told_at_start(command):
@@ -300,13 +302,14 @@ def told_at_start(command):
                  "threads 4, room for 90 keys")):
             if "::1" in words and not has_ipv6():
                 continue
-            with start([*command, "-p", str(port), *words], stderr=subprocess.PIPE, text=True) as server:
-                line = server.stderr.readline()
-                larger = re.fullmatch(r"segcache-server: -I 9999: an item has (4314|56) bytes at most here\n", line)
-                check(("9999" in words) == (larger is not None), f"{words}: {line}")
-                line = server.stderr.readline() if larger else line
-                told = re.fullmatch(r"segcache-server: serves (.+): (.+), data of (\d+) bytes at most\n", line)
-                check(told and told[1] == str(where) and told[2] == what, f"{words}: {line}")
+            log = Path(folder, "log")
+            with open(log, "w") as to, start([*command, "-p", str(port), *words], stderr=to) as server:
+                check(wait_until(lambda log=log: SERVES.search(log.read_text())), f"{words}: what is served is told")
+                text = log.read_text()
+                larger = re.match(r"segcache-server: -I 9999: an item has (4314|56) bytes at most here\n", text)
+                check(("9999" in words) == (larger is not None), f"{words}: {text}")
+                told = re.search(r"(?m)^segcache-server: serves (.+): (.+), data of (\d+) bytes at most\n", text)
+                check(told and told[1] == str(where) and told[2] == what, f"{words}: {text}")
                 most = int(told[3])
                 check(most in (16, 1484 if "-I" in words and not larger else 4048), f"{words}: {most}")
                 if "-d" in words:
@@ -399,8 +402,8 @@ def shutdown(command):
 
 
 def ends(command):
-    """SIGINT ends the server as SIGTERM does. SIGHUP, and a reply to who is gone, end nothing. By SIGUSR1 it writes what
-    stats tells, and goes on."""
+    """SIGINT ends the server as SIGTERM does. SIGHUP, and a reply to who is gone, end nothing. By SIGUSR1 it writes
+    what stats tells, and goes on."""
     for end in (signal.SIGINT, signal.SIGTERM):
         words = [*command, "-l", "127.0.0.1", "-p", str(port := free_port())]
         with served(words, port, stderr=subprocess.PIPE, text=True) as server:
