@@ -80,10 +80,12 @@ fn a_fault_that_can_not_be_printed_keeps_its_status(rt: HostRuntime) {
             good,
             ..SOUND
         };
-        for room in 0..=fault.len() {
+        for room in 0..fault.len() {
             let end = (status, written, &fault[..room]);
             check_full(&rt, line, devices, (10_000, room), end);
         }
+        let end = (status, written, fault);
+        check_full(&rt, line, devices, (10_000, fault.len()), end);
     }
 }
 
